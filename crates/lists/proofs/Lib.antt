@@ -1,1 +1,7 @@
 pub mod Tests
+pub mod Ranges
+pub mod Members
+pub mod Counts
+pub mod First
+pub mod Slices
+pub mod Ascending

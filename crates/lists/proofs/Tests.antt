@@ -1,6 +1,7 @@
 -- Laws of Booleans, of `same` and of `pick`.
 use mathlib.Core.Path.{_≡_, refl, sym, ap, _∙_}
 use mathlib.Core.Bool.{Bool, true, false, not, _&&_, _||_, true≢false, false≢true}
+use mathlib.Core.List.{List, [], _∷_}
 use mathlib.Core.Logic.{_⊎_, inl, inr, ⊎-elim}
 use Prim.Native.Nat.{ℕ, _+_, _≤_, _<_}
 use lib.Dec.{eqb, ltb, leb}
@@ -34,6 +35,22 @@ and-left false b h = absurd (false≢true h)
 pub and-right : (a b : Bool) → (a && b) ≡ true → b ≡ true
 and-right true b h = h
 and-right false b h = absurd (false≢true h)
+
+pub and-both : (a b : Bool) → (a && b) ≡ true → (a ≡ true) × (b ≡ true)
+and-both a b h = (and-left a b h, and-right a b h)
+
+-- several tests, one after the other, that all hold
+abbrev pub all : Bool → List Bool → Bool
+all a [] = a
+all a (b ∷ bs) = a && all b bs
+
+abbrev pub Holds : Bool → List Bool → Type 0
+Holds a [] = a ≡ true
+Holds a (b ∷ bs) = (a ≡ true) × Holds b bs
+
+pub all-hold : (a : Bool) (bs : List Bool) → all a bs ≡ true → Holds a bs
+all-hold a [] h = h
+all-hold a (b ∷ bs) h = (and-left a (all b bs) h, all-hold b bs (and-right a (all b bs) h))
 
 pub and-false : (a : Bool) → (a && false) ≡ false
 and-false true = refl

@@ -1,0 +1,102 @@
+-- `table::calls::calls_right` meets its contract: the definitions at hand are those of the nodes.
+use mathlib.Core.Path.{_≡_, refl, sym, _∙_}
+use mathlib.Core.Bool.{Bool}
+use mathlib.Core.List.{List, map}
+use Prim.Native.Nat.{ℕ, _≤_, _<_}
+use native.Mathlib.Omega.{arith}
+use lib.ListN.{length, length-map}
+use borrow.Author.Tests.{not-true, not-false}
+use Rattle.lists.specs.Lists.{word, range, every, member}
+use Rattle.lists.proofs.Ranges.{every-same, from-member, from-length}
+use Rattle.table.specs.Words.{definitions, nodes, branches}
+use Rattle.table.specs.Owners.{owner, home, definition}
+use Rattle.table.specs.Causes.{callRightIn, callRight, callsRight}
+use Rattle.table.specs.Index.{ownerNumber, definitionIn}
+use Rattle.table.specs.declared.tests.Item.the-variants.{EntryRight}
+use Rattle.table.proofs.Scatter.{word-range}
+use Rattle.table.proofs.Indexed.{definition-indexed}
+use Rattle.table.proofs.Parts.{part}
+use borrow.Author.Needs.{needs}
+use Rattle.table.proofs.calls.calls_right.Statement.{statement}
+use Rattle.table.proofs.calls.calls_right.Tie as tie
+
+-- the definitions that the index gives, at every node
+module _ (w owners homes defs : List ℕ) (few : (nodes w ≤ 256) × (branches w ≤ 256) × (definitions w ≤ 32)) (o : owners ≡ map (λ k. ownerNumber (owner w k)) (range 256))
+    (h : homes ≡ map (home w) (range 256)) (d : defs ≡ map (definitionIn owners homes) (range 256)) where
+  long : (l : List ℕ) (g : ℕ → ℕ) → l ≡ map g (range 256) → length l ≡ 256
+  long l g e = rw e (length-map (range 256) g ∙ from-length 0 256)
+
+  at-node : (n : ℕ) → n < nodes w → word defs n ≡ definition w n
+  at-node n l =
+      let p : length owners ≡ 256 = long owners (λ k. ownerNumber (owner w k)) o in
+      let q : length homes ≡ 256 = long homes (home w) h in
+      rw d (word-range (definitionIn owners homes) 256 n (omega (arith, few .0))) ∙
+      definition-indexed w owners homes n (o ∙ rw p) (h ∙ rw q) (omega (arith, few .0)) (omega (arith, few .1)) (omega (arith, few .2)) (omega (arith, few .0))
+
+  all-calls : (r : Bool) → r ≡ every (λ n. callRightIn w (word defs n) n) (range (nodes w)) → r ≡ every (callRight w) (range (nodes w))
+  unfolding callRight
+  all-calls r e =
+      e ∙ every-same (λ n. callRightIn w (word defs n) n) (callRight w) (range (nodes w)) (λ n m. rw (at-node n (omega (arith, from-member n 0 (nodes w) m .1))))
+
+word16-requires : tie.Need-word16-requires
+word16-requires c κs = search needs
+
+all-pass-requires : tie.Need-all-pass-requires
+all-pass-requires c κs = search needs
+
+returns : tie.Need-returns
+unfolding callsRight
+returns c = rw (part _ EntryRight _ _ _ _ (c .before .before .word16 .ensures .is) (c .before .all-pass .ensures) (not-true _ (c .if1 .taken)))
+
+slice-aggregate-owners : tie.Need-slice-aggregate-owners
+slice-aggregate-owners c = search needs
+
+owners-requires : tie.Need-owners-requires
+owners-requires c κs = search needs
+
+slice-aggregate-homes : tie.Need-slice-aggregate-homes
+slice-aggregate-homes c = search needs
+
+homes-requires : tie.Need-homes-requires
+homes-requires c κs = search needs
+
+slice-aggregate-definitions : tie.Need-slice-aggregate-definitions
+slice-aggregate-definitions c = search needs
+
+slice-aggregate-definitions-2 : tie.Need-slice-aggregate-definitions-2
+slice-aggregate-definitions-2 c = search needs
+
+slice-aggregate-definitions-3 : tie.Need-slice-aggregate-definitions-3
+slice-aggregate-definitions-3 c = search needs
+
+definitions-requires : tie.Need-definitions-requires
+definitions-requires c κs = search needs
+
+slice-aggregate-all-calls-right : tie.Need-slice-aggregate-all-calls-right
+slice-aggregate-all-calls-right c = search needs
+
+all-calls-right-requires : tie.Need-all-calls-right-requires
+all-calls-right-requires c κs = search needs
+
+returns-2 : tie.Need-returns-2
+unfolding callsRight
+returns-2 c = rw (part _ EntryRight _ _ _ _ (c .before .before .before .before .before .before .before .before .before .before .before .before .before .before .before .word16 .ensures .is) (c .before .before .before .before .before .before .before .before .before .before .before .before .before .before .all-pass .ensures) (not-false _ (c .before .before .before .before .before .before .before .before .before .before .before .before .before .if1 .left))) (all-calls _ _ _ _ (c .before .before .before .before .before .before .before .before .before .before .before .before .before .before .before .before .before .pre) (c .before .before .before .before .before .before .before .before .before .before .before .owners .ensures) (c .before .before .before .before .before .before .before .before .homes .ensures) (c .before .before .before .definitions .ensures) _ (c .all-calls-right .ensures))
+
+pub calls-right-spec : {M : Type 1} → statement M
+calls-right-spec =
+    tie.close
+    (tie.spec
+    word16-requires
+    all-pass-requires
+    returns
+    slice-aggregate-owners
+    owners-requires
+    slice-aggregate-homes
+    homes-requires
+    slice-aggregate-definitions
+    slice-aggregate-definitions-2
+    slice-aggregate-definitions-3
+    definitions-requires
+    slice-aggregate-all-calls-right
+    all-calls-right-requires
+    returns-2)

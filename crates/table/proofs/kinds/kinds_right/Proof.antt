@@ -1,0 +1,75 @@
+-- `table::kinds::kinds_right` meets its contract: the first section that fails decides.
+use mathlib.Core.Path.{refl, sym}
+use native.Mathlib.Omega.{arith}
+use borrow.Author.Tests.{not-true, not-false}
+use Rattle.table.specs.Causes.{kindsRight}
+use Rattle.table.proofs.Parts.{part, names-part}
+use Rattle.table.specs.declared.tests.Item.the-variants.{NameKind, FormalsZero, NodeKind, BranchKind}
+use borrow.Author.Needs.{needs}
+use Rattle.table.proofs.kinds.kinds_right.Statement.{statement}
+use Rattle.table.proofs.kinds.kinds_right.Tie as tie
+
+word16-requires : tie.Need-word16-requires
+word16-requires c κs = search needs
+
+word16-requires-2 : tie.Need-word16-requires-2
+word16-requires-2 c κs = search needs
+
+add-all-pass : tie.Need-add-all-pass
+add-all-pass c = search needs
+
+all-pass-requires : tie.Need-all-pass-requires
+all-pass-requires c κs = search needs
+
+returns : tie.Need-returns
+unfolding kindsRight
+returns c = rw (names-part _ NameKind _ _ _ _ (c .before .before .before .word16 .ensures .is) (c .before .before .word162 .ensures .is) (c .before .all-pass .ensures) (not-true _ (c .if1 .taken)))
+
+word16-requires-3 : tie.Need-word16-requires-3
+word16-requires-3 c κs = search needs
+
+all-pass-requires-2 : tie.Need-all-pass-requires-2
+all-pass-requires-2 c κs = search needs
+
+returns-2 : tie.Need-returns-2
+unfolding kindsRight
+returns-2 c = rw (names-part _ NameKind _ _ _ _ (c .before .before .before .before .before .before .word16 .ensures .is) (c .before .before .before .before .before .word162 .ensures .is) (c .before .before .before .before .all-pass .ensures) (not-false _ (c .before .before .before .if1 .left)), part _ FormalsZero _ _ _ _ (c .before .before .word163 .ensures .is) (c .before .all-pass2 .ensures) (not-true _ (c .if2 .taken)))
+
+word16-requires-4 : tie.Need-word16-requires-4
+word16-requires-4 c κs = search needs
+
+all-pass-requires-3 : tie.Need-all-pass-requires-3
+all-pass-requires-3 c κs = search needs
+
+returns-3 : tie.Need-returns-3
+unfolding kindsRight
+returns-3 c = rw (names-part _ NameKind _ _ _ _ (c .before .before .before .before .before .before .before .before .before .word16 .ensures .is) (c .before .before .before .before .before .before .before .before .word162 .ensures .is) (c .before .before .before .before .before .before .before .all-pass .ensures) (not-false _ (c .before .before .before .before .before .before .if1 .left)), part _ FormalsZero _ _ _ _ (c .before .before .before .before .before .word163 .ensures .is) (c .before .before .before .before .all-pass2 .ensures) (not-false _ (c .before .before .before .if2 .left)), part _ NodeKind _ _ _ _ (c .before .before .word164 .ensures .is) (c .before .all-pass3 .ensures) (not-true _ (c .if3 .taken)))
+
+word16-requires-5 : tie.Need-word16-requires-5
+word16-requires-5 c κs = search needs
+
+all-pass-requires-4 : tie.Need-all-pass-requires-4
+all-pass-requires-4 c κs = search needs
+
+returns-4 : tie.Need-returns-4
+unfolding kindsRight
+returns-4 c = rw (names-part _ NameKind _ _ _ _ (c .before .before .before .before .before .before .before .before .before .before .before .word16 .ensures .is) (c .before .before .before .before .before .before .before .before .before .before .word162 .ensures .is) (c .before .before .before .before .before .before .before .before .before .all-pass .ensures) (not-false _ (c .before .before .before .before .before .before .before .before .if1 .left)), part _ FormalsZero _ _ _ _ (c .before .before .before .before .before .before .before .word163 .ensures .is) (c .before .before .before .before .before .before .all-pass2 .ensures) (not-false _ (c .before .before .before .before .before .if2 .left)), part _ NodeKind _ _ _ _ (c .before .before .before .before .word164 .ensures .is) (c .before .before .before .all-pass3 .ensures) (not-false _ (c .before .before .if3 .left))) (sym (part _ BranchKind _ _ _ _ (c .before .word165 .ensures .is) (c .all-pass4 .ensures) (refl)))
+
+pub kinds-right-spec : {M : Type 1} → statement M
+kinds-right-spec =
+    tie.close
+    (tie.spec
+    word16-requires
+    word16-requires-2
+    add-all-pass
+    all-pass-requires
+    returns
+    word16-requires-3
+    all-pass-requires-2
+    returns-2
+    word16-requires-4
+    all-pass-requires-3
+    returns-3
+    word16-requires-5
+    all-pass-requires-4
+    returns-4)

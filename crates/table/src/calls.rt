@@ -1,0 +1,70 @@
+// Cause 9: entries of their own thread without formals, calls that stay in the thread and leave the definition.
+ghost use mathlib.Core.Path.{_≡_};
+ghost use Prim.Native.Nat.{_≤_};
+ghost use Rattle.table.specs.Words.{definitions, nodes, branches};
+ghost use Rattle.lists.specs.Lists.{word, range, every};
+ghost use Rattle.table.specs.Causes.{entryRight, callRightIn, callsRight};
+use crate::fields::field1;
+use crate::fields::field3;
+use crate::fields::field4;
+use crate::index::definitions;
+use crate::index::homes;
+use crate::index::owners;
+use crate::tests::Item;
+use crate::tests::all_pass;
+use lists::word16;
+
+pub(crate) fn entry_right(table: &[u16], thread: usize) -> bool
+    ensures { λ r. ⌜ r ≡ entryRight (now (table .entry)) thread ⌝ }
+{
+    let definition = field1(table, 9, thread);
+    if field4(table, 8, definition, 0) != thread {
+        return false;
+    }
+    field4(table, 8, definition, 3) == 0
+}
+
+// Whether a node that is a Call of the definition `own` stays in the thread and leaves the definition.
+fn call_right(table: &[u16], node: usize, own: usize) -> bool
+    ensures { λ r. ⌜ r ≡ callRightIn (now (table .entry)) own node ⌝ }
+{
+    if field3(table, 10, node, 0) != 3 {
+        return true;
+    }
+    let called = field3(table, 10, node, 1);
+    if field4(table, 8, called, 0) != field4(table, 8, own, 0) {
+        return false;
+    }
+    called != own
+}
+
+// Whether every Call is right, with the definition of each node at hand.
+fn all_calls_right(table: &[u16], definitions: &[u16]) -> bool
+    ensures { λ r. ⌜ r ≡ every (λ n. callRightIn (now (table .entry)) (word (now (definitions .entry)) n) n) (range (nodes (now (table .entry)))) ⌝ }
+{
+    let count = word16(table, 4);
+    let mut n = 0;
+    while n < count {
+        if !call_right(table, n, word16(definitions, n)) {
+            return false;
+        }
+        n += 1;
+    }
+    true
+}
+
+pub(crate) fn calls_right(table: &[u16]) -> bool
+    requires { ⌜ (nodes (now table) ≤ 256) × (branches (now table) ≤ 256) × (definitions (now table) ≤ 32) ⌝ }
+    ensures { λ r. ⌜ r ≡ callsRight (now (table .entry)) ⌝ }
+{
+    if !all_pass(table, Item::EntryRight, 0, word16(table, 3)) {
+        return false;
+    }
+    let mut owner = [0u32; 256];
+    let mut home = [0u32; 256];
+    let mut definition = [0u16; 256];
+    owners(table, &mut owner);
+    homes(table, &mut home);
+    definitions(&owner, &home, &mut definition);
+    all_calls_right(table, &definition)
+}
