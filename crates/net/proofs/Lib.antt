@@ -1,0 +1,9 @@
+-- Laws that the proofs of `net` share.
+pub mod Marks
+pub mod Images
+pub mod Steps
+pub mod Runs
+pub mod Encode
+pub mod Outcomes
+pub mod Built
+pub mod Cases

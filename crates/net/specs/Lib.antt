@@ -1,0 +1,6 @@
+-- What a reader must believe: net images, firing, the answers' numbers, and the image of an abstract net.
+pub mod Image
+pub mod Firing
+pub mod Answers
+pub mod Net
+pub mod Inner

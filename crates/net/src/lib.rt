@@ -1,0 +1,492 @@
+// Net images: firing by number, replay and run on any image, also a foreign one.
+ghost use mathlib.Core.Bool.{true, not};
+ghost use mathlib.Core.Path.{_≡_};
+ghost use mathlib.Core.List.{[], _∷_};
+ghost use Prim.Native.Nat.{ℕ, _<_, _≤_};
+ghost use lib.ListN.{length, replicate};
+ghost use lib.Seq.{slice};
+ghost use Rattle.lists.specs.Lists.{pick, ascends};
+ghost use Rattle.net.specs.Image.{placeCount, transitionCount, lengthGiven, headerRight, inputsAt, recordRight};
+ghost use Rattle.net.specs.Firing.{isMarking, isEnabled, hasContact, put, moved, initialMarking};
+ghost use Rattle.net.specs.Firing.{step, inTurn, fire, replay, runFrom, run};
+ghost use Rattle.net.specs.Answers.{firingOutcome, replayOutcome, Leaves};
+ghost use Rattle.net.specs.Inner.Arcs.{Header, Start, decoded, Listed, Offsets, Larger, Fired};
+
+// Why a call refuses: causes 11, 12, 13, 14, 15 and 16.
+pub enum Cause {
+    ImageWrong,
+    RecordWrong,
+    MarkingWrong,
+    NoTransition,
+    NotEnabled,
+    Contact,
+}
+
+// What a single firing answers.
+pub enum Firing {
+    Made,
+    Refused(Cause),
+}
+
+// What a replay answers: its last firing's answer, and its count of firings.
+pub struct Replayed {
+    pub outcome: Firing,
+    pub firings: usize,
+}
+
+// Why a run ended.
+pub enum Reason {
+    LimitReached,
+    HistoryFull,
+    NothingEnabled,
+    Stopped(Cause),
+}
+
+// What a run answers: the reason and its count of firings.
+pub struct Ran {
+    pub reason: Reason,
+    pub firings: usize,
+}
+
+// Where the inputs of a transition start, where its outputs start and where they end.
+struct Span {
+    inputs: usize,
+    outputs: usize,
+    end: usize,
+}
+
+// A transition's record, decoded: the same three offsets, or a record or arcs that are wrong.
+enum Record {
+    Arcs(usize, usize, usize),
+    Wrong,
+}
+
+// Whether the words from `start` to `end` ascend strictly and lie below `places`.
+fn rising(words: &[u32], start: usize, end: usize, places: usize) -> bool
+    requires { ⌜ end ≤ length (now words) ⌝ }
+    ensures { λ r. ⌜ r ≡ ascends places 0 (slice start end (now (words .entry))) ⌝ }
+{
+    let mut least: usize = 0;
+    let mut i = start;
+    while i < end {
+        let place = words[i] as usize;
+        if place < least {
+            return false;
+        }
+        if places <= place {
+            return false;
+        }
+        least = place + 1;
+        i += 1;
+    }
+    true
+}
+
+// Where the arcs start: 8+m+6t.
+fn arcs_start(image: &[u32]) -> usize
+    requires { ⌜ 8 ≤ length (now image) ⌝ }
+    ensures { λ r. ⌜ Start (now (image .entry)) r ⌝ }
+{
+    let tokens = image[4] as usize;
+    let transitions = image[1] as usize;
+    8 + tokens + 6 * transitions
+}
+
+// The length that the header's counts give.
+fn length_given(image: &[u32], arcs: usize) -> usize
+    requires { ⌜ (8 ≤ length (now image)) × Start (now image) arcs ⌝ }
+    ensures { λ r. ⌜ r ≡ lengthGiven (now (image .entry)) ⌝ }
+{
+    let inputs = image[2] as usize;
+    let outputs = image[3] as usize;
+    arcs + inputs + outputs
+}
+
+// Whether header, length and initial list are right. The sums are of 32-bit words, so 64 bits hold them; counts that
+// the length does not
+// bear out are refused before any list is walked.
+fn header_right(image: &[u32]) -> bool
+    ensures { λ r. ⌜ r ≡ headerRight (now (image .entry)) ⌝ }
+{
+    if image.len() < 8 {
+        return false;
+    }
+    let tokens = image[4] as usize;
+    let records = 8 + tokens;
+    let arcs = arcs_start(image);
+    if image[5] != 8 {
+        return false;
+    }
+    if image[6] as usize != records {
+        return false;
+    }
+    if image[7] as usize != arcs {
+        return false;
+    }
+    if image.len() != length_given(image, arcs) {
+        return false;
+    }
+    let places = image[0] as usize;
+    rising(image, 8, records, places)
+}
+
+// The offsets in a transition's record, unchecked.
+fn span_of(image: &[u32], transition: usize) -> Span
+    requires { ⌜ Header (now image) × (transition < transitionCount (now image)) ⌝ }
+    ensures { λ r. ⌜ Offsets (now (image .entry)) transition (r .inputs) (r .outputs) (r .end) ⌝ }
+{
+    let tokens = image[4] as usize;
+    let record = 8 + tokens + 6 * transition;
+    let inputs = image[record + 3] as usize;
+    let outputs = inputs + image[record + 4] as usize;
+    let end = outputs + image[record + 5] as usize;
+    Span {
+        inputs: inputs,
+        outputs: outputs,
+        end: end,
+    }
+}
+
+// The record of a transition. One that is known to be right is not looked over again.
+fn record_at(image: &[u32], transition: usize, known: bool) -> Record
+    requires { ⌜ Header (now image)
+        × (transition < transitionCount (now image))
+        × (known ≡ true → recordRight (now image) transition ≡ true) ⌝ }
+    ensures { λ r. ⌜ r ≡ decoded (now (image .entry)) transition ⌝ }
+{
+    let span = span_of(image, transition);
+    let inputs = span.inputs;
+    let outputs = span.outputs;
+    let end = span.end;
+    if known {
+        return Record::Arcs(inputs, outputs, end);
+    }
+    let places = image[0] as usize;
+    let arcs = arcs_start(image);
+    if inputs < arcs {
+        return Record::Wrong;
+    }
+    if image.len() < end {
+        return Record::Wrong;
+    }
+    if !rising(image, inputs, outputs, places) {
+        return Record::Wrong;
+    }
+    if !rising(image, outputs, end, places) {
+        return Record::Wrong;
+    }
+    Record::Arcs(inputs, outputs, end)
+}
+
+// Whether the list has a byte for each place, none above 1.
+fn marking_right(marking: &[u8], places: usize) -> bool
+    ensures { λ r. ⌜ r ≡ isMarking places (now (marking .entry)) ⌝ }
+{
+    if marking.len() != places {
+        return false;
+    }
+    let mut i = 0;
+    while i < marking.len() {
+        if 1 < marking[i] {
+            return false;
+        }
+        i += 1;
+    }
+    true
+}
+
+// Whether every place that the words from `start` to `end` list has its token.
+fn all_marked(words: &[u32], start: usize, end: usize, marking: &[u8]) -> bool
+    requires { ⌜ Listed (now words) start end (length (now marking)) ⌝ }
+    ensures { λ r. ⌜ r ≡ isEnabled (now (marking .entry)) (slice start end (now (words .entry))) ⌝ }
+{
+    let mut i = start;
+    while i < end {
+        let place = words[i] as usize;
+        if marking[place] != 1 {
+            return false;
+        }
+        i += 1;
+    }
+    true
+}
+
+// Whether an output has its token that is not also an input: the two ascending lists are merged.
+fn contact(words: &[u32], start: usize, middle: usize, end: usize, marking: &[u8]) -> bool
+    requires { ⌜ Listed (now words) start middle (length (now marking))
+        × Listed (now words) middle end (length (now marking)) ⌝ }
+    ensures { λ r. ⌜ r
+        ≡ hasContact (now (marking .entry)) (slice start middle (now (words .entry)))
+        (slice middle end (now (words .entry))) ⌝ }
+{
+    let mut next_input = start;
+    let mut next_output = middle;
+    while next_output < end {
+        let output = words[next_output] as usize;
+        if next_input < middle {
+            let input = words[next_input] as usize;
+            if input < output {
+                next_input += 1;
+                continue;
+            }
+            if input == output {
+                next_input += 1;
+                next_output += 1;
+                continue;
+            }
+        }
+        if marking[output] == 1 {
+            return true;
+        }
+        next_output += 1;
+    }
+    false
+}
+
+// Writes a byte at every place that the words from `start` to `end` list.
+fn put_all(words: &[u32], start: usize, end: usize, marking: &mut [u8], byte: u8)
+    requires { ⌜ Listed (now words) start end (length (now marking)) ⌝ }
+    ensures { λ r. ⌜ now (marking .exit) ≡ put byte (now (marking .entry)) (slice start end (now (words .entry))) ⌝ }
+{
+    let mut next = start;
+    while next < end {
+        let place = words[next] as usize;
+        marking[place] = byte;
+        next += 1;
+    }
+}
+
+// Sets every byte to 0.
+fn clear(marking: &mut [u8])
+    ensures { λ r. ⌜ now (marking .exit) ≡ replicate (length (now (marking .entry))) 0 ⌝ }
+{
+    let mut i = 0;
+    while i < marking.len() {
+        marking[i] = 0;
+        i += 1;
+    }
+}
+
+// Takes the inputs' tokens and gives the outputs'. At a contact it answers false and leaves the marking.
+fn move_tokens(words: &[u32], start: usize, middle: usize, end: usize, marking: &mut [u8]) -> bool
+    requires { ⌜ Listed (now words) start middle (length (now marking))
+        × Listed (now words) middle end (length (now marking)) ⌝ }
+    ensures answer { λ r. ⌜ r
+        ≡ not (hasContact (now (marking .entry)) (slice start middle (now (words .entry)))
+        (slice middle end (now (words .entry)))) ⌝ }
+    ensures marking { λ r. ⌜ now (marking .exit)
+        ≡ pick r (moved (now (marking .entry)) (slice start middle (now (words .entry)))
+        (slice middle end (now (words .entry)))) (now (marking .entry)) ⌝ }
+{
+    if contact(words, start, middle, end, marking) {
+        return false;
+    }
+    put_all(words, start, middle, marking, 0);
+    put_all(words, middle, end, marking, 1);
+    true
+}
+
+// One firing on an image whose header is right, at a marking of its length. It costs its arcs.
+fn fire_one(image: &[u32], marking: &mut [u8], transition: usize) -> Firing
+    requires { ⌜ Header (now image) × (length (now marking) ≡ placeCount (now image)) ⌝ }
+    ensures { λ r. ⌜ firingOutcome r (now (marking .exit))
+        ≡ inTurn (now (image .entry)) (now (marking .entry)) (transition ∷ []) ⌝ }
+{
+    let count = image[1] as usize;
+    if count <= transition {
+        return Firing::Refused(Cause::NoTransition);
+    }
+    let Record::Arcs(start, middle, end) = record_at(image, transition, false) else {
+        return Firing::Refused(Cause::RecordWrong);
+    };
+    if !all_marked(image, start, middle, marking) {
+        return Firing::Refused(Cause::NotEnabled);
+    }
+    if !move_tokens(image, start, middle, end, marking) {
+        return Firing::Refused(Cause::Contact);
+    }
+    Firing::Made
+}
+
+// Fires a transition whose record is right and whose inputs have their tokens. At a contact it answers false and
+// leaves the marking.
+fn fire_enabled(image: &[u32], marking: &mut [u8], transition: usize) -> bool
+    requires { ⌜ Header (now image)
+        × (length (now marking) ≡ placeCount (now image))
+        × (transition < transitionCount (now image))
+        × (recordRight (now image) transition ≡ true)
+        × (isEnabled (now marking) (inputsAt (now image) transition) ≡ true) ⌝ }
+    ensures { λ r. ⌜ Fired (step (now (image .entry)) (now (marking .entry)) transition)
+        (now (marking .entry)) r (now (marking .exit)) ⌝ }
+{
+    let span = span_of(image, transition);
+    let inputs = span.inputs;
+    let outputs = span.outputs;
+    let end = span.end;
+    move_tokens(image, inputs, outputs, end, marking)
+}
+
+// Fires one transition by number: 11, 13, 14, 12, 15, 16. A refusal leaves the marking.
+pub fn fire(image: &[u32], marking: &mut [u8], transition: u32) -> Firing
+    ensures { λ r. ⌜ firingOutcome r (now (marking .exit))
+        ≡ fire (now (image .entry)) (now (marking .entry)) transition ⌝ }
+{
+    if !header_right(image) {
+        return Firing::Refused(Cause::ImageWrong);
+    }
+    let places = image[0] as usize;
+    if !marking_right(marking, places) {
+        return Firing::Refused(Cause::MarkingWrong);
+    }
+    fire_one(image, marking, transition as usize)
+}
+
+// Fires numbers in turn, until one is refused, on an image whose header is right and at a marking of its length.
+fn fire_all(image: &[u32], marking: &mut [u8], numbers: &[u32]) -> Replayed
+    requires { ⌜ Header (now image) × (length (now marking) ≡ placeCount (now image)) ⌝ }
+    ensures { λ r. ⌜ replayOutcome r (now (marking .exit))
+        ≡ inTurn (now (image .entry)) (now (marking .entry)) (now (numbers .entry)) ⌝ }
+{
+    let mut i = 0;
+    while i < numbers.len() {
+        let fired = fire_one(image, marking, numbers[i] as usize);
+        let Firing::Made = fired else {
+            return Replayed {
+                outcome: fired,
+                firings: i,
+            };
+        };
+        i += 1;
+    }
+    Replayed {
+        outcome: Firing::Made,
+        firings: i,
+    }
+}
+
+// Sets the initial marking, of whatever was there.
+fn begin(image: &[u32], marking: &mut [u8])
+    requires { ⌜ (headerRight (now image) ≡ true) × (length (now marking) ≡ placeCount (now image)) ⌝ }
+    ensures { λ r. ⌜ now (marking .exit) ≡ initialMarking (now (image .entry)) ⌝ }
+{
+    let tokens = image[4] as usize;
+    clear(marking);
+    put_all(image, 8, 8 + tokens, marking, 1);
+}
+
+// Fires the numbers in turn from the initial marking, until one is refused: 11, 13 (length alone), then 14, 12, 15, 16
+// for each.
+pub fn replay(image: &[u32], marking: &mut [u8], numbers: &[u32]) -> Replayed
+    ensures { λ r. ⌜ replayOutcome r (now (marking .exit))
+        ≡ replay (now (image .entry)) (now (marking .entry)) (now (numbers .entry)) ⌝ }
+{
+    if !header_right(image) {
+        return Replayed {
+            outcome: Firing::Refused(Cause::ImageWrong),
+            firings: 0,
+        };
+    }
+    let places = image[0] as usize;
+    if marking.len() != places {
+        return Replayed {
+            outcome: Firing::Refused(Cause::MarkingWrong),
+            firings: 0,
+        };
+    }
+    begin(image, marking);
+    fire_all(image, marking, numbers)
+}
+
+// The larger of two numbers.
+fn larger(a: usize, b: usize) -> usize
+    ensures { λ r. ⌜ Larger a b r ⌝ }
+{
+    if a < b {
+        return b;
+    }
+    a
+}
+
+// Fires the lowest enabled transition, on an image and at a marking that are right, and writes each number to the
+// history. The records
+// below `seen` were met in an earlier search and found right, and are not looked over again.
+fn run_on(image: &[u32], marking: &mut [u8], limit: usize, history: &mut [u32]) -> Ran
+    requires { ⌜ Header (now image) × (length (now marking) ≡ placeCount (now image)) ⌝ }
+    ensures { λ r. ⌜ Leaves (runFrom (now (image .entry)) limit (length (now (history .entry))) (now (marking .entry))) r
+        (now (marking .exit)) (now (history .exit)) (now (history .entry)) ⌝ }
+{
+    let count = image[1] as usize;
+    let room = history.len();
+    let mut seen = 0;
+    let mut made = 0;
+    while made < limit {
+        if room <= made {
+            return Ran {
+                reason: Reason::HistoryFull,
+                firings: made,
+            };
+        }
+        let mut transition = 0;
+        'scan: while transition < count {
+            let Record::Arcs(inputs, outputs, _) = record_at(image, transition, transition < seen)
+            else {
+                return Ran {
+                    reason: Reason::Stopped(Cause::RecordWrong),
+                    firings: made,
+                };
+            };
+            let mut i = inputs;
+            while i < outputs {
+                let place = image[i] as usize;
+                if marking[place] != 1 {
+                    transition += 1;
+                    continue 'scan;
+                }
+                i += 1;
+            }
+            break 'scan;
+        }
+        if count <= transition {
+            return Ran {
+                reason: Reason::NothingEnabled,
+                firings: made,
+            };
+        }
+        seen = larger(seen, transition + 1);
+        if !fire_enabled(image, marking, transition) {
+            return Ran {
+                reason: Reason::Stopped(Cause::Contact),
+                firings: made,
+            };
+        }
+        history[made] = transition as u32;
+        made += 1;
+    }
+    Ran {
+        reason: Reason::LimitReached,
+        firings: made,
+    }
+}
+
+// Runs: 11, 13, then before each firing limit reached, history full, nothing enabled; 12 at a malformed record met in
+// the search, 16 at
+// a contact. Of the history only the words written change, and nothing of it is read.
+pub fn run(image: &[u32], marking: &mut [u8], limit: u64, history: &mut [u32]) -> Ran
+    ensures { λ r. ⌜ Leaves (run (now (image .entry)) (now (marking .entry)) limit (length (now (history .entry)))) r
+        (now (marking .exit)) (now (history .exit)) (now (history .entry)) ⌝ }
+{
+    if !header_right(image) {
+        return Ran {
+            reason: Reason::Stopped(Cause::ImageWrong),
+            firings: 0,
+        };
+    }
+    let places = image[0] as usize;
+    if !marking_right(marking, places) {
+        return Ran {
+            reason: Reason::Stopped(Cause::MarkingWrong),
+            firings: 0,
+        };
+    }
+    run_on(image, marking, limit as usize, history)
+}
