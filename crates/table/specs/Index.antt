@@ -7,6 +7,7 @@ use lib.Dec.{ltb}
 use lib.ListN.{length}
 use lib.Seq.{sets}
 use Rattle.lists.specs.Lists.{pick, word}
+use Rattle.table.specs.Words.{definitionThread}
 use Rattle.table.specs.Owners.{Owner, rootOf, childOf, nextOf, nobody, heldBy, definitionBy}
 use Rattle.table.specs.declared.index.Parent.{Parent}
 use Rattle.table.specs.declared.index.Parent.the-variants.{Definition, New, Branch, Nobody}
@@ -52,6 +53,10 @@ definitionNext own at below n = definitionStep below (parentOf own at n)
 -- a node's definition and held names by lent owners and homes
 unfoldable pub definitionIn : List ℕ → List ℕ → ℕ → ℕ
 definitionIn owners homes n = definitionBy [] (ownerIn owners) (homeIn homes) (suc n) n
+
+-- the thread of a node by lent definitions
+abbrev pub threadIn : List ℕ → List ℕ → ℕ → ℕ
+threadIn w definitions n = definitionThread w (word definitions n)
 
 unfoldable pub heldIn : List ℕ → List ℕ → List ℕ → ℕ → List ℕ
 heldIn w owners homes n = heldBy w (ownerIn owners) (homeIn homes) (suc n) n

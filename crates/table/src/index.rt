@@ -7,7 +7,7 @@ ghost use lib.ListN.{length, replicate};
 ghost use lib.Seq.{sets};
 ghost use Rattle.lists.specs.Lists.{from, range};
 ghost use Rattle.table.specs.Owners.{owner, home};
-ghost use Rattle.table.specs.Index.{ownerNumber, ownerIn, homeIn, parentOf, definitionIn, definitionNext, heldIn, HeldNames};
+ghost use Rattle.table.specs.Index.{ownerNumber, ownerIn, homeIn, parentOf, definitionIn, definitionNext, threadIn, heldIn, HeldNames};
 use crate::fields::field3;
 use crate::fields::field4;
 use crate::spans::Source;
@@ -100,6 +100,13 @@ pub fn definitions(owners: &[u32], homes: &[u32], out: &mut [u16])
         out[n] = d;
         n += 1;
     }
+}
+
+// The thread of a node, by lent definitions.
+pub fn thread(table: &[u16], definitions: &[u16], node: usize) -> usize
+    ensures { λ r. ⌜ r ≡ threadIn (now (table .entry)) (now (definitions .entry)) node ⌝ }
+{
+    field4(table, 8, word16(definitions, node), 0)
 }
 
 // Writes `count` numbers from `first` on, as far as `out` reaches, and returns how many there are.
