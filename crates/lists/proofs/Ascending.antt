@@ -1,7 +1,7 @@
 -- Laws of lists that ascend strictly.
 use mathlib.Core.Path.{_≡_, refl, sym, ap, subst, _∙_}
 use mathlib.Core.Bool.{Bool, true, false, _&&_, _||_}
-use mathlib.Core.List.{List, [], _∷_}
+use mathlib.Core.List.{List, [], _∷_, _++_}
 use Prim.Native.Nat.{ℕ, zero, suc, _+_, _-_, _≤_, _<_}
 use native.Mathlib.Omega.{arith}
 use lib.Dec.{ltb, leb}
@@ -39,6 +39,22 @@ ascends-lower n lo low (x ∷ xs) h e =
     let a = ascends-first n lo x xs e in
     let l : low ≤ x = omega arith in
     ascends-cons n low x xs l (ascends-below n lo x xs e) ∙ ascends-rest n lo x xs e
+
+-- below a number, so below any higher one
+pub ascends-higher : (n m lo : ℕ) (xs : List ℕ) → n ≤ m → ascends n lo xs ≡ true → ascends m lo xs ≡ true
+unfolding ascends
+ascends-higher n m lo [] h a = refl
+ascends-higher n m lo (x ∷ xs) h a =
+    let b = ascends-below n lo x xs a in
+    ascends-cons m lo x xs (ascends-first n lo x xs a) (omega arith) ∙ ascends-higher n m (x + 1) xs h (ascends-rest n lo x xs a)
+
+-- two ascending lists, the second behind the first
+pub ascends-append : (n lo mid : ℕ) (xs ys : List ℕ) → lo ≤ mid → mid ≤ n → ascends mid lo xs ≡ true → ascends n mid ys ≡ true → ascends n lo (xs ++ ys) ≡ true
+ascends-append n lo mid [] ys l u a b = ascends-lower n mid lo ys l b
+ascends-append n lo mid (x ∷ xs) ys l u a b =
+    let c = ascends-below mid lo x xs a in
+    ascends-cons n lo x (xs ++ ys) (ascends-first mid lo x xs a) (omega arith)
+    ∙ ascends-append n (x + 1) mid xs ys (omega arith) u (ascends-rest mid lo x xs a) b
 
 -- a number below where the list begins does not stand in it
 pub not-below : (n lo x : ℕ) (xs : List ℕ) → ascends n lo xs ≡ true → x < lo → member x xs ≡ false

@@ -5,3 +5,7 @@ pub mod Counts
 pub mod First
 pub mod Slices
 pub mod Ascending
+pub mod Positions
+pub mod Sums
+pub mod Numbered
+pub mod Standing

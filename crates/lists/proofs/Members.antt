@@ -196,9 +196,24 @@ unfolding keep
 keep-same p q [] f = refl
 keep-same p q (y ∷ ys) f = rw (f y (member-here y ys), keep-same p q ys (λ x m. f x (member-there x y ys m)))
 
+-- all elements pass, or none
+pub keep-all : (p : ℕ → Bool) (xs : List ℕ) → ((x : ℕ) → member x xs ≡ true → p x ≡ true) → keep p xs ≡ xs
+unfolding keep
+keep-all p [] f = refl
+keep-all p (x ∷ xs) f = rw (f x (member-here x xs), keep-all p xs (λ z m. f z (member-there z x xs m)))
+
+pub keep-none : (p : ℕ → Bool) (xs : List ℕ) → ((x : ℕ) → member x xs ≡ true → p x ≡ false) → keep p xs ≡ []
+unfolding keep
+keep-none p [] f = refl
+keep-none p (x ∷ xs) f = rw (f x (member-here x xs), keep-none p xs (λ z m. f z (member-there z x xs m)))
+
 pub map-same : {A B : Type 0} (f g : A → B) (xs : List A) → ((x : A) → f x ≡ g x) → map f xs ≡ map g xs
 map-same f g [] h = refl
 map-same f g (x ∷ xs) h = rw (h x, map-same f g xs h)
+
+pub map-append : {A B : Type 0} (f : A → B) (xs ys : List A) → map f (xs ++ ys) ≡ map f xs ++ map f ys
+map-append f [] ys = refl
+map-append f (x ∷ xs) ys = rw (map-append f xs ys)
 
 pub flat-same : {A : Type 0} (f g : ℕ → List A) (xs : List ℕ) → ((x : ℕ) → member x xs ≡ true → f x ≡ g x) → flat f xs ≡ flat g xs
 unfolding flat

@@ -156,3 +156,15 @@ module _ {A : Type 0} (f : ℕ → List A) where
   pub flat-done : (i e : ℕ) → e ≤ i → flat f (from i (e - i)) ≡ []
   unfolding flat
   flat-done i e h = rw (from-done i e h)
+
+-- what stands before the list of x, that list, and what stands behind it
+pub flat-split : {A : Type 0} (f : ℕ → List A) (a n x : ℕ) → a ≤ x → x < a + n
+    → flat f (from a n) ≡ flat f (from a (x - a)) ++ (f x ++ flat f (from (x + 1) (a + n - (x + 1))))
+unfolding flat from
+flat-split f a n x l u =
+    let e : n ≡ (x - a) + suc (a + n - (x + 1)) = omega arith in
+    let g : a + (x - a) ≡ x = omega arith in
+    ap (λ (k : ℕ). flat f (from a k)) e
+    ∙ ap (flat f) (from-append a (x - a) (suc (a + n - (x + 1))))
+    ∙ flat-append f (from a (x - a)) (from (a + (x - a)) (suc (a + n - (x + 1))))
+    ∙ ap (λ (k : ℕ). flat f (from a (x - a)) ++ flat f (from k (suc (a + n - (x + 1))))) g
