@@ -1,0 +1,5 @@
+pub mod Cases
+pub mod Decimal
+pub mod Lines
+pub mod WordsOf
+pub mod Writing

@@ -1,0 +1,3 @@
+-- What only the promises of private functions cite.
+pub mod Cursors
+pub mod Parts

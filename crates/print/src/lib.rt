@@ -1,0 +1,233 @@
+// The text of a listing, written into lent bytes, and the words that bytes make.
+//
+// Text is written as far as the buffer reaches, and the answer is the number of bytes written: the text's length, or
+// the buffer's where that is less. A foreign image may describe a text longer than any buffer, so its length is not
+// counted further; an answer below the buffer's length says that the whole text stands there.
+ghost use mathlib.Core.List.{[], _∷_};
+ghost use mathlib.Core.Path.{_≡_};
+ghost use Prim.Native.Nat.{_+_, _<_, min};
+ghost use lib.ListN.{length};
+ghost use lib.Seq.{sets, slice};
+ghost use Rattle.lists.specs.Lists.{word, flat, range};
+ghost use Rattle.net.specs.Image.{transitionCount};
+ghost use Rattle.print.specs.Text.{decimal, numbers, spaced, refusal};
+ghost use Rattle.print.specs.Listing.{headerLine, transitionLine, listing};
+ghost use Rattle.print.specs.Words.{wordsOf};
+ghost use Rattle.print.specs.Inner.Cursors.{cursorAt, write};
+ghost use Rattle.print.specs.Inner.Parts.{labelText, arcsText, RecordAt};
+use lists::store16;
+use lists::word8;
+use lists::word32;
+
+// The 16-bit words of the bytes, low byte first, as far as `out` reaches; the answer is the number of words, also of
+// those that found no room.
+pub fn words(bytes: &[u8], out: &mut [u16]) -> usize
+    ensures { λ r. ⌜ now (out .exit) ≡ sets (now (out .entry)) 0 (wordsOf (now (bytes .entry))) ⌝ }
+    ensures { λ r. ⌜ r ≡ length (wordsOf (now (bytes .entry))) ⌝ }
+{
+    let count = bytes.len() / 2;
+    let mut i: usize = 0;
+    while i < count {
+        let low = word8(bytes, 2 * i);
+        let high = word8(bytes, 2 * i + 1);
+        store16(out, i, (low + 256 * high) as u16);
+        i += 1;
+    }
+    count
+}
+
+// Writes a byte at `at`, or nothing where the buffer ends; every function that writes answers with the next place.
+fn put(out: &mut [u8], at: usize, byte: u8) -> usize
+    ensures { λ r. ⌜ cursorAt (now (out .exit)) r ≡ write (cursorAt (now (out .entry)) at) (byte ∷ []) ⌝ }
+{
+    if at < out.len() {
+        out[at] = byte;
+        return at + 1;
+    }
+    out.len()
+}
+
+// Writes the bytes of a text.
+fn copy(out: &mut [u8], at: usize, text: &[u8]) -> usize
+    ensures { λ r. ⌜ cursorAt (now (out .exit)) r ≡ write (cursorAt (now (out .entry)) at) (now (text .entry)) ⌝ }
+{
+    let mut i: usize = 0;
+    let mut p = at;
+    while i < text.len() {
+        p = put(out, p, text[i]);
+        i += 1;
+    }
+    p
+}
+
+// The digit of a number below 10.
+fn digit(n: usize) -> u8
+    requires { ⌜ n < 10 ⌝ }
+    ensures { λ r. ⌜ r ≡ 48 + n ⌝ }
+{
+    48 + n as u8
+}
+
+// Writes a number: all its digits but the last, then the last.
+fn put_decimal(out: &mut [u8], at: usize, n: usize) -> usize
+    ensures { λ r. ⌜ cursorAt (now (out .exit)) r ≡ write (cursorAt (now (out .entry)) at) (decimal n) ⌝ }
+{
+    if n < 10 {
+        return put(out, at, digit(n));
+    }
+    let p = put_decimal(out, at, n / 10);
+    put(out, p, digit(n % 10))
+}
+
+// Writes a number that does not begin a line.
+fn put_next(out: &mut [u8], at: usize, n: usize) -> usize
+    ensures { λ r. ⌜ cursorAt (now (out .exit)) r ≡ write (cursorAt (now (out .entry)) at) (spaced (decimal n)) ⌝ }
+{
+    let p = put(out, at, b' ');
+    put_decimal(out, p, n)
+}
+
+// Writes a mark that does not begin a line.
+fn put_mark(out: &mut [u8], at: usize, mark: u8) -> usize
+    ensures { λ r. ⌜ cursorAt (now (out .exit)) r ≡ write (cursorAt (now (out .entry)) at) (spaced (mark ∷ [])) ⌝ }
+{
+    let p = put(out, at, b' ');
+    put(out, p, mark)
+}
+
+// Writes word i of the image; it does not begin a line.
+fn put_word(image: &[u32], i: usize, out: &mut [u8], at: usize) -> usize
+    ensures { λ r. ⌜ cursorAt (now (out .exit)) r
+        ≡ write (cursorAt (now (out .entry)) at) (spaced (decimal (word (now (image .entry)) i))) ⌝ }
+{
+    let n = word32(image, i);
+    put_next(out, at, n)
+}
+
+fn smaller(a: usize, b: usize) -> usize
+    ensures { λ r. ⌜ r ≡ min a b ⌝ }
+{
+    if a < b {
+        return a;
+    }
+    b
+}
+
+// Writes the words from `start` to `end`, those that the image has. The work ends where the buffer is full.
+fn put_span(image: &[u32], start: usize, end: usize, out: &mut [u8], at: usize) -> usize
+    ensures { λ r. ⌜ cursorAt (now (out .exit)) r
+        ≡ write (cursorAt (now (out .entry)) at) (flat spaced (numbers (slice start end (now (image .entry))))) ⌝ }
+{
+    let last = smaller(end, image.len());
+    let mut i = start;
+    let mut p = at;
+    while i < last {
+        if p == out.len() {
+            return p;
+        }
+        p = put_word(image, i, out, p);
+        i += 1;
+    }
+    p
+}
+
+// Writes the first five header words as a line.
+fn put_header(image: &[u32], out: &mut [u8]) -> usize
+    ensures { λ r. ⌜ cursorAt (now (out .exit)) r
+        ≡ write (cursorAt (now (out .entry)) 0) (headerLine (now (image .entry))) ⌝ }
+{
+    let places = word32(image, 0);
+    let a = put_decimal(out, 0, places);
+    let b = put_word(image, 1, out, a);
+    let c = put_word(image, 2, out, b);
+    let d = put_word(image, 3, out, c);
+    let e = put_word(image, 4, out, d);
+    put(out, e, b'\n')
+}
+
+// Where the record of a transition starts. The sum is of 32-bit words, so 64 bits hold it.
+fn record_start(image: &[u32], transition: usize) -> usize
+    requires { ⌜ transition < 4294967296 ⌝ }
+    ensures { λ r. ⌜ RecordAt (now (image .entry)) transition r ⌝ }
+{
+    let tokens = word32(image, 4);
+    8 + tokens + 6 * transition
+}
+
+// Writes the label of a transition.
+fn put_label(image: &[u32], transition: usize, out: &mut [u8], at: usize) -> usize
+    requires { ⌜ transition < 4294967296 ⌝ }
+    ensures { λ r. ⌜ cursorAt (now (out .exit)) r
+        ≡ write (cursorAt (now (out .entry)) at) (labelText (now (image .entry)) transition) ⌝ }
+{
+    let record = record_start(image, transition);
+    let p = put_word(image, record, out, at);
+    let q = put_word(image, record + 1, out, p);
+    put_word(image, record + 2, out, q)
+}
+
+// Writes the inputs and the outputs of a transition, each after its mark.
+fn put_arcs(image: &[u32], transition: usize, out: &mut [u8], at: usize) -> usize
+    requires { ⌜ transition < 4294967296 ⌝ }
+    ensures { λ r. ⌜ cursorAt (now (out .exit)) r
+        ≡ write (cursorAt (now (out .entry)) at) (arcsText (now (image .entry)) transition) ⌝ }
+{
+    let record = record_start(image, transition);
+    let inputs = word32(image, record + 3);
+    let outputs = inputs + word32(image, record + 4);
+    let end = outputs + word32(image, record + 5);
+    let a = put_mark(out, at, b':');
+    let b = put_span(image, inputs, outputs, out, a);
+    let c = put_mark(out, b, b'>');
+    put_span(image, outputs, end, out, c)
+}
+
+// Writes the line of a transition.
+fn put_transition(image: &[u32], transition: usize, out: &mut [u8], at: usize) -> usize
+    requires { ⌜ transition < 4294967296 ⌝ }
+    ensures { λ r. ⌜ cursorAt (now (out .exit)) r
+        ≡ write (cursorAt (now (out .entry)) at) (transitionLine (now (image .entry)) transition) ⌝ }
+{
+    let a = put_decimal(out, at, transition);
+    let b = put_label(image, transition, out, a);
+    let c = put_arcs(image, transition, out, b);
+    put(out, c, b'\n')
+}
+
+// Writes the lines of all transitions. The work ends where the buffer is full.
+fn put_transitions(image: &[u32], out: &mut [u8], at: usize) -> usize
+    ensures { λ r. ⌜ cursorAt (now (out .exit)) r
+        ≡ write (cursorAt (now (out .entry)) at)
+        (flat (transitionLine (now (image .entry))) (range (transitionCount (now (image .entry))))) ⌝ }
+{
+    let count = word32(image, 1);
+    let mut transition: usize = 0;
+    let mut p = at;
+    while transition < count {
+        if p == out.len() {
+            return p;
+        }
+        p = put_transition(image, transition, out, p);
+        transition += 1;
+    }
+    p
+}
+
+// The listing of an image, as far as `out` reaches; the answer is the number of bytes written.
+pub fn listing(image: &[u32], out: &mut [u8]) -> usize
+    ensures { λ r. ⌜ now (out .exit) ≡ sets (now (out .entry)) 0 (listing (now (image .entry))) ⌝ }
+    ensures { λ r. ⌜ r ≡ min (length (listing (now (image .entry)))) (length (now (out .entry))) ⌝ }
+{
+    let p = put_header(image, out);
+    put_transitions(image, out, p)
+}
+
+// `refused`, the number and a line feed, as far as `out` reaches; the answer is the number of bytes written.
+pub fn refusal(number: usize, out: &mut [u8]) -> usize
+    ensures { λ r. ⌜ now (out .exit) ≡ sets (now (out .entry)) 0 (refusal number) ⌝ }
+    ensures { λ r. ⌜ r ≡ min (length (refusal number)) (length (now (out .entry))) ⌝ }
+{
+    let a = copy(out, 0, b"refused");
+    let b = put_next(out, a, number);
+    put(out, b, b'\n')
+}
