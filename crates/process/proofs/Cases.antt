@@ -1,0 +1,77 @@
+-- Worked states, computed: table E on the way of its run, definitions that call each other passing a private name, and a name sent on itself.
+use mathlib.Core.Path.{_≡_, refl}
+use mathlib.Core.Bool.{Bool, true, false, not, _&&_}
+use mathlib.Core.List.{List, [], _∷_}
+use Prim.Native.Nat.{ℕ}
+use Rattle.lists.specs.Lists.{same, from, every, keep, flat, member, firstFrom}
+use Rattle.table.specs.Words.{formals, branchesOf, argumentsOf}
+use Rattle.table.specs.Owners.{home, owner, pickOwner, heldBy, definitionBy, held, definition}
+use Rattle.table.specs.Scheme.{Scheme, scheme, nodeAt, branchAt, argumentsAt, pickBinder, binderOf}
+use Rattle.process.specs.States.{State, start, put}
+use Rattle.process.specs.Steps.{Step, newStep, silentStep, communication, callStep, take, passed, isOpen}
+use Rattle.process.specs.Labels.{labelOf, stepOf, steps, openSteps, openLabels}
+use Rattle.process.specs.StateWords.{stateWords, place, noted, valueWords, wellFormed, stateOf, sameList}
+
+-- "ν r.p⟨r⟩.0 beside p(x).0"
+abbrev tableE : List ℕ
+tableE =
+    1 ∷ 2 ∷ 2 ∷ 2 ∷ 5 ∷ 2 ∷ 0 ∷ 13 ∷ 15 ∷ 23 ∷ 25 ∷ 40 ∷ 48 ∷ 0 ∷ 1 ∷ 0 ∷ 0 ∷ 0 ∷ 0 ∷ 1 ∷ 3 ∷ 0 ∷ 0 ∷ 0 ∷ 1 ∷
+    2 ∷ 1 ∷ 1 ∷ 1 ∷ 0 ∷ 1 ∷ 0 ∷ 0 ∷ 0 ∷ 1 ∷ 1 ∷ 1 ∷ 0 ∷ 0 ∷ 0 ∷ 1 ∷ 0 ∷ 1 ∷ 2 ∷ 2 ∷ 0 ∷ 2 ∷ 4 ∷ []
+
+-- ν r.F⟨r⟩ with F(f) = G⟨f⟩ and G(g) = F⟨g⟩
+abbrev tableCalls : List ℕ
+tableCalls =
+    0 ∷ 3 ∷ 3 ∷ 1 ∷ 4 ∷ 0 ∷ 3 ∷ 13 ∷ 16 ∷ 28 ∷ 29 ∷ 41 ∷ 41 ∷ 0 ∷ 2 ∷ 2 ∷ 0 ∷ 0 ∷ 0 ∷ 0 ∷ 0 ∷ 2 ∷ 1 ∷ 1 ∷ 0 ∷ 3 ∷ 2 ∷ 1 ∷ 0 ∷
+    2 ∷ 0 ∷ 1 ∷ 3 ∷ 1 ∷ 0 ∷ 3 ∷ 2 ∷ 1 ∷ 3 ∷ 1 ∷ 2 ∷ 0 ∷ 1 ∷ 2 ∷ []
+
+-- p⟨p⟩.0 beside p(x).τ.0
+abbrev tableItself : List ℕ
+tableItself =
+    1 ∷ 1 ∷ 2 ∷ 2 ∷ 5 ∷ 3 ∷ 0 ∷ 13 ∷ 14 ∷ 22 ∷ 24 ∷ 39 ∷ 51 ∷ 1 ∷ 0 ∷ 0 ∷ 0 ∷ 0 ∷ 1 ∷ 2 ∷ 0 ∷ 0 ∷ 0 ∷ 1 ∷
+    1 ∷ 0 ∷ 1 ∷ 0 ∷ 0 ∷ 0 ∷ 1 ∷ 1 ∷ 1 ∷ 1 ∷ 2 ∷ 1 ∷ 0 ∷ 0 ∷ 0 ∷ 1 ∷ 0 ∷ 0 ∷ 1 ∷ 2 ∷ 0 ∷ 1 ∷ 3 ∷ 0 ∷ 0 ∷ 0 ∷ 4 ∷ []
+
+-- a table, the steps taken from the start, and then the state's words and the labels of its open steps
+pub record Case : Type 0 where
+  pub table : List ℕ
+  pub way : List Step
+  pub words : List ℕ
+  pub labels : List ℕ
+
+abbrev case : List ℕ → List Step → List ℕ → List ℕ → Case
+case t w s l = record { table = t; way = w; words = s; labels = l }
+
+unfoldable pub after : Scheme → List Step → State → State
+after S [] s = s
+after S (x ∷ xs) s = after S xs (take S x s)
+
+-- the state's words and labels are as given, and the words are well formed
+abbrev right : Case → Bool
+right c =
+    let S = scheme (c .table) in
+    let s = after S (c .way) (start S) in
+    sameList S (stateWords S s) (c .words) && (sameList S (openLabels S s) (c .labels) && wellFormed S (c .words))
+
+abbrev cases : List Case
+cases =
+    -- E's start, after its New, and after the communication, with both threads at Stop
+    case tableE [] (0 ∷ 3 ∷ 65535 ∷ 65535 ∷ []) (2 ∷ 0 ∷ 1 ∷ []) ∷
+    case tableE (newStep 0 ∷ []) (1 ∷ 3 ∷ 1 ∷ 65535 ∷ []) (4 ∷ 0 ∷ 1 ∷ []) ∷
+    case tableE (newStep 0 ∷ communication 0 1 ∷ []) (2 ∷ 4 ∷ 65535 ∷ 65535 ∷ []) [] ∷
+    -- a private name goes round
+    case tableCalls (newStep 0 ∷ []) (1 ∷ 0 ∷ 65535 ∷ 65535 ∷ []) (5 ∷ 1 ∷ 0 ∷ []) ∷
+    case tableCalls (newStep 0 ∷ callStep 1 ∷ []) (2 ∷ 65535 ∷ 0 ∷ 65535 ∷ []) (5 ∷ 2 ∷ 0 ∷ []) ∷
+    case tableCalls (newStep 0 ∷ callStep 1 ∷ callStep 2 ∷ []) (3 ∷ 65535 ∷ 65535 ∷ 0 ∷ []) (5 ∷ 3 ∷ 0 ∷ []) ∷
+    case tableCalls (newStep 0 ∷ callStep 1 ∷ callStep 2 ∷ callStep 3 ∷ []) (2 ∷ 65535 ∷ 0 ∷ 65535 ∷ []) (5 ∷ 2 ∷ 0 ∷ []) ∷
+    -- the receiver has the channel itself
+    case tableItself [] (0 ∷ 2 ∷ 65535 ∷ []) (4 ∷ 0 ∷ 1 ∷ []) ∷
+    case tableItself (communication 0 1 ∷ []) (1 ∷ 3 ∷ 0 ∷ []) (3 ∷ 2 ∷ 0 ∷ []) ∷
+    case tableItself (communication 0 1 ∷ silentStep 2 ∷ []) (1 ∷ 4 ∷ 65535 ∷ []) [] ∷ []
+
+pub computed : every right cases ≡ true
+unfolding same from every keep flat member firstFrom formals branchesOf argumentsOf home owner pickOwner heldBy definitionBy held definition scheme nodeAt branchAt argumentsAt pickBinder binderOf start put take passed isOpen stepOf steps openSteps openLabels stateWords place noted valueWords wellFormed stateOf sameList after
+computed = refl
+
+-- words that are no state's: numbered otherwise, too short, a name held at Stop
+pub malformed : every (λ ws. not (wellFormed (scheme tableE) ws)) ((1 ∷ 3 ∷ 2 ∷ 65535 ∷ []) ∷ (1 ∷ 3 ∷ 1 ∷ []) ∷ (2 ∷ 4 ∷ 1 ∷ 65535 ∷ []) ∷ (3 ∷ 0 ∷ 65535 ∷ 65535 ∷ []) ∷ []) ≡ true
+unfolding same from every keep flat member firstFrom formals branchesOf argumentsOf home owner pickOwner heldBy definitionBy held definition scheme nodeAt branchAt argumentsAt pickBinder binderOf start put take passed isOpen stepOf steps openSteps openLabels stateWords place noted valueWords wellFormed stateOf sameList after
+malformed = refl

@@ -1,0 +1,10 @@
+pub mod Cases
+pub mod Renaming
+pub mod Sets
+pub mod Decoding
+pub mod NameValues
+pub mod Numbering
+pub mod Forming
+pub mod Labelling
+pub mod Taking
+pub mod Stepping

@@ -1,0 +1,387 @@
+// The state after an open step, as words.
+ghost use mathlib.Core.Path.{_≡_};
+ghost use mathlib.Core.Bool.{true, _&&_};
+ghost use mathlib.Core.List.{[], map};
+ghost use Prim.Native.Nat.{_≤_, _<_};
+ghost use lib.ListN.{length};
+ghost use lib.Seq.{sets, slice};
+ghost use Rattle.lists.specs.Lists.{pick, same, from, range};
+ghost use Rattle.table.specs.Words.{publics, bounds, threads};
+ghost use Rattle.table.specs.Kinds.{isStop};
+ghost use Rattle.table.specs.Scheme.{scheme};
+ghost use Rattle.process.specs.Steps.{take, isOpen, passed, newStep, silentStep, communication, callStep};
+ghost use Rattle.process.specs.StateWords.{stateOf, place, valueWords, stateWords};
+ghost use Rattle.process.specs.Inner.Index.{Indexed};
+ghost use Rattle.process.specs.Inner.Values.{Number, Valued, Numberable, Turned};
+ghost use Rattle.process.specs.Inner.Codes.{meant, Going};
+use crate::labels::Pair;
+use crate::labels::Step;
+use crate::threads::branch_thread;
+use crate::threads::is_stop;
+use crate::threads::name_thread;
+use crate::threads::node_thread;
+use crate::values::value_of;
+use lists::store16;
+use lists::word16;
+use table::fields::field1;
+use table::fields::field3;
+use table::fields::field4;
+
+// Whether a name ends as its thread arrives at a node.
+fn ends(
+    table: &[u16],
+    homes: &[u32],
+    definitions: &[u16],
+    thread: usize,
+    node: usize,
+    name: usize,
+) -> bool
+    requires { ⌜ Indexed (now table) (now homes) (now definitions) ⌝ }
+    ensures { λ r. ⌜ r ≡ (isStop (scheme (now (table .entry)) .node node) && same (scheme (now (table .entry)) .nameThread name) thread) ⌝ }
+{
+    if is_stop(table, node) {
+        return name_thread(table, homes, definitions, name) == thread;
+    }
+    false
+}
+
+// A name's value after a New, which takes a value that no word names.
+fn value_after_new(
+    table: &[u16],
+    homes: &[u32],
+    definitions: &[u16],
+    state: &[u16],
+    node: usize,
+    name: usize,
+) -> usize
+    requires { ⌜ Going (now table) (now homes) (now definitions) (now state) (newStep node) ⌝ }
+    ensures { λ r. ⌜ Valued (take (scheme (now (table .entry))) (newStep node) (stateOf (scheme (now (table .entry))) (now (state .entry))) .value name) r ⌝ }
+{
+    let thread = node_thread(table, homes, definitions, node);
+    if ends(
+        table,
+        homes,
+        definitions,
+        thread,
+        field3(table, 10, node, 2),
+        name,
+    ) {
+        return 65535;
+    }
+    if name == field3(table, 10, node, 1) {
+        return word16(table, 0) + word16(table, 1);
+    }
+    value_of(table, state, name)
+}
+
+fn value_after_silent(
+    table: &[u16],
+    homes: &[u32],
+    definitions: &[u16],
+    state: &[u16],
+    branch: usize,
+    name: usize,
+) -> usize
+    requires { ⌜ Going (now table) (now homes) (now definitions) (now state) (silentStep branch) ⌝ }
+    ensures { λ r. ⌜ Valued (take (scheme (now (table .entry))) (silentStep branch) (stateOf (scheme (now (table .entry))) (now (state .entry))) .value name) r ⌝ }
+{
+    let thread = branch_thread(table, homes, definitions, branch);
+    if ends(
+        table,
+        homes,
+        definitions,
+        thread,
+        field4(table, 11, branch, 3),
+        name,
+    ) {
+        return 65535;
+    }
+    value_of(table, state, name)
+}
+
+// A name's value after a communication. The sent value is the one before any name ends.
+fn value_after_meeting(
+    table: &[u16],
+    homes: &[u32],
+    definitions: &[u16],
+    state: &[u16],
+    send: usize,
+    receive: usize,
+    name: usize,
+) -> usize
+    requires { ⌜ Going (now table) (now homes) (now definitions) (now state) (communication send receive) ⌝ }
+    ensures { λ r. ⌜ Valued (take (scheme (now (table .entry))) (communication send receive) (stateOf (scheme (now (table .entry))) (now (state .entry))) .value name) r ⌝ }
+{
+    let sender = branch_thread(table, homes, definitions, send);
+    let receiver = branch_thread(table, homes, definitions, receive);
+    if ends(
+        table,
+        homes,
+        definitions,
+        sender,
+        field4(table, 11, send, 3),
+        name,
+    ) {
+        return 65535;
+    }
+    if ends(
+        table,
+        homes,
+        definitions,
+        receiver,
+        field4(table, 11, receive, 3),
+        name,
+    ) {
+        return 65535;
+    }
+    if name == field4(table, 11, receive, 2) {
+        return value_of(table, state, field4(table, 11, send, 2));
+    }
+    value_of(table, state, name)
+}
+
+// A name's value after a call: the caller's names end, a formal has its argument's value.
+fn value_after_call(
+    table: &[u16],
+    homes: &[u32],
+    definitions: &[u16],
+    state: &[u16],
+    node: usize,
+    name: usize,
+) -> usize
+    requires { ⌜ Going (now table) (now homes) (now definitions) (now state) (callStep node) ⌝ }
+    ensures { λ r. ⌜ Valued (take (scheme (now (table .entry))) (callStep node) (stateOf (scheme (now (table .entry))) (now (state .entry))) .value name) r ⌝ }
+{
+    let thread = node_thread(table, homes, definitions, node);
+    if name_thread(table, homes, definitions, name) != thread {
+        return value_of(table, state, name);
+    }
+    let called = field3(table, 10, node, 1);
+    if is_stop(table, field4(table, 8, called, 1)) {
+        return 65535;
+    }
+    let first = field4(table, 8, called, 2);
+    if name < first {
+        return 65535;
+    }
+    if name < first + field4(table, 8, called, 3) {
+        return value_of(
+            table,
+            state,
+            field1(table, 12, field3(table, 10, node, 2) + (name - first)),
+        );
+    }
+    65535
+}
+
+// A name's value after a step.
+fn value_after(
+    table: &[u16],
+    homes: &[u32],
+    definitions: &[u16],
+    state: &[u16],
+    step: Step,
+    name: usize,
+) -> usize
+    requires { ⌜ Going (now table) (now homes) (now definitions) (now state) (meant step) ⌝ }
+    ensures { λ r. ⌜ Valued (take (scheme (now (table .entry))) (meant step) (stateOf (scheme (now (table .entry))) (now (state .entry))) .value name) r ⌝ }
+{
+    match step {
+        Step::New(n) => value_after_new(table, homes, definitions, state, n, name),
+        Step::Silent(b) => value_after_silent(table, homes, definitions, state, b, name),
+        Step::Communicate(p) => value_after_meeting(
+            table,
+            homes,
+            definitions,
+            state,
+            p.send,
+            p.receive,
+            name,
+        ),
+        Step::Call(n) => value_after_call(table, homes, definitions, state, n, name),
+    }
+}
+
+// Where a thread stands after it went to a node.
+fn node_if(thread: usize, moved: usize, node: usize, before: usize) -> usize
+    requires { ⌜ (node < 65536) × (before < 65536) ⌝ }
+    ensures { λ r. ⌜ Number (pick (same thread moved) node before) r ⌝ }
+{
+    if thread == moved {
+        return node;
+    }
+    before
+}
+
+// Where a thread stands after a step.
+fn node_after(
+    table: &[u16],
+    homes: &[u32],
+    definitions: &[u16],
+    state: &[u16],
+    step: Step,
+    thread: usize,
+) -> usize
+    requires { ⌜ Going (now table) (now homes) (now definitions) (now state) (meant step) ⌝ }
+    ensures { λ r. ⌜ Number (take (scheme (now (table .entry))) (meant step) (stateOf (scheme (now (table .entry))) (now (state .entry))) .node thread) r ⌝ }
+{
+    let before = word16(state, thread);
+    match step {
+        Step::New(n) => node_if(
+            thread,
+            node_thread(table, homes, definitions, n),
+            field3(table, 10, n, 2),
+            before,
+        ),
+        Step::Silent(b) => node_if(
+            thread,
+            branch_thread(table, homes, definitions, b),
+            field4(table, 11, b, 3),
+            before,
+        ),
+        Step::Communicate(p) => {
+            let send = p.send;
+            let receive = p.receive;
+            let sent = node_if(
+                thread,
+                branch_thread(table, homes, definitions, send),
+                field4(table, 11, send, 3),
+                before,
+            );
+            node_if(
+                thread,
+                branch_thread(table, homes, definitions, receive),
+                field4(table, 11, receive, 3),
+                sent,
+            )
+        }
+        Step::Call(n) => {
+            let called = field3(table, 10, n, 1);
+            node_if(
+                thread,
+                node_thread(table, homes, definitions, n),
+                field4(table, 8, called, 1),
+                before,
+            )
+        }
+    }
+}
+
+// Writes where each thread stands after a step.
+fn write_nodes(
+    table: &[u16],
+    homes: &[u32],
+    definitions: &[u16],
+    state: &[u16],
+    step: Step,
+    out: &mut [u16],
+)
+    requires { ⌜ Going (now table) (now homes) (now definitions) (now state) (meant step) ⌝ }
+    ensures { λ r. ⌜ now (out .exit) ≡ sets (now (out .entry)) 0 (map (take (scheme (now (table .entry))) (meant step) (stateOf (scheme (now (table .entry))) (now (state .entry))) .node) (range (threads (now (table .entry))))) ⌝ }
+{
+    let threads = word16(table, 3);
+    let mut t = 0;
+    while t < threads {
+        store16(
+            out,
+            t,
+            node_after(table, homes, definitions, state, step, t) as u16,
+        );
+        t += 1;
+    }
+}
+
+// Where a value stands among the first `count` values seen, `count` where it does not.
+fn place_of(seen: &[u16], count: usize, value: usize) -> usize
+    requires { ⌜ count ≤ length (now seen) ⌝ }
+    ensures { λ r. ⌜ r ≡ place value (slice 0 count (now (seen .entry))) ⌝ }
+{
+    let mut i = 0;
+    while i < count {
+        if word16(seen, i) == value {
+            return i;
+        }
+        i += 1;
+    }
+    count
+}
+
+// A value's word, and how many private values have been seen once it has.
+pub struct Turn {
+    pub word: usize,
+    pub count: usize,
+}
+
+// The word of a value after the first `count` values seen; a private value that is new is noted.
+fn number(publics: usize, seen: &mut [u16], count: usize, value: usize) -> Turn
+    requires { ⌜ Numberable publics (now seen) count value ⌝ }
+    ensures { λ r. ⌜ Turned publics (now (seen .entry)) count value (now (seen .exit)) (r .word) (r .count) ⌝ }
+{
+    if value == 65535 {
+        return Turn {
+            word: 65535,
+            count: count,
+        };
+    }
+    if value < publics {
+        return Turn {
+            word: value,
+            count: count,
+        };
+    }
+    let place = place_of(seen, count, value);
+    if place == count {
+        store16(seen, count, value as u16);
+        return Turn {
+            word: publics + place,
+            count: count + 1,
+        };
+    }
+    Turn {
+        word: publics + place,
+        count: count,
+    }
+}
+
+// Writes the value of each bound name after a step, private values numbered by first appearance.
+fn write_values(
+    table: &[u16],
+    homes: &[u32],
+    definitions: &[u16],
+    state: &[u16],
+    step: Step,
+    out: &mut [u16],
+)
+    requires { ⌜ Going (now table) (now homes) (now definitions) (now state) (meant step) ⌝ }
+    ensures { λ r. ⌜ now (out .exit) ≡ sets (now (out .entry)) (threads (now (table .entry))) (valueWords (publics (now (table .entry))) [] (map (take (scheme (now (table .entry))) (meant step) (stateOf (scheme (now (table .entry))) (now (state .entry))) .value) (from (publics (now (table .entry))) (bounds (now (table .entry)))))) ⌝ }
+{
+    let publics = word16(table, 0);
+    let threads = word16(table, 3);
+    let bounds = word16(table, 1);
+    let mut seen = [0u16; 32];
+    let mut count = 0;
+    let mut i = 0;
+    while i < bounds {
+        let value = value_after(table, homes, definitions, state, step, publics + i);
+        let turn = number(publics, &mut seen, count, value);
+        store16(out, threads + i, turn.word as u16);
+        count = turn.count;
+        i += 1;
+    }
+}
+
+// Writes the words of the state after a step.
+pub(crate) fn write_state(
+    table: &[u16],
+    homes: &[u32],
+    definitions: &[u16],
+    state: &[u16],
+    step: Step,
+    out: &mut [u16],
+)
+    requires { ⌜ Going (now table) (now homes) (now definitions) (now state) (meant step) ⌝ }
+    ensures { λ r. ⌜ now (out .exit) ≡ sets (now (out .entry)) 0 (stateWords (scheme (now (table .entry))) (take (scheme (now (table .entry))) (meant step) (stateOf (scheme (now (table .entry))) (now (state .entry))))) ⌝ }
+{
+    write_nodes(table, homes, definitions, state, step, out);
+    write_values(table, homes, definitions, state, step, out);
+}
