@@ -1,0 +1,4 @@
+-- Definitions that only promises of private functions cite.
+pub mod Arcs
+pub mod Spans
+pub mod Writing

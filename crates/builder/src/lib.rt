@@ -1,0 +1,1 @@
+// The net of a table: definitions and laws.
