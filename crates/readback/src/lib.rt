@@ -1,0 +1,1 @@
+// Reading markings back: definitions.
