@@ -18,3 +18,8 @@ pub mod Weights
 pub mod Products
 pub mod Size
 pub mod Writing
+pub mod Shifts
+pub mod Loops
+pub mod Names
+pub mod Threads
+pub mod Counts

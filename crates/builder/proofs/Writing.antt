@@ -9,7 +9,7 @@ use Rattle.lists.specs.Lists.{from, flat, total}
 use Rattle.lists.proofs.Ranges.{from-more, from-done}
 use Rattle.net.specs.Net.{Transition, Net, arcsOf, recordWords, recordsFrom, recordsOffset, arcsOffset, headerWords, encode}
 use Rattle.net.proofs.Encode
-use Rattle.builder.specs.Inner.Writing.{writes, Heads, heads, putOne, putAll}
+use Rattle.builder.specs.Inner.Writing.{writes, Heads, heads, putOne, putAll, Inside}
 
 -- ---- words written one after the other
 
@@ -45,69 +45,79 @@ writes-behind a (y ∷ d) (x ∷ v) i e h =
 
 -- ---- lists of transitions
 
-module _ {A : Type 0} (f : A → Transition) (base : ℕ) where
-  pub put-none : (s : Heads) → putAll f base s [] ≡ s
+module _ {A : Type 0} (f : A → Transition) where
+  pub put-none : (s : Heads) → putAll f s [] ≡ s
   unfolding putAll
   put-none s = refl
 
-  pub put-cons : (s : Heads) (x : A) (xs : List A) → putAll f base s (x ∷ xs) ≡ putAll f base (putOne base s (f x)) xs
+  pub put-cons : (s : Heads) (x : A) (xs : List A) → putAll f s (x ∷ xs) ≡ putAll f (putOne s (f x)) xs
   unfolding putAll
   put-cons s x xs = refl
 
-  pub put-append : (s : Heads) (xs ys : List A) → putAll f base s (xs ++ ys) ≡ putAll f base (putAll f base s xs) ys
+  pub put-append : (s : Heads) (xs ys : List A) → putAll f s (xs ++ ys) ≡ putAll f (putAll f s xs) ys
   unfolding putAll
   put-append s [] ys = refl
-  put-append s (x ∷ xs) ys = put-append (putOne base s (f x)) xs ys
+  put-append s (x ∷ xs) ys = put-append (putOne s (f x)) xs ys
 
   -- a loop over the numbers from i to e, with one transition or a list of them for each
   pub put-map-more : (g : ℕ → A) (s : Heads) (i e : ℕ) → i < e
-      → putAll f base s (map g (from i (e - i))) ≡ putAll f base (putOne base s (f (g i))) (map g (from (i + 1) (e - (i + 1))))
+      → putAll f s (map g (from i (e - i))) ≡ putAll f (putOne s (f (g i))) (map g (from (i + 1) (e - (i + 1))))
   unfolding putAll
   put-map-more g s i e h = rw (from-more i e h)
 
-  pub put-map-done : (g : ℕ → A) (s : Heads) (i e : ℕ) → e ≤ i → putAll f base s (map g (from i (e - i))) ≡ s
+  pub put-map-done : (g : ℕ → A) (s : Heads) (i e : ℕ) → e ≤ i → putAll f s (map g (from i (e - i))) ≡ s
   unfolding putAll
   put-map-done g s i e h = rw (from-done i e h)
 
   pub put-flat-more : (g : ℕ → List A) (s : Heads) (i e : ℕ) → i < e
-      → putAll f base s (flat g (from i (e - i))) ≡ putAll f base (putAll f base s (g i)) (flat g (from (i + 1) (e - (i + 1))))
+      → putAll f s (flat g (from i (e - i))) ≡ putAll f (putAll f s (g i)) (flat g (from (i + 1) (e - (i + 1))))
   unfolding flat
   put-flat-more g s i e h = rw (from-more i e h) (put-append s (g i) (flat g (from (i + 1) (e - (i + 1)))))
 
-  pub put-flat-done : (g : ℕ → List A) (s : Heads) (i e : ℕ) → e ≤ i → putAll f base s (flat g (from i (e - i))) ≡ s
+  pub put-flat-done : (g : ℕ → List A) (s : Heads) (i e : ℕ) → e ≤ i → putAll f s (flat g (from i (e - i))) ≡ s
   unfolding putAll flat
   put-flat-done g s i e h = rw (from-done i e h)
 
   -- a loop over the places of a list of numbers
-  pub put-list-more : (g : ℕ → A) (s : Heads) (v : ℕ) (vs : List ℕ) → putAll f base s (map g (v ∷ vs)) ≡ putAll f base (putOne base s (f (g v))) (map g vs)
+  pub put-list-more : (g : ℕ → A) (s : Heads) (v : ℕ) (vs : List ℕ) → putAll f s (map g (v ∷ vs)) ≡ putAll f (putOne s (f (g v))) (map g vs)
   unfolding putAll
   put-list-more g s v vs = refl
 
   -- ---- where the heads point, and how long the buffer is
 
-  pub put-number : (s : Heads) (xs : List A) → putAll f base s xs .number ≡ s .number + length xs
+  pub put-place : (s : Heads) (xs : List A) → putAll f s xs .place ≡ s .place + 6 * length xs
   unfolding putAll
-  put-number s [] = omega arith
-  put-number s (x ∷ xs) = omega (arith, put-number (putOne base s (f x)) xs)
+  put-place s [] = omega arith
+  put-place s (x ∷ xs) = omega (arith, put-place (putOne s (f x)) xs)
 
-  pub put-arc : (s : Heads) (xs : List A) → putAll f base s xs .arc ≡ s .arc + total (map (λ x. length (arcsOf (f x))) xs)
+  pub put-arc : (s : Heads) (xs : List A) → putAll f s xs .arc ≡ s .arc + total (map (λ x. length (arcsOf (f x))) xs)
   unfolding putAll total
   put-arc s [] = omega arith
-  put-arc s (x ∷ xs) = omega (arith, put-arc (putOne base s (f x)) xs)
+  put-arc s (x ∷ xs) = omega (arith, put-arc (putOne s (f x)) xs)
 
-  pub put-length : (s : Heads) (xs : List A) → length (putAll f base s xs .out) ≡ length (s .out)
+  pub put-length : (s : Heads) (xs : List A) → length (putAll f s xs .out) ≡ length (s .out)
   unfolding putAll
   put-length s [] = refl
   put-length s (x ∷ xs) =
-      put-length (putOne base s (f x)) xs
-      ∙ writes-length (writes (s .out) (base + 6 * s .number) (recordWords (s .arc) (f x))) (s .arc) (arcsOf (f x))
-      ∙ writes-length (s .out) (base + 6 * s .number) (recordWords (s .arc) (f x))
+      put-length (putOne s (f x)) xs
+      ∙ writes-length (writes (s .out) (s .place) (recordWords (s .arc) (f x))) (s .arc) (arcsOf (f x))
+      ∙ writes-length (s .out) (s .place) (recordWords (s .arc) (f x))
+
+  -- where the heads of a whole list are within the image, those of its first part are
+  pub inside-first : (s : Heads) (xs ys : List A) → Inside (putAll f s (xs ++ ys)) → Inside (putAll f s xs)
+  inside-first s xs ys h =
+      let e = put-append s xs ys in
+      let p = put-place (putAll f s xs) ys in
+      let a = put-arc (putAll f s xs) ys in
+      let q : putAll f s (xs ++ ys) .place ≡ putAll f (putAll f s xs) ys .place = ap (λ (t : Heads). t .place) e in
+      let b : putAll f s (xs ++ ys) .arc ≡ putAll f (putAll f s xs) ys .arc = ap (λ (t : Heads). t .arc) e in
+      record { place-small = omega (arith, h .place-small); arc-small = omega (arith, h .arc-small) }
 
   -- ---- all that was written, as lists: a stands before the head of the records, g is the room of the records, b are the arcs so far, h is the room behind
 
-  layout : (k arc : ℕ) (a g b h : List ℕ) (xs : List A) → length a ≡ base + 6 * k → length g ≡ 6 * length xs → length a + (length g + length b) ≡ arc
+  layout : (k arc : ℕ) (a g b h : List ℕ) (xs : List A) → length a ≡ k → length g ≡ 6 * length xs → length a + (length g + length b) ≡ arc
       → length (flat arcsOf (map f xs)) ≤ length h
-      → putAll f base (heads (a ++ (g ++ (b ++ h))) k arc) xs .out
+      → putAll f (heads (a ++ (g ++ (b ++ h))) k arc) xs .out
       ≡ a ++ (recordsFrom arc (map f xs) ++ (b ++ (flat arcsOf (map f xs) ++ drop (length (flat arcsOf (map f xs))) h)))
   unfolding putAll recordsFrom flat
   layout k arc a [] b h [] e r c l = refl
@@ -119,15 +129,15 @@ module _ {A : Type 0} (f : A → Transition) (base : ℕ) where
       let rest = flat arcsOf (map f xs) in
       let g′ = drop 6 g in
       let lv = length-append v rest in
-      let one : writes (a ++ (g ++ (b ++ h))) (base + 6 * k) w ≡ (a ++ w) ++ (g′ ++ (b ++ h)) =
-      writes-behind a (g ++ (b ++ h)) w (base + 6 * k) e (omega (arith, length-append g (b ++ h)))
+      let one : writes (a ++ (g ++ (b ++ h))) k w ≡ (a ++ w) ++ (g′ ++ (b ++ h)) =
+      writes-behind a (g ++ (b ++ h)) w k e (omega (arith, length-append g (b ++ h)))
       ∙ rw (drop-append-le 6 g (b ++ h) (omega arith)) (sym (append-assoc a w (g′ ++ (b ++ h)))) in
       let two : writes ((a ++ w) ++ (g′ ++ (b ++ h))) arc v ≡ (a ++ w) ++ (g′ ++ ((b ++ v) ++ drop (length v) h)) =
       ap (λ (o : List ℕ). writes o arc v) (simp append-assoc)
       ∙ writes-behind ((a ++ w) ++ (g′ ++ b)) h v arc (simp (length-append, length-drop) (omega arith)) (omega arith)
       ∙ simp append-assoc in
-      ap (λ (o : List ℕ). putAll f base (heads o (k + 1) (arc + length v)) xs .out) (ap (λ (o : List ℕ). writes o arc v) one ∙ two)
-      ∙ layout (k + 1) (arc + length v) (a ++ w) g′ (b ++ v) (drop (length v) h) xs
+      ap (λ (o : List ℕ). putAll f (heads o (k + 6) (arc + length v)) xs .out) (ap (λ (o : List ℕ). writes o arc v) one ∙ two)
+      ∙ layout (k + 6) (arc + length v) (a ++ w) g′ (b ++ v) (drop (length v) h) xs
       (simp length-append (omega arith)) (simp length-drop (omega arith)) (simp (length-append, length-drop) (omega arith)) (simp length-drop (omega arith))
       ∙ rw (drop-drop, lv) (simp append-assoc)
 
@@ -167,7 +177,7 @@ module _ {A : Type 0} (f : A → Transition) (net : Net) (xs : List A) (is : net
       ap (λ (ts : List Transition). headerWords net ++ (net .initial ++ (recordsFrom (arcsOffset net) ts ++ flat arcsOf ts))) is
       ∙ sym (append-assoc (headerWords net) (net .initial) (recordsFrom (arcsOffset net) (map f xs) ++ arcs))
 
-  pub written : putAll f (recordsOffset net) (heads (begun net out) 0 (arcsOffset net)) xs .out ≡ encode net ++ drop (length (encode net)) out
+  pub written : putAll f (heads (begun net out) (recordsOffset net) (arcsOffset net)) xs .out ≡ encode net ++ drop (length (encode net)) out
   written =
       let t : length (net .transitions) ≡ length xs = ap (λ (ts : List Transition). length ts) is ∙ length-map xs f in
       let b : length behind ≡ length out - (8 + length (net .initial)) = simp length-drop (omega arith) in
@@ -179,9 +189,9 @@ module _ {A : Type 0} (f : A → Transition) (net : Net) (xs : List A) (is : net
       let lh : length h ≡ length behind - 6 * length xs = length-drop (6 * length xs) behind in
       let la : length a ≡ 8 + length (net .initial) = length-append (headerWords net) (net .initial) in
       let grouped : a ++ (r ++ (arcs ++ drop (length (encode net)) out)) ≡ (a ++ (r ++ arcs)) ++ drop (length (encode net)) out = simp append-assoc in
-      ap (λ (o : List ℕ). putAll f (recordsOffset net) (heads o 0 (arcsOffset net)) xs .out)
+      ap (λ (o : List ℕ). putAll f (heads o (recordsOffset net) (arcsOffset net)) xs .out)
       (begun-is ∙ ap (λ (l : List ℕ). a ++ l) (sym (take-append-drop (6 * length xs) behind)))
-      ∙ layout f (recordsOffset net) 0 (arcsOffset net) a g [] h xs (omega arith) lg (omega arith) (omega (arith, image-length))
+      ∙ layout f (recordsOffset net) (arcsOffset net) a g [] h xs (omega arith) lg (omega arith) (omega (arith, image-length))
       ∙ ap (λ (l : List ℕ). a ++ (r ++ (arcs ++ l))) rest-is
       ∙ grouped
       ∙ ap (λ (l : List ℕ). l ++ drop (length (encode net)) out) (sym encode-is)

@@ -2,3 +2,5 @@
 pub mod Arcs
 pub mod Spans
 pub mod Writing
+pub mod Plan
+pub mod Counting

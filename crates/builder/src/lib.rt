@@ -1,1 +1,5 @@
-// The net of a table: definitions and laws.
+// The net of a table, as an image.
+mod count;
+mod insertion;
+mod layout;
+mod write;

@@ -1,6 +1,6 @@
 -- A buffer that is written at two heads: records at one, arcs at the other.
 use mathlib.Core.List.{List, [], _∷_}
-use Prim.Native.Nat.{ℕ, _+_, _*_}
+use Prim.Native.Nat.{ℕ, _+_, _<_}
 use lib.ListN.{length, set}
 use Rattle.net.specs.Net.{Transition, arcsOf, recordWords}
 
@@ -9,21 +9,25 @@ unfoldable pub writes : List ℕ → ℕ → List ℕ → List ℕ
 writes out i [] = out
 writes out i (v ∷ vs) = writes (set out i v) (i + 1) vs
 
--- the buffer, the number of the next record, and where the next arc goes
+-- the buffer, where the next record goes, and where the next arc goes
 pub record Heads : Type 0 where
   pub out : List ℕ
-  pub number : ℕ
+  pub place : ℕ
   pub arc : ℕ
 
 abbrev pub heads : List ℕ → ℕ → ℕ → Heads
-heads out number arc = record { out = out; number = number; arc = arc }
+heads out place arc = record { out = out; place = place; arc = arc }
 
--- the record of a transition and its arcs; the first record is at `base`
-abbrev pub putOne : ℕ → Heads → Transition → Heads
-putOne base s t =
-    heads (writes (writes (s .out) (base + 6 * s .number) (recordWords (s .arc) t)) (s .arc) (arcsOf t)) (s .number + 1) (s .arc + length (arcsOf t))
+-- the record of a transition and its arcs
+abbrev pub putOne : Heads → Transition → Heads
+putOne s t = heads (writes (writes (s .out) (s .place) (recordWords (s .arc) t)) (s .arc) (arcsOf t)) (s .place + 6) (s .arc + length (arcsOf t))
 
 -- those of all elements of a list, each of which is a transition
-unfoldable pub putAll : {A : Type 0} → (A → Transition) → ℕ → Heads → List A → Heads
-putAll f base s [] = s
-putAll f base s (x ∷ xs) = putAll f base (putOne base s (f x)) xs
+unfoldable pub putAll : {A : Type 0} → (A → Transition) → Heads → List A → Heads
+putAll f s [] = s
+putAll f s (x ∷ xs) = putAll f (putOne s (f x)) xs
+
+-- both heads are within an image of 32-bit offsets
+pub record Inside (s : Heads) : Type 0 where
+  pub place-small : s .place < 4294967296
+  pub arc-small : s .arc < 4294967296

@@ -1,0 +1,145 @@
+// Where places stand: rows of names, [*≠n], control places of nodes.
+ghost use mathlib.Core.Path.{_≡_};
+ghost use Prim.Native.Nat.{_+_, _-_, _*_, _<_, _≤_};
+ghost use lib.ListN.{length};
+ghost use Rattle.table.specs.Words.{publics, bounds, names, nodes};
+ghost use Rattle.table.specs.Scheme.{scheme};
+ghost use Rattle.builder.specs.Places.{controls, equals, differs, free};
+ghost use Rattle.builder.specs.Rows.{rowLength, freeStart, numberOf};
+ghost use Rattle.builder.specs.Inner.Plan.{today, values, freeNames, Rowed};
+ghost use Rattle.builder.specs.Inner.Plan.{RowsBelow, Lists, Holds, Differs};
+use lists::store32;
+use lists::word16;
+use lists::word32;
+use table::fields::name_kind;
+
+// The counts that place numbers are made of: P, N, where [*≠n] starts, where control places start, how many places
+// there are, and how many tokens at first.
+pub struct Layout {
+    pub publics: usize,
+    pub bounds: usize,
+    pub privates: usize,
+    pub free: usize,
+    pub controls: usize,
+    pub places: usize,
+    pub tokens: usize,
+}
+
+// The values of a name: the publics from `low` up to `high`, then all private ones or none.
+pub struct Reach {
+    pub low: usize,
+    pub high: usize,
+    pub privates: bool,
+}
+
+pub(crate) fn is_restricted(table: &[u16], name: usize) -> bool
+    requires { ⌜ name < names (now table) ⌝ }
+    ensures { λ r. ⌜ r ≡ scheme (now (table .entry)) .restricted name ⌝ }
+{
+    if name < word16(table, 0) {
+        return false;
+    }
+    name_kind(table, name) == 0
+}
+
+pub(crate) fn reach_of(table: &[u16], name: usize) -> Reach
+    requires { ⌜ name < names (now table) ⌝ }
+    ensures { λ r. ⌜ Lists (publics (now (table .entry))) (bounds (now (table .entry))) r (values (now (table .entry)) name) ⌝ }
+{
+    let publics = word16(table, 0);
+    if name < publics {
+        return Reach {
+            low: name,
+            high: name + 1,
+            privates: false,
+        };
+    }
+    if name_kind(table, name) == 0 {
+        return Reach {
+            low: 0,
+            high: 0,
+            privates: true,
+        };
+    }
+    Reach {
+        low: 0,
+        high: publics,
+        privates: true,
+    }
+}
+
+// How many places a name's row has.
+fn row_length(table: &[u16], name: usize) -> usize
+    requires { ⌜ (publics (now table) ≤ name) × (name < names (now table)) ⌝ }
+    ensures { λ r. ⌜ (r ≡ rowLength (scheme (now (table .entry))) (today (now (table .entry))) name)
+        × (r ≤ publics (now (table .entry)) + 2 * bounds (now (table .entry))) ⌝ }
+{
+    if name_kind(table, name) == 0 {
+        return word16(table, 1);
+    }
+    word16(table, 0) + 2 * word16(table, 1)
+}
+
+// Fills in where each name's row starts and returns where they end.
+fn fill_rows(table: &[u16], rows: &mut [u32]) -> usize
+    requires { ⌜ (publics (now table) ≤ 32) × (bounds (now table) ≤ 32) × (64 ≤ length (now rows)) ⌝ }
+    ensures { λ r. ⌜ (r ≡ freeStart (scheme (now (table .entry))) (today (now (table .entry))))
+        × (r ≤ 3072)
+        × RowsBelow (now (table .entry)) (now (rows .exit)) (names (now (table .entry))) ⌝ }
+{
+    let publics = word16(table, 0);
+    let end = publics + word16(table, 1);
+    let mut at = 0;
+    let mut x = publics;
+    while x < end {
+        store32(rows, x, at as u32);
+        at += row_length(table, x);
+        x += 1;
+    }
+    at
+}
+
+// How many bound names are not restricted.
+pub(crate) fn free_names(table: &[u16]) -> usize
+    ensures { λ r. ⌜ (r ≡ freeNames (now (table .entry))) × (r ≤ bounds (now (table .entry))) ⌝ }
+{
+    let publics = word16(table, 0);
+    let end = publics + word16(table, 1);
+    let mut count = 0;
+    let mut x = publics;
+    while x < end {
+        if name_kind(table, x) != 0 {
+            count += 1;
+        }
+        x += 1;
+    }
+    count
+}
+
+// The number of [x=v].
+pub(crate) fn equals(table: &[u16], rows: &[u32], plan: Layout, name: usize, v: usize) -> u32
+    requires { ⌜ Rowed (now table) (now rows) plan × Holds (now table) name v ⌝ }
+    ensures { λ r. ⌜ r ≡ numberOf (scheme (now (table .entry))) (today (now (table .entry))) (equals name v) ⌝ }
+{
+    let row = word32(rows, name);
+    if is_restricted(table, name) {
+        return (row + (v - plan.publics)) as u32;
+    }
+    (row + v) as u32
+}
+
+// The number of [x≠v].
+pub(crate) fn differs(table: &[u16], rows: &[u32], plan: Layout, name: usize, v: usize) -> u32
+    requires { ⌜ Rowed (now table) (now rows) plan × Differs (now table) name v ⌝ }
+    ensures { λ r. ⌜ r ≡ numberOf (scheme (now (table .entry))) (today (now (table .entry))) (differs name v) ⌝ }
+{
+    (word32(rows, name) + plan.privates + v) as u32
+}
+
+// The number of [*≠v].
+pub(crate) fn free_place(table: &[u16], rows: &[u32], plan: Layout, v: usize) -> u32
+    requires { ⌜ Rowed (now table) (now rows) plan × (publics (now table) ≤ v) × (v < names (now table)) ⌝ }
+    ensures { λ r. ⌜ r ≡ numberOf (scheme (now (table .entry))) (today (now (table .entry))) (free v) ⌝ }
+{
+    (plan.free + (v - plan.publics)) as u32
+}
