@@ -2,12 +2,13 @@
 ghost use mathlib.Core.Path.{_≡_};
 ghost use Prim.Native.Nat.{_+_, _-_, _*_, _<_, _≤_};
 ghost use lib.ListN.{length};
+ghost use Rattle.lists.specs.Lists.{word};
 ghost use Rattle.table.specs.Words.{publics, bounds, names, nodes};
 ghost use Rattle.table.specs.Scheme.{scheme};
 ghost use Rattle.builder.specs.Places.{controls, equals, differs, free};
 ghost use Rattle.builder.specs.Rows.{rowLength, freeStart, numberOf};
 ghost use Rattle.builder.specs.Inner.Plan.{today, values, freeNames, Rowed};
-ghost use Rattle.builder.specs.Inner.Plan.{RowsBelow, Lists, Holds, Differs};
+ghost use Rattle.builder.specs.Inner.Plan.{RowsBelow, Lists, Holds, Differs, reached};
 use lists::store32;
 use lists::word16;
 use lists::word32;
@@ -66,6 +67,30 @@ pub(crate) fn reach_of(table: &[u16], name: usize) -> Reach
         high: publics,
         privates: true,
     }
+}
+
+// Value k of a name's reach.
+pub(crate) fn value_at(plan: Layout, values: Reach, k: usize) -> usize
+    requires { ⌜ (values .low ≤ values .high) × (values .high ≤ 65536) × (plan .publics < 65536) × (plan .privates < 65536)
+        × (k < length (reached (plan .publics) (plan .privates) values)) ⌝ }
+    ensures { λ r. ⌜ r ≡ word (reached (plan .publics) (plan .privates) values) k ⌝ }
+{
+    let publics = values.high - values.low;
+    if k < publics {
+        return values.low + k;
+    }
+    plan.publics + (k - publics)
+}
+
+pub(crate) fn value_count(plan: Layout, values: Reach) -> usize
+    requires { ⌜ (values .low ≤ values .high) × (values .high ≤ 65536) × (plan .privates < 65536) ⌝ }
+    ensures { λ r. ⌜ r ≡ length (reached (plan .publics) (plan .privates) values) ⌝ }
+{
+    let publics = values.high - values.low;
+    if values.privates {
+        return publics + plan.privates;
+    }
+    publics
 }
 
 // How many places a name's row has.

@@ -1,5 +1,8 @@
 // The net of a table, as an image.
+mod chain;
+mod communications;
 mod count;
 mod insertion;
 mod layout;
+mod marking;
 mod write;

@@ -5,7 +5,7 @@ use mathlib.Core.List.{List, [], _∷_, _++_, map}
 use Prim.Native.Nat.{ℕ, _+_, _-_, _*_, _≤_, _<_}
 use lib.ListN.{length, take}
 use Rattle.lists.specs.Lists.{pick, word, from, range, keep, flat, member, ascends}
-use Rattle.table.specs.Words.{publics, bounds, names, nodes, branches, argument, channel, branchName, next, nodeFirst, nodeSecond}
+use Rattle.table.specs.Words.{publics, bounds, names, nodes, branches, argument, channel, branchName, next, nodeFirst, nodeSecond, isSend, isReceive}
 use Rattle.table.specs.Owners.{owner, home, definition}
 use Rattle.table.specs.Index.{ownerNumber}
 use Rattle.table.specs.Scheme.{Scheme, scheme}
@@ -23,8 +23,8 @@ use Rattle.builder.specs.Inner.Writing.{heads, putAll}
 use Rattle.builder.specs.declared.layout.Layout.{Layout}
 use Rattle.builder.specs.declared.layout.Reach.{Reach}
 use Rattle.builder.specs.declared.write.Heads.{Heads}
-use Rattle.builder.specs.declared.write.Chain.{Chain}
-use Rattle.builder.specs.declared.write.Pair.{Pair}
+use Rattle.builder.specs.declared.chain.Chain.{Chain}
+use Rattle.builder.specs.declared.communications.Pair.{Pair}
 
 -- the values of today's names
 abbrev pub today : List ℕ → Values
@@ -155,8 +155,16 @@ abbrev pub told : List ℕ → ℕ → ℕ → ℕ → ℕ → Description
 told w s r i j =
     communicating (scheme w) (today w) s (channel w s) (branchName w s) (next w s) r (channel w r) (branchName w r) (next w r) i j
 
--- the places of a send and a receive
+-- a send and a receive, the names that they use, and the places before and after them
 pub record Paired (w : List ℕ) (p : Pair) : Type 0 where
+  pub send-inside : p .send < branches w
+  pub receive-inside : p .receive < branches w
+  pub sends : isSend w (p .send) ≡ true
+  pub receives : isReceive w (p .receive) ≡ true
+  pub channel-is : p .channel ≡ channel w (p .send)
+  pub sent-is : p .sent ≡ branchName w (p .send)
+  pub heard-is : p .heard ≡ channel w (p .receive)
+  pub bound-is : p .bound ≡ branchName w (p .receive)
   pub sender-is : p .sender ≡ controlOf w (home w (p .send))
   pub onsend-is : p .onsend ≡ controlOf w (next w (p .send))
   pub receiver-is : p .receiver ≡ controlOf w (home w (p .receive))

@@ -1,4 +1,4 @@
--- `builder::write::count_up` meets its contract. Loop: the numbers left are still to be written. Measure: numbers left.
+-- `builder::marking::count_up` meets its contract. Loop: the numbers left are still to be written. Measure: numbers left.
 use mathlib.Core.Path.{_≡_, refl, sym, ap, _∙_}
 use Prim.Native.Nat.{ℕ, _+_, _-_, _≤_, _<_}
 use native.Mathlib.Omega.{arith}
@@ -8,8 +8,8 @@ use Rattle.lists.specs.Lists.{from}
 use Rattle.builder.specs.Inner.Writing.{writes}
 use Rattle.builder.proofs.Loops.{up-more, up-done}
 use native.Mathlib.Nat.{add-zero, sub-zero}
-use Rattle.builder.proofs.write.count_up.Statement.{statement}
-use Rattle.builder.proofs.write.count_up.Tie as tie
+use Rattle.builder.proofs.marking.count_up.Statement.{statement}
+use Rattle.builder.proofs.marking.count_up.Tie as tie
 use Rattle.lists.proofs.store32.Reads as store32-reads
 
 abbrev Inv-loop : tie.InvT-loop

@@ -1,8 +1,8 @@
--- `builder::write::on` meets its contract.
+-- `builder::chain::on` meets its contract.
 use borrow.Author.Tests.{lt-ltb, le-ltb}
 use borrow.Author.Needs.{needs}
-use Rattle.builder.proofs.write.on.Statement.{statement}
-use Rattle.builder.proofs.write.on.Tie as tie
+use Rattle.builder.proofs.chain.on.Statement.{statement}
+use Rattle.builder.proofs.chain.on.Tie as tie
 
 add-if1 : tie.Need-add-if1
 add-if1 c = search needs
