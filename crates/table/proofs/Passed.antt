@@ -2,11 +2,10 @@
 use mathlib.Core.Path.{_≡_, refl}
 use mathlib.Core.Bool.{Bool, true, false}
 use mathlib.Core.List.{List, [], _∷_}
-use Prim.Native.Nat.{ℕ, _+_, _≤_}
+use Prim.Native.Nat.{ℕ, _≤_}
 use native.Mathlib.Omega.{arith}
 use Rattle.lists.specs.Lists.{pick}
-use Rattle.lists.proofs.Tests.{Holds}
-use Rattle.table.specs.Causes.{longEnough, countsRight, layoutRight, kindsRight, rangesRight, shapeRight, bindingRight, scopeRight, callsRight, cause}
+use Rattle.table.specs.Causes.{longEnough, countsRight, layoutRight, kindsRight, rangesRight, shapeRight, bindingRight, scopeRight, callsRight, firstFailed, tests, cause}
 
 pub record Passed (w : List ℕ) : Type 0 where
   pub long : longEnough w ≡ true
@@ -19,32 +18,50 @@ pub record Passed (w : List ℕ) : Type 0 where
   pub scope : scopeRight w ≡ true
   pub calls : callsRight w ≡ true
 
--- the number of the first test that fails, the first of them having number n; 0 where all hold
-abbrev firstFailed : ℕ → Bool → List Bool → ℕ
-firstFailed n a [] = pick a 0 n
-firstFailed n a (b ∷ bs) = pick a (firstFailed (n + 1) b bs) n
+-- the causes have numbers from 1 on
+abbrev Numbered : List (ℕ × Bool) → Type 0
+Numbered [] = Unit {0}
+Numbered (t ∷ ts) = (1 ≤ t .0) × Numbered ts
 
-none-failed : (n : ℕ) (a : Bool) (bs : List Bool) → 1 ≤ n → firstFailed n a bs ≡ 0 → Holds a bs
-none-failed n true [] l h = refl
-none-failed n false [] l h = absurd (omega arith)
-none-failed n true (b ∷ bs) l h = (refl, none-failed (n + 1) b bs (omega arith) h)
-none-failed n false (b ∷ bs) l h = absurd (omega arith)
+abbrev AllHold : List (ℕ × Bool) → Type 0
+AllHold [] = Unit {0}
+AllHold (t ∷ ts) = (t .1 ≡ true) × AllHold ts
 
+one-held : (b : Bool) (rest n : ℕ) → 1 ≤ n → pick b rest n ≡ 0 → (b ≡ true) × (rest ≡ 0)
+one-held true rest n l h = (refl, h)
+one-held false rest n l h = absurd (omega arith)
+
+none-failed : (ts : List (ℕ × Bool)) → Numbered ts → firstFailed ts ≡ 0 → AllHold ts
+unfolding firstFailed
+none-failed [] n h = tt
+none-failed (t ∷ ts) n h =
+    let o = one-held (t .1) (firstFailed ts) (t .0) (n .0) h in
+    (o .0, none-failed ts (n .1) (o .1))
+
+-- in whatever order the tests stand
 pub passed : (w : List ℕ) → cause w ≡ 0 → Passed w
 unfolding cause
 passed w h =
-    let t =
-    none-failed 1 (longEnough w)
-    (countsRight w ∷ layoutRight w ∷ kindsRight w ∷ rangesRight w ∷ shapeRight w ∷ bindingRight w ∷ scopeRight w ∷ callsRight w ∷ []) (omega arith) h
-    in
+    let l : Numbered (tests w) =
+    (omega arith, (omega arith, (omega arith, (omega arith, (omega arith, (omega arith, (omega arith, (omega arith, (omega arith, tt))))))))) in
+    let t = none-failed (tests w) l h in
+    let t1 = t .0 in
+    let t2 = t .1 .0 in
+    let t3 = t .1 .1 .0 in
+    let t4 = t .1 .1 .1 .0 in
+    let t5 = t .1 .1 .1 .1 .0 in
+    let t6 = t .1 .1 .1 .1 .1 .0 in
+    let t7 = t .1 .1 .1 .1 .1 .1 .0 in
+    let t8 = t .1 .1 .1 .1 .1 .1 .1 .0 in
+    let t9 = t .1 .1 .1 .1 .1 .1 .1 .1 .0 in
     record {
-      long = t .0;
-      counts = t .1 .0;
-      layout = t .1 .1 .0;
-      kinds = t .1 .1 .1 .0;
-      ranges = t .1 .1 .1 .1 .0;
-      shape = t .1 .1 .1 .1 .1 .0;
-      binding = t .1 .1 .1 .1 .1 .1 .0;
-      scope = t .1 .1 .1 .1 .1 .1 .1 .0;
-      calls = t .1 .1 .1 .1 .1 .1 .1 .1;
+      long = cc;
+      counts = cc;
+      layout = cc;
+      kinds = cc;
+      ranges = cc;
+      shape = cc;
+      binding = cc;
+      scope = cc;
+      calls = cc;
     }

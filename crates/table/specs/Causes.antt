@@ -8,6 +8,11 @@ use Rattle.lists.specs.Lists.{pick, bit, same, word, from, range, every, flat, 
 use Rattle.table.specs.Words.{publics, bounds, definitions, threads, nodes, branches, arguments, names, isPublic, isBound, nameKind, definitionThread, root, firstFormal, formalCount, formals, entry, nodeKind, nodeFirst, nodeSecond, isStop, isChoice, isNew, isCall, branchesOf, branchKind, channel, branchName, next, isSilent, isSend, isReceive, argument, argumentsOf}
 use Rattle.table.specs.Owners.{held, definition}
 
+-- the number of the first test that does not hold, 0 if all hold
+unfoldable pub firstFailed : List (ℕ × Bool) → ℕ
+firstFailed [] = 0
+firstFailed (t ∷ ts) = pick (t .1) (firstFailed ts) (t .0)
+
 module _ (w : List ℕ) where
   -- 1: "under 13 words"
   unfoldable pub longEnough : Bool
@@ -164,23 +169,21 @@ module _ (w : List ℕ) where
   unfoldable pub callsRight : Bool
   callsRight = every entryRight (range (threads w)) && every callRight (range (nodes w))
 
+  -- each cause's number, and whether the table passes its test, in the order of testing
+  abbrev pub tests : List (ℕ × Bool)
+  tests =
+      (1, longEnough) ∷
+      (2, countsRight) ∷
+      (3, layoutRight) ∷
+      (4, kindsRight) ∷
+      (5, rangesRight) ∷
+      (6, shapeRight) ∷
+      (7, bindingRight) ∷
+      (8, scopeRight) ∷
+      (9, callsRight) ∷
+      []
+
   -- "Checked in number order save as said below, each over the whole table before the next": the first cause that applies, 0 if none
   unfoldable pub cause : ℕ
-  cause =
-      pick longEnough
-      (pick countsRight
-      (pick layoutRight
-      (pick kindsRight
-      (pick rangesRight
-      (pick shapeRight
-      (pick bindingRight
-      (pick scopeRight
-      (pick callsRight 0 9)
-      8)
-      7)
-      6)
-      5)
-      4)
-      3)
-      2)
-      1
+  unfolding firstFailed
+  cause = firstFailed tests
