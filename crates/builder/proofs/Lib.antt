@@ -23,3 +23,7 @@ pub mod Loops
 pub mod Names
 pub mod Threads
 pub mod Counts
+pub mod Controls
+pub mod ByWords
+pub mod Reaches
+pub mod Tokens

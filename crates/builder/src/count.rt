@@ -6,7 +6,7 @@ ghost use lib.Dec.{ltb};
 ghost use Rattle.lists.specs.Lists.{pick, bit};
 ghost use Rattle.table.specs.Words.{names, branches, argument};
 ghost use Rattle.table.specs.Owners.{branchThread};
-ghost use Rattle.builder.specs.Inner.Plan.{Counted, Defined};
+ghost use Rattle.builder.specs.Inner.Plan.{Counted, Defined, InBoth};
 ghost use Rattle.builder.specs.Inner.Counting.{Few, sumsOf, addTimes};
 ghost use Rattle.builder.specs.Inner.Counting.{releaseSums, copySums};
 use crate::layout::Layout;
@@ -96,6 +96,20 @@ fn both(a: bool, b: bool) -> bool
         return b;
     }
     false
+}
+
+// The values that two names both may hold.
+pub(crate) fn common(a: Reach, b: Reach) -> Reach
+    ensures { λ r. ⌜ InBoth a b r ⌝ }
+{
+    let low = larger(a.low, b.low);
+    let high = larger(low, smaller(a.high, b.high));
+    let privates = both(a.privates, b.privates);
+    Reach {
+        low,
+        high,
+        privates,
+    }
 }
 
 // How many private values there are among the values of a name.

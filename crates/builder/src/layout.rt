@@ -7,11 +7,13 @@ ghost use Rattle.table.specs.Words.{publics, bounds, names, nodes};
 ghost use Rattle.table.specs.Scheme.{scheme};
 ghost use Rattle.builder.specs.Places.{controls, equals, differs, free};
 ghost use Rattle.builder.specs.Rows.{rowLength, freeStart, numberOf};
-ghost use Rattle.builder.specs.Inner.Plan.{today, values, freeNames, Rowed};
-ghost use Rattle.builder.specs.Inner.Plan.{RowsBelow, Lists, Holds, Differs, reached};
+ghost use Rattle.builder.specs.Inner.Plan.{today, values, controlOf, freeNames, Known, Rowed, Laid};
+ghost use Rattle.builder.specs.Inner.Plan.{RowsBelow, SpotsBelow, Lists, Holds, Differs, reached};
 use lists::store32;
 use lists::word16;
 use lists::word32;
+use table::fields::field3;
+use table::fields::field4;
 use table::fields::name_kind;
 
 // The counts that place numbers are made of: P, N, where [*≠n] starts, where control places start, how many places
@@ -124,6 +126,50 @@ fn fill_rows(table: &[u16], rows: &mut [u32]) -> usize
     at
 }
 
+// How many control places a node has.
+pub(crate) fn control_count(table: &[u16], owners: &[u32], homes: &[u32], node: usize) -> usize
+    requires { ⌜ Known (now table) (now owners) (now homes) × (node < nodes (now table)) ⌝ }
+    ensures { λ r. ⌜ (r ≡ controls (scheme (now (table .entry))) node) × (r ≤ 65) ⌝ }
+{
+    let kind = field3(table, 10, node, 0);
+    let mut names = [0u32; 64];
+    if kind == 0 {
+        return 1 + table::index::held_names(table, owners, homes, node as u16, &mut names);
+    }
+    if kind == 3 {
+        let formals = field4(table, 8, field3(table, 10, node, 1), 3);
+        return 1
+            + formals
+            + table::index::held_names(table, owners, homes, node as u16, &mut names);
+    }
+    1
+}
+
+// Fills in where each node's control places start, from `first` on, and returns where they end.
+fn fill_spots(
+    table: &[u16],
+    owners: &[u32],
+    homes: &[u32],
+    first: usize,
+    spots: &mut [u32],
+) -> usize
+    requires { ⌜ Known (now table) (now owners) (now homes)
+        × (first ≡ controlOf (now table) 0) × (first < 32768) × (256 ≤ length (now spots)) ⌝ }
+    ensures { λ r. ⌜ (r ≡ controlOf (now (table .entry)) (nodes (now (table .entry))))
+        × (r < 65536)
+        × SpotsBelow (now (table .entry)) (now (spots .exit)) (nodes (now (table .entry))) ⌝ }
+{
+    let nodes = word16(table, 4);
+    let mut at = first;
+    let mut n = 0;
+    while n < nodes {
+        store32(spots, n, at as u32);
+        at += control_count(table, owners, homes, n);
+        n += 1;
+    }
+    at
+}
+
 // How many bound names are not restricted.
 pub(crate) fn free_names(table: &[u16]) -> usize
     ensures { λ r. ⌜ (r ≡ freeNames (now (table .entry))) × (r ≤ bounds (now (table .entry))) ⌝ }
@@ -139,6 +185,31 @@ pub(crate) fn free_names(table: &[u16]) -> usize
         x += 1;
     }
     count
+}
+
+pub(crate) fn lay_out(
+    table: &[u16],
+    owners: &[u32],
+    homes: &[u32],
+    rows: &mut [u32],
+    spots: &mut [u32],
+) -> Layout
+    requires { ⌜ Known (now table) (now owners) (now homes) × (64 ≤ length (now rows)) × (256 ≤ length (now spots)) ⌝ }
+    ensures { λ r. ⌜ Laid (now (table .entry)) (now (rows .exit)) (now (spots .exit)) r ⌝ }
+{
+    let privates = word16(table, 1);
+    let free = fill_rows(table, rows);
+    let controls = free + privates;
+    let places = fill_spots(table, owners, homes, controls, spots);
+    Layout {
+        publics: word16(table, 0),
+        bounds: word16(table, 1),
+        privates,
+        free,
+        controls,
+        places,
+        tokens: free_names(table) * privates + privates + word16(table, 3),
+    }
 }
 
 // The number of [x=v].
