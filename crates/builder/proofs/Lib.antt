@@ -27,3 +27,5 @@ pub mod Controls
 pub mod ByWords
 pub mod Reaches
 pub mod Tokens
+pub mod Adding
+pub mod NodeCounts

@@ -1,19 +1,26 @@
 // How many transitions and arcs a net has, by multiplication.
-ghost use mathlib.Core.Bool.{_&&_, not};
+ghost use mathlib.Core.Bool.{true, _&&_, not};
 ghost use mathlib.Core.Path.{_≡_};
-ghost use Prim.Native.Nat.{_+_, _-_, _*_, _<_};
+ghost use mathlib.Core.List.{map};
+ghost use Prim.Native.Nat.{_+_, _-_, _*_, _<_, _≤_};
 ghost use lib.Dec.{ltb};
-ghost use Rattle.lists.specs.Lists.{pick, bit};
-ghost use Rattle.table.specs.Words.{names, branches, argument};
+ghost use lib.ListN.{length, take};
+ghost use Rattle.lists.specs.Lists.{pick, bit, from, range};
+ghost use Rattle.table.specs.Words.{publics, bounds, names, nodes, branches, argument};
+ghost use Rattle.table.specs.Words.{isSend, isReceive, branchName, channel};
 ghost use Rattle.table.specs.Owners.{branchThread};
-ghost use Rattle.builder.specs.Inner.Plan.{Counted, Defined, InBoth};
-ghost use Rattle.builder.specs.Inner.Counting.{Few, sumsOf, addTimes};
-ghost use Rattle.builder.specs.Inner.Counting.{releaseSums, copySums};
+ghost use Rattle.builder.specs.Inner.Plan.{Known, Named, Counted, Defined, Laid, InBoth, freeNames};
+ghost use Rattle.builder.specs.Inner.Counting.{Few, sums, sumsOf, addTimes, over, boundBit};
+ghost use Rattle.builder.specs.Inner.Counting.{releaseSums, copySums, silentSums, nodeSums, pairSums, partnerSums, sendSums, allSums};
 use crate::layout::Layout;
 use crate::layout::Reach;
+use crate::layout::free_names;
 use crate::layout::is_restricted;
+use crate::layout::reach_of;
 use lists::word16;
 use lists::word32;
+use table::fields::field1;
+use table::fields::field3;
 use table::fields::field4;
 
 pub struct Totals {
@@ -46,6 +53,21 @@ fn releases(table: &[u16], plan: Layout, t: Totals, name: usize) -> Totals
     more(more(t, plan.publics, 2, 1), plan.privates, 2, 2)
 }
 
+fn all_releases(table: &[u16], plan: Layout, t: Totals, names: &[u32], count: usize) -> Totals
+    requires { ⌜ Counted (now table) plan × (count ≤ length (now names))
+        × Named (now table) (take count (now names))
+        × Few (over (releaseSums (now table)) (sumsOf t) (take count (now names))) ⌝ }
+    ensures { λ r. ⌜ sumsOf r ≡ over (releaseSums (now (table .entry))) (sumsOf t) (take count (now (names .entry))) ⌝ }
+{
+    let mut r = t;
+    let mut i = 0;
+    while i < count {
+        r = releases(table, plan, r, word32(names, i));
+        i += 1;
+    }
+    r
+}
+
 // The copies of an argument.
 fn copies(table: &[u16], plan: Layout, t: Totals, argument: usize) -> Totals
     requires { ⌜ Counted (now table) plan × (argument < names (now table))
@@ -59,6 +81,76 @@ fn copies(table: &[u16], plan: Layout, t: Totals, argument: usize) -> Totals
         return more(t, plan.privates, 3, 3);
     }
     more(more(t, plan.publics, 2, 3), plan.privates, 3, 3)
+}
+
+fn all_copies(table: &[u16], plan: Layout, t: Totals, first: usize, end: usize) -> Totals
+    requires { ⌜ Counted (now table) plan
+        × Named (now table) (map (argument (now table)) (from first (end - first)))
+        × Few (over (copySums (now table)) (sumsOf t) (map (argument (now table)) (from first (end - first)))) ⌝ }
+    ensures { λ r. ⌜ sumsOf r ≡ over (copySums (now (table .entry))) (sumsOf t) (map (argument (now (table .entry))) (from first (end - first))) ⌝ }
+{
+    let mut r = t;
+    let mut i = first;
+    while i < end {
+        r = copies(table, plan, r, field1(table, 12, i));
+        i += 1;
+    }
+    r
+}
+
+fn silents(table: &[u16], t: Totals, first: usize, end: usize) -> Totals
+    requires { ⌜ (end < 131072)
+        × Few (over (silentSums (now table)) (sumsOf t) (from first (end - first))) ⌝ }
+    ensures { λ r. ⌜ sumsOf r ≡ over (silentSums (now (table .entry))) (sumsOf t) (from first (end - first)) ⌝ }
+{
+    let mut r = t;
+    let mut b = first;
+    while b < end {
+        if field4(table, 11, b, 0) == 0 {
+            r = more(r, 1, 1, 1);
+        }
+        b += 1;
+    }
+    r
+}
+
+fn node(
+    table: &[u16],
+    owners: &[u32],
+    homes: &[u32],
+    plan: Layout,
+    free: usize,
+    t: Totals,
+    n: usize,
+) -> Totals
+    requires { ⌜ Known (now table) (now owners) (now homes) × Counted (now table) plan
+        × (free ≡ freeNames (now table)) × (n < nodes (now table))
+        × Few (nodeSums (now table) (sumsOf t) n) ⌝ }
+    ensures { λ r. ⌜ sumsOf r ≡ nodeSums (now (table .entry)) (sumsOf t) n ⌝ }
+{
+    let kind = field3(table, 10, n, 0);
+    let first = field3(table, 10, n, 1);
+    let second = field3(table, 10, n, 2);
+    let mut names = [0u32; 64];
+    if kind == 0 {
+        let held = table::index::held_names(table, owners, homes, n as u16, &mut names);
+        return all_releases(table, plan, t, &names, held);
+    }
+    if kind == 1 {
+        return silents(table, t, first, first + second);
+    }
+    if kind == 2 {
+        return more(t, plan.privates, free + 2, free + 2);
+    }
+    let held = table::index::held_names(table, owners, homes, n as u16, &mut names);
+    let r = all_copies(
+        table,
+        plan,
+        more(t, 1, 1, 1),
+        second,
+        second + field4(table, 8, first, 3),
+    );
+    all_releases(table, plan, r, &names, held)
 }
 
 // 1 for a bound name, 0 for a public one.
@@ -120,6 +212,40 @@ fn private_count(plan: Layout, values: Reach) -> usize
         return plan.privates;
     }
     0
+}
+
+// The communications of a send and a receive.
+fn pair(table: &[u16], plan: Layout, t: Totals, send: usize, receive: usize) -> Totals
+    requires { ⌜ Counted (now table) plan
+        × (channel (now table) send < names (now table)) × (branchName (now table) send < names (now table))
+        × (channel (now table) receive < names (now table))
+        × Few (pairSums (now table) send (sumsOf t) receive) ⌝ }
+    ensures { λ r. ⌜ sumsOf r ≡ pairSums (now (table .entry)) send (sumsOf t) receive ⌝ }
+{
+    let a = field4(table, 11, send, 1);
+    let z = field4(table, 11, send, 2);
+    let e = field4(table, 11, receive, 1);
+    let i = common(reach_of(table, a), reach_of(table, e));
+    let channels = bound(plan, a) + bound(plan, e);
+    let publics = i.high - i.low;
+    let privates = private_count(plan, i);
+    if z == a {
+        return more(
+            more(t, publics, channels + 2, channels + 3),
+            privates,
+            channels + 3,
+            channels + 3,
+        );
+    }
+    let arcs = channels + bound(plan, z);
+    let j = reach_of(table, z);
+    let all = publics + privates;
+    more(
+        more(t, all * (j.high - j.low), arcs + 2, arcs + 3),
+        all * private_count(plan, j),
+        arcs + 3,
+        arcs + 3,
+    )
 }
 
 pub(crate) fn thread_of(table: &[u16], homes: &[u32], definitions: &[u16], b: usize) -> usize
