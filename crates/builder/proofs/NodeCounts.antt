@@ -9,7 +9,7 @@ use lib.ListN.{length, take, drop, length-append}
 use lib.Seq.{sets, sets-eq, length-sets, take-at}
 use borrow.Author.Tests.{lt-ltb, le-ltb, le-leb, lt-leb}
 use Rattle.lists.specs.Lists.{pick, bit, same, from, range, keep, member}
-use Rattle.lists.proofs.Tests.{bit-small, same-yes, same-no}
+use Rattle.lists.proofs.Tests.{bit-small, same-yes, same-no, same-true}
 use Rattle.lists.proofs.Ranges.{from-length, from-member}
 use Rattle.lists.proofs.Members.{keep-append, keep-all, keep-none, keep-length, map-member}
 use Rattle.table.specs.Words.{publics, bounds, names, nodes, branches, nodeKind, nodeFirst, nodeSecond, isStop, isChoice, isNew, formalCount, argument, argumentsOf}
@@ -22,14 +22,14 @@ use Rattle.table.proofs.Accepted.{accepted}
 use Rattle.builder.specs.Transitions.{common}
 use Rattle.builder.specs.Inner.Plan.{today, values, freeNames, Known, Named, Counted, Lists, reached, InBoth}
 use Rattle.builder.specs.Inner.Counting.{Sums, Few, addTimes, over, releaseSums, copySums, silentSums, nodeSums, boundBit, publicCount, privateCount}
-use Rattle.builder.specs.Inner.Counting.{pairSums, partnerSums, sendSums}
+use Rattle.builder.specs.Inner.Counting.{sums, pairSums, partnerSums, sendSums, allSums}
 use Rattle.builder.specs.declared.layout.Layout.{Layout}
 use Rattle.builder.specs.declared.layout.Reach.{Reach}
-use Rattle.builder.proofs.ByWords.{held-known, held-of, other-call, arguments-inside, argument-inside}
+use Rattle.builder.proofs.ByWords.{held-known, held-of, other-call, arguments-inside, argument-inside, channel-inside, name-inside}
 use Rattle.builder.proofs.Controls
 use Rattle.builder.proofs.Controls.{publics-are, bounds-are}
 use Rattle.builder.proofs.Weights.{held-few}
-use Rattle.builder.proofs.Adding.{over-few, few-part, grows-times, release-grows, copy-grows}
+use Rattle.builder.proofs.Adding.{over-few, few-part, grows-times, release-grows, copy-grows, send-grows}
 
 -- ---- names that a node holds, in a buffer of 64 words
 
@@ -276,3 +276,55 @@ module _ (w : List ℕ) (b r a z e : ℕ) (x : Reach) (ba be v : ℕ) (k : Read 
       eu,
     );
   }
+
+-- ---- the receives that go with a send
+
+module _ (w : List ℕ) (b : ℕ) (s : Sums) (r : ℕ) where
+  pub partner-yes : branchKind w r ≡ 2 → (branchThread w r ≡ branchThread w b → ⊥) → partnerSums w b s r ≡ pairSums w b s r
+  unfolding partnerSums
+  partner-yes e d = rw (same-yes (branchKind w r) 2 e, same-no (branchThread w r) (branchThread w b) d)
+
+  pub partner-own : branchKind w r ≡ 2 → branchThread w r ≡ branchThread w b → partnerSums w b s r ≡ s
+  unfolding partnerSums
+  partner-own e d = rw (same-yes (branchKind w r) 2 e, same-yes (branchThread w r) (branchThread w b) d)
+
+  pub partner-no : (branchKind w r ≡ 2 → ⊥) → partnerSums w b s r ≡ s
+  unfolding partnerSums
+  partner-no e = rw (same-no (branchKind w r) 2 e)
+
+pub send-yes : (w : List ℕ) (s : Sums) (b : ℕ) → branchKind w b ≡ 1 → sendSums w s b ≡ over (partnerSums w b) s (range (branches w))
+unfolding sendSums
+send-yes w s b e = rw (same-yes (branchKind w b) 1 e)
+
+pub send-no : (w : List ℕ) (s : Sums) (b : ℕ) → (branchKind w b ≡ 1 → ⊥) → sendSums w s b ≡ s
+unfolding sendSums
+send-no w s b e = rw (same-no (branchKind w b) 1 e)
+
+-- the names that a send and a receive use
+pub pair-names : (w : List ℕ) → cause w ≡ 0 → (b r : ℕ) → b < branches w → r < branches w → isSend w b ≡ true → branchKind w r ≡ 2
+    → (channel w b < names w) × (branchName w b < names w) × (channel w r < names w)
+pair-names w h b r l u sends receives =
+    let e = same-true (branchKind w b) 1 sends in (
+      channel-inside w h b l (λ q. omega (arith, e, q)),
+      name-inside w h b l (λ q. omega (arith, e, q)),
+      channel-inside w h r u (λ q. omega (arith, receives, q)),
+    )
+
+-- ---- all nodes, then all sends
+
+module _ (w : List ℕ) where
+  abbrev nodesAll : Sums
+  nodesAll = over (nodeSums w) (sums 0 0 0) (range (nodes w))
+
+  all-is : allSums w ≡ over (sendSums w) nodesAll (range (branches w))
+  unfolding allSums
+  all-is = refl
+
+  pub nodes-few : Few (allSums w) → Few nodesAll
+  nodes-few f = over-few (sendSums w) (send-grows w) (allSums w) nodesAll (range (branches w)) all-is f
+
+  pub sends-few : (s : Sums) → s ≡ nodesAll → Few (allSums w) → Few (over (sendSums w) s (range (branches w)))
+  sends-few s e f = rw e (subst Few all-is f)
+
+  pub all-added : (s t : Sums) → s ≡ nodesAll → t ≡ over (sendSums w) s (range (branches w)) → t ≡ allSums w
+  all-added s t e f = f ∙ rw e (sym all-is)

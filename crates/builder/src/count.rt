@@ -255,6 +255,89 @@ pub(crate) fn thread_of(table: &[u16], homes: &[u32], definitions: &[u16], b: us
     field4(table, 8, word16(definitions, word32(homes, b)), 0)
 }
 
+fn partners(
+    table: &[u16],
+    homes: &[u32],
+    definitions: &[u16],
+    plan: Layout,
+    t: Totals,
+    send: usize,
+) -> Totals
+    requires { ⌜ Defined (now table) (now homes) (now definitions) × Counted (now table) plan × (send < branches (now table))
+        × (isSend (now table) send ≡ true)
+        × Few (over (partnerSums (now table) send) (sumsOf t) (range (branches (now table)))) ⌝ }
+    ensures { λ r. ⌜ sumsOf r ≡ over (partnerSums (now (table .entry)) send) (sumsOf t) (range (branches (now (table .entry)))) ⌝ }
+{
+    let branches = word16(table, 5);
+    let own = thread_of(table, homes, definitions, send);
+    let mut q = t;
+    let mut r = 0;
+    while r < branches {
+        if field4(table, 11, r, 0) == 2 {
+            if thread_of(table, homes, definitions, r) != own {
+                q = pair(table, plan, q, send, r);
+            }
+        }
+        r += 1;
+    }
+    q
+}
+
+// The transitions of nodes.
+fn of_nodes(table: &[u16], owners: &[u32], homes: &[u32], plan: Layout, t: Totals) -> Totals
+    requires { ⌜ Known (now table) (now owners) (now homes) × Counted (now table) plan
+        × Few (over (nodeSums (now table)) (sumsOf t) (range (nodes (now table)))) ⌝ }
+    ensures { λ r. ⌜ sumsOf r ≡ over (nodeSums (now (table .entry))) (sumsOf t) (range (nodes (now (table .entry)))) ⌝ }
+{
+    let nodes = word16(table, 4);
+    let free = free_names(table);
+    let mut q = t;
+    let mut n = 0;
+    while n < nodes {
+        q = node(table, owners, homes, plan, free, q, n);
+        n += 1;
+    }
+    q
+}
+
+// The communications.
+fn of_sends(table: &[u16], homes: &[u32], definitions: &[u16], plan: Layout, t: Totals) -> Totals
+    requires { ⌜ Defined (now table) (now homes) (now definitions) × Counted (now table) plan
+        × Few (over (sendSums (now table)) (sumsOf t) (range (branches (now table)))) ⌝ }
+    ensures { λ r. ⌜ sumsOf r ≡ over (sendSums (now (table .entry))) (sumsOf t) (range (branches (now (table .entry)))) ⌝ }
+{
+    let branches = word16(table, 5);
+    let mut q = t;
+    let mut s = 0;
+    while s < branches {
+        if field4(table, 11, s, 0) == 1 {
+            q = partners(table, homes, definitions, plan, q, s);
+        }
+        s += 1;
+    }
+    q
+}
+
+pub(crate) fn totals_of(
+    table: &[u16],
+    owners: &[u32],
+    homes: &[u32],
+    definitions: &[u16],
+    plan: Layout,
+) -> Totals
+    requires { ⌜ Known (now table) (now owners) (now homes) × Defined (now table) (now homes) (now definitions)
+        × Counted (now table) plan × Few (allSums (now table)) ⌝ }
+    ensures { λ r. ⌜ sumsOf r ≡ allSums (now (table .entry)) ⌝ }
+{
+    let none = Totals {
+        transitions: 0,
+        inputs: 0,
+        outputs: 0,
+    };
+    let t = of_nodes(table, owners, homes, plan, none);
+    of_sends(table, homes, definitions, plan, t)
+}
+
 pub(crate) fn words(plan: Layout, t: Totals) -> usize
     requires { ⌜ (plan .tokens < 65536) × Few (sumsOf t) ⌝ }
     ensures { λ r. ⌜ r ≡ 8 + plan .tokens + 6 * t .transitions + t .inputs + t .outputs ⌝ }

@@ -1,0 +1,22 @@
+-- `builder::count::totals_of` meets its contract.
+use Rattle.builder.specs.Inner.Counting.{sumsOf}
+use Rattle.builder.proofs.NodeCounts.{nodes-few, sends-few, all-added}
+use Rattle.builder.proofs.count.totals_of.Statement.{statement}
+use Rattle.builder.proofs.count.totals_of.Tie as tie
+use Rattle.builder.proofs.count.of_nodes.Reads as of-nodes-reads
+use Rattle.builder.proofs.count.of_sends.Reads as of-sends-reads
+
+of-nodes-requires : tie.Need-of-nodes-requires
+of-nodes-requires c κs = let s = c .before .before .before .before in (s .pre .0, s .pre .2, nodes-few (s .args .table .now) (s .pre .3))
+
+of-sends-requires : tie.Need-of-sends-requires
+of-sends-requires c κs =
+    let s = c .before .before .before .before .before in
+    (s .pre .1, s .pre .2, sends-few (s .args .table .now) (sumsOf (c .of-nodes .result)) (c .of-nodes .ensures) (s .pre .3))
+
+returns : tie.Need-returns
+returns c =
+    all-added (c .before .before .before .before .before .before .args .table .now) (sumsOf (c .before .of-nodes .result)) (sumsOf (c .of-sends .result)) (c .before .of-nodes .ensures) (c .of-sends .ensures)
+
+pub totals-of-spec : {M : Type 1} → statement M
+totals-of-spec = tie.close (tie.spec of-nodes-requires of-sends-requires returns)
