@@ -20,3 +20,4 @@ pub mod Parts
 pub mod Walk
 pub mod Scatter
 pub mod Indexed
+pub mod NameThreads

@@ -1,4 +1,4 @@
--- Laws of scattered numbers: what a pass of stores leaves in a buffer, and hence that owners and homes stand in theirs.
+-- Laws of scattered numbers: what a pass of stores leaves in a buffer, and hence that owners, homes and binders stand in theirs.
 use mathlib.Core.Path.{_≡_, refl, sym, ap, _∙_}
 use mathlib.Core.Bool.{Bool, true, false, _&&_}
 use mathlib.Core.List.{List, [], _∷_, map}
@@ -14,11 +14,12 @@ use Rattle.lists.specs.Lists.{pick, bit, same, word, from, range, member, first
 use Rattle.lists.proofs.Tests.{same-self, same-no, false-true}
 use Rattle.lists.proofs.Ranges.{from-more, from-done, from-length}
 use Rattle.lists.proofs.First.{First, first-cases, tells-one}
-use Rattle.table.specs.Words.{definitions, nodes, branches, root, nodeFirst, nodeSecond, isChoice, isNew, branchesOf, next}
+use Rattle.table.specs.Words.{definitions, nodes, branches, root, nodeFirst, nodeSecond, isChoice, isNew, isReceive, branchName, firstFormal, formalCount, formals, branchesOf, next}
 use Rattle.table.specs.Owners.{rootOf, childOf, nextOf, nobody, home, pickOwner, owner}
-use Rattle.table.specs.Index.{ownerNumber}
+use Rattle.table.specs.Scheme.{byNew, byReceive, byFormal, unbound, pickBinder, binderOf}
+use Rattle.table.specs.Index.{ownerNumber, binderNumber}
 use Rattle.table.specs.Inner.Spans.{spanOf, putAll, scatter}
-use Rattle.table.specs.declared.spans.Source.the-variants.{Roots, NewChildren, NextNodes, Branches}
+use Rattle.table.specs.declared.spans.Source.the-variants.{Roots, Formals, NewChildren, NewNames, NextNodes, ReceivedNames, Branches}
 
 -- ---- a list of values at the numbers below n
 
@@ -220,3 +221,55 @@ module _ (w : List ℕ) where
       at k h =
           scatter-home (spanOf w Branches) k (λ n. member k (branchesOf w n)) (λ n. tells-count k (nodeFirst w n) (nodeSecond w n) (isChoice w n)) (nodes w) (replicate n 0)
           (rw (length-replicate {A = ℕ} n 0) h) (getD-replicate n k 0 0 h)
+
+  -- ---- binders
+
+  binder-number : (n b d : ℕ) → binderNumber (pickBinder w n b d)
+      ≡ pick (ltb n (nodes w)) (65536 + n) (pick (ltb b (branches w)) (131072 + b) (pick (ltb d (definitions w)) (196608 + d) 0))
+  unfolding pickBinder
+  binder-number n b d = go (ltb n (nodes w)) (ltb b (branches w)) (ltb d (definitions w))
+    where
+      go : (x y z : Bool) → binderNumber (pick x (byNew n) (pick y (byReceive b) (pick z (byFormal d) unbound)))
+          ≡ pick x (65536 + n) (pick y (131072 + b) (pick z (196608 + d) 0))
+      go true y z = refl
+      go false true z = refl
+      go false false true = refl
+      go false false false = refl
+
+  tells-formals : (k d : ℕ) → member k (formals w d) ≡ member k (spanOf w Formals d)
+  unfolding formals
+  tells-formals k d = refl
+
+  -- binders by three passes over zeros
+  pub binders-scattered : (n : ℕ)
+      → scatter (spanOf w NewNames) 65536 (nodes w)
+      (scatter (spanOf w ReceivedNames) 131072 (branches w) (scatter (spanOf w Formals) 196608 (definitions w) (replicate n 0)))
+      ≡ map (λ x. binderNumber (binderOf w x)) (range n)
+  unfolding binderOf
+  binders-scattered n = map-range (λ x. binderNumber (binderOf w x)) (scatter (spanOf w NewNames) 65536 (nodes w) received) n
+      (length-scatter (spanOf w NewNames) 65536 (nodes w) received ∙ received-length) at
+    where
+      given : List ℕ
+      given = scatter (spanOf w Formals) 196608 (definitions w) (replicate n 0)
+
+      received : List ℕ
+      received = scatter (spanOf w ReceivedNames) 131072 (branches w) given
+
+      given-length : length given ≡ n
+      given-length = length-scatter (spanOf w Formals) 196608 (definitions w) (replicate n 0) ∙ length-replicate {A = ℕ} n 0
+
+      received-length : length received ≡ n
+      received-length = length-scatter (spanOf w ReceivedNames) 131072 (branches w) given ∙ given-length
+
+      at : (k : ℕ) → k < n → word (scatter (spanOf w NewNames) 65536 (nodes w) received) k ≡ binderNumber (binderOf w k)
+      at k h =
+          let m = firstFrom (nodes w) (λ n. isNew w n && same (nodeFirst w n) k) 0 (nodes w) in
+          let b = firstFrom (branches w) (λ b. isReceive w b && same (branchName w b) k) 0 (branches w) in
+          let d = firstFrom (definitions w) (λ d. member k (formals w d)) 0 (definitions w) in
+          scatter-first (spanOf w NewNames) 65536 k (λ n. isNew w n && same (nodeFirst w n) k) (λ n. tells-bit k (nodeFirst w n) (isNew w n)) (nodes w) received (rw received-length h) ∙
+          ap (pick (ltb m (nodes w)) (65536 + m))
+          (scatter-first (spanOf w ReceivedNames) 131072 k (λ b. isReceive w b && same (branchName w b) k) (λ b. tells-bit k (branchName w b) (isReceive w b)) (branches w) given (rw given-length h) ∙
+          ap (pick (ltb b (branches w)) (131072 + b))
+          (scatter-first (spanOf w Formals) 196608 k (λ d. member k (formals w d)) (tells-formals k) (definitions w) (replicate n 0) (rw (length-replicate {A = ℕ} n 0) h) ∙
+          ap (pick (ltb d (definitions w)) (196608 + d)) (getD-replicate n k 0 0 h))) ∙
+          sym (binder-number m b d)

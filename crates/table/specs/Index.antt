@@ -7,7 +7,8 @@ use lib.Dec.{ltb}
 use lib.ListN.{length}
 use lib.Seq.{sets}
 use Rattle.lists.specs.Lists.{pick, word}
-use Rattle.table.specs.Words.{definitionThread}
+use Rattle.table.specs.Words.{threads, definitionThread}
+use Rattle.table.specs.Scheme.{Binder, byNew, byReceive, byFormal, unbound}
 use Rattle.table.specs.Owners.{Owner, rootOf, childOf, nextOf, nobody, heldBy, definitionBy}
 use Rattle.table.specs.declared.index.Parent.{Parent}
 use Rattle.table.specs.declared.index.Parent.the-variants.{Definition, New, Branch, Nobody}
@@ -57,6 +58,20 @@ definitionIn owners homes n = definitionBy [] (ownerIn owners) (homeIn homes) (s
 -- the thread of a node by lent definitions
 abbrev pub threadIn : List ℕ → List ℕ → ℕ → ℕ
 threadIn w definitions n = definitionThread w (word definitions n)
+
+-- what binds a name as a number
+abbrev pub binderNumber : Binder → ℕ
+binderNumber (byNew n) = 65536 + n
+binderNumber (byReceive b) = 131072 + b
+binderNumber (byFormal d) = 196608 + d
+binderNumber unbound = 0
+
+-- the thread of what binds a name, by that number and lent homes and definitions
+unfoldable pub binderThreadIn : List ℕ → List ℕ → List ℕ → ℕ → ℕ
+binderThreadIn w homes definitions c =
+    pick (ltb c 65536) (threads w)
+    (pick (ltb c 131072) (threadIn w definitions (c - 65536))
+    (pick (ltb c 196608) (threadIn w definitions (homeIn homes (c - 131072))) (definitionThread w (c - 196608))))
 
 unfoldable pub heldIn : List ℕ → List ℕ → List ℕ → ℕ → List ℕ
 heldIn w owners homes n = heldBy w (ownerIn owners) (homeIn homes) (suc n) n

@@ -1,5 +1,6 @@
-// Who owns each node, which node has each branch, which definition each node is in, and the names that a node holds. In lent words an owner
-// is a number: 65536 + a definition, 131072 + a New, 196608 + a branch, less than 65536 for nobody.
+// Who owns each node, which node has each branch, which definition each node is in, what binds each name, and the names that a node holds. In
+// lent words an owner is a number: 65536 + a definition, 131072 + a New, 196608 + a branch, less than 65536 for nobody. So is what binds a name:
+// 65536 + a New, 131072 + a receive, 196608 + a definition, less than 65536 for nothing.
 ghost use mathlib.Core.Path.{_≡_};
 ghost use mathlib.Core.List.{map};
 ghost use Prim.Native.Nat.{_+_, _-_, _<_};
@@ -8,6 +9,9 @@ ghost use lib.Seq.{sets};
 ghost use Rattle.lists.specs.Lists.{from, range};
 ghost use Rattle.table.specs.Owners.{owner, home};
 ghost use Rattle.table.specs.Index.{ownerNumber, ownerIn, homeIn, parentOf, definitionIn, definitionNext, threadIn, heldIn, HeldNames};
+ghost use Rattle.table.specs.Index.{binderNumber, binderThreadIn};
+ghost use Rattle.table.specs.Scheme.{binderOf};
+ghost use Rattle.lists.specs.Lists.{word};
 use crate::fields::field3;
 use crate::fields::field4;
 use crate::spans::Source;
@@ -107,6 +111,39 @@ pub fn thread(table: &[u16], definitions: &[u16], node: usize) -> usize
     ensures { λ r. ⌜ r ≡ threadIn (now (table .entry)) (now (definitions .entry)) node ⌝ }
 {
     field4(table, 8, word16(definitions, node), 0)
+}
+
+// What binds each name, as far as `out` reaches.
+pub fn binders(table: &[u16], out: &mut [u32])
+    ensures { λ r. ⌜ now (out .exit) ≡ map (λ x. binderNumber (binderOf (now (table .entry)) x)) (range (length (now (out .entry)))) ⌝ }
+{
+    clear(out);
+    scatter_source(table, Source::Formals, word16(table, 2), 196608, out);
+    scatter_source(table, Source::ReceivedNames, word16(table, 5), 131072, out);
+    scatter_source(table, Source::NewNames, word16(table, 4), 65536, out);
+}
+
+// The thread of what binds a name, by lent homes, definitions and binders; the count of threads where nothing does.
+pub fn name_thread(
+    table: &[u16],
+    homes: &[u32],
+    definitions: &[u16],
+    binders: &[u32],
+    name: usize,
+) -> usize
+    ensures { λ r. ⌜ r ≡ binderThreadIn (now (table .entry)) (now (homes .entry)) (now (definitions .entry)) (word (now (binders .entry)) name) ⌝ }
+{
+    let binder = word32(binders, name);
+    if binder < 65536 {
+        return word16(table, 3);
+    }
+    if binder < 131072 {
+        return thread(table, definitions, binder - 65536);
+    }
+    if binder < 196608 {
+        return thread(table, definitions, word32(homes, binder - 131072));
+    }
+    field4(table, 8, binder - 196608, 0)
 }
 
 // Writes `count` numbers from `first` on, as far as `out` reaches, and returns how many there are.
