@@ -14,6 +14,7 @@ mod spans;
 mod tests;
 
 ghost use mathlib.Core.Path.{_≡_};
+ghost use Rattle.lists.specs.Lists.{same};
 ghost use Rattle.table.specs.Answer.{causeOf};
 ghost use Rattle.table.specs.Causes.{cause, countsRight, layoutRight};
 use lists::word16;
@@ -64,6 +65,24 @@ pub fn check(table: &[u16]) -> Verdict
         return Verdict::Calls;
     }
     Verdict::Accepted
+}
+
+// Whether a verdict refuses nothing.
+pub fn is_accepted(verdict: Verdict) -> bool
+    ensures { λ r. ⌜ r ≡ same (causeOf verdict) 0 ⌝ }
+{
+    match verdict {
+        Verdict::Accepted => true,
+        Verdict::Short => false,
+        Verdict::Counts => false,
+        Verdict::Layout => false,
+        Verdict::Kinds => false,
+        Verdict::Ranges => false,
+        Verdict::Shape => false,
+        Verdict::Binding => false,
+        Verdict::Scope => false,
+        Verdict::Calls => false,
+    }
 }
 
 // Cause 2: whether each count is within its bound.
