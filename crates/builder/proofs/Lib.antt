@@ -29,3 +29,4 @@ pub mod Reaches
 pub mod Tokens
 pub mod Adding
 pub mod NodeCounts
+pub mod Indexing

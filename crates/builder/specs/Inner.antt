@@ -4,3 +4,4 @@ pub mod Spans
 pub mod Writing
 pub mod Plan
 pub mod Counting
+pub mod Planning

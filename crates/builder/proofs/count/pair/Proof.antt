@@ -159,9 +159,9 @@ add-all c =
     omega (
       arith,
       publics-few (c .before .before .before .before .before .before .before .before .before .before .before .before .before .before .args .table .now) (c .before .before .before .before .before .before .before .before .before .before .before .before .before .before .args .send) (c .before .before .before .before .before .before .before .before .before .before .before .before .before .before .args .receive) (c .before .before .before .before .before .before .before .before .before .before .before .before .field4 .result) (c .before .before .before .before .before .before .before .before .before .before .before .field42 .result) (c .before .before .before .before .before .before .before .before .before .before .field43 .result)
-      (c .before .before .before .before .before .before .before .common .result) (c .before .before .before .before .before .before .bound .result) (c .before .before .before .before .before .bound2 .result) (c .before .before .before .private-count .result) (read (c .before .before .before)),
+          (c .before .before .before .before .before .before .before .common .result) (c .before .before .before .before .before .before .bound .result) (c .before .before .before .before .before .bound2 .result) (c .before .before .before .private-count .result) (read (c .before .before .before)),
       privates-few (c .before .before .before .before .before .before .before .before .before .before .before .before .before .before .args .table .now) (c .before .before .before .before .before .before .before .before .before .before .before .before .before .before .args .send) (c .before .before .before .before .before .before .before .before .before .before .before .before .before .before .args .receive) (c .before .before .before .before .before .before .before .before .before .before .before .before .field4 .result) (c .before .before .before .before .before .before .before .before .before .before .before .field42 .result) (c .before .before .before .before .before .before .before .before .before .before .field43 .result)
-      (c .before .before .before .before .before .before .before .common .result) (c .before .before .before .before .before .before .bound .result) (c .before .before .before .before .before .bound2 .result) (c .before .before .before .private-count .result) (read (c .before .before .before)),
+          (c .before .before .before .before .before .before .before .common .result) (c .before .before .before .before .before .before .bound .result) (c .before .before .before .before .before .bound2 .result) (c .before .before .before .private-count .result) (read (c .before .before .before)),
     )
 
 sub-more : tie.Need-sub-more

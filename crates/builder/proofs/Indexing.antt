@@ -1,0 +1,65 @@
+-- What the index of an accepted table is once it stands in lent words.
+use mathlib.Core.Path.{_≡_, sym, ap, _∙_}
+use mathlib.Core.Bool.{Bool, true, not}
+use borrow.Author.Tests.{not-true}
+use mathlib.Core.List.{List, map}
+use Prim.Native.Nat.{ℕ, _≤_, _<_}
+use native.Mathlib.Omega.{arith}
+use lib.ListN.{length, length-map}
+use Rattle.lists.specs.Lists.{same, word, range}
+use Rattle.lists.proofs.Ranges.{from-length}
+use Rattle.lists.proofs.Tests.{same-true, same-yes, false-true}
+use Rattle.table.specs.Words.{nodes, branches, definitions}
+use Rattle.table.specs.Owners.{owner, home, definition}
+use Rattle.table.specs.Index.{ownerNumber, definitionIn}
+use Rattle.table.specs.Scheme.{scheme}
+use Rattle.table.specs.Causes.{cause}
+use Rattle.table.proofs.Accepted.{accepted}
+use Rattle.table.proofs.Indexed.{definition-indexed}
+use Rattle.table.proofs.Scatter.{word-range}
+use Rattle.builder.specs.Inner.Plan.{Known, Defined}
+
+-- where the code found a table accepted
+pub accepted-here : (w : List ℕ) (n : ℕ) → n ≡ cause w → same n 0 ≡ true → cause w ≡ 0
+accepted-here w n e h = sym e ∙ same-true n 0 h
+
+pub refused-here : (w : List ℕ) (n : ℕ) (b : Bool) → n ≡ cause w → b ≡ same n 0 → not b ≡ true → (n ≡ cause w) × (cause w ≡ 0 → ⊥)
+refused-here w n b e t r = (e, λ z. false-true (sym t ∙ not-true b r) (same-yes n 0 (e ∙ z)))
+
+module _ (w owners homes defs : List ℕ) (n m k : ℕ) (ok : cause w ≡ 0) (o : owners ≡ map (λ k. ownerNumber (owner w k)) (range n))
+    (h : homes ≡ map (home w) (range m)) (d : defs ≡ map (definitionIn owners homes) (range k)) (few-o : 256 ≤ n) (few-h : 256 ≤ m) (few-d : 256 ≤ k) where
+  owners-length : length owners ≡ n
+  owners-length = ap length o ∙ length-map (range n) (λ k. ownerNumber (owner w k)) ∙ from-length 0 n
+
+  homes-length : length homes ≡ m
+  homes-length = ap length h ∙ length-map (range m) (home w) ∙ from-length 0 m
+
+  pub known : Known w owners homes
+  known = record {
+    accepted = ok;
+    owners-are = rw owners-length o;
+    homes-are = rw homes-length h;
+    owners-enough = omega (arith, owners-length);
+    homes-enough = omega (arith, homes-length);
+  }
+
+  few-nodes : nodes w ≤ 256
+  unfolding scheme
+  few-nodes = accepted w ok .few-nodes
+
+  few-branches : branches w ≤ 256
+  unfolding scheme
+  few-branches = accepted w ok .few-branches
+
+  few-definitions : definitions w ≤ 32
+  unfolding scheme
+  few-definitions = accepted w ok .few-definitions
+
+  pub defined : Defined w homes defs
+  defined = record {
+    accepted = ok;
+    home-in = λ b l. ap (λ (hs : List ℕ). word hs b) h ∙ word-range (home w) m b (omega (arith, few-branches));
+    definition-in = λ i l. ap (λ (ds : List ℕ). word ds i) d ∙ word-range (definitionIn owners homes) k i (omega (arith, few-nodes)) ∙
+        definition-indexed w owners homes i (known .owners-are) (known .homes-are) (omega (arith, owners-length, few-nodes))
+        (omega (arith, homes-length, few-branches)) (omega (arith, few-definitions)) (omega (arith, few-nodes));
+  }

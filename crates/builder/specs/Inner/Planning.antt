@@ -1,0 +1,16 @@
+-- What `plan` leaves in the lent words.
+use mathlib.Core.Path.{_≡_}
+use mathlib.Core.List.{List}
+use Prim.Native.Nat.{ℕ, _≤_}
+use lib.ListN.{length}
+use Rattle.table.specs.Answer.{causeOf}
+use Rattle.table.specs.Causes.{cause}
+use Rattle.builder.specs.Inner.Plan.{Known, Defined, Laid}
+use Rattle.builder.specs.declared.Planned.{Planned}
+use Rattle.builder.specs.declared.Planned.the-variants.{Places, Refused, Short}
+
+abbrev pub PlanRight : List ℕ → List ℕ → List ℕ → List ℕ → List ℕ → List ℕ → Planned → Type 0
+PlanRight w owners homes definitions rows spots (Places plan) = Known w owners homes × Defined w homes definitions × Laid w rows spots plan
+PlanRight w owners homes definitions rows spots (Refused v) = (causeOf v ≡ cause w) × (cause w ≡ 0 → ⊥)
+PlanRight w owners homes definitions rows spots Short =
+    256 ≤ length owners → 256 ≤ length homes → 256 ≤ length definitions → 64 ≤ length rows → 256 ≤ length spots → ⊥
