@@ -30,3 +30,6 @@ pub mod Tokens
 pub mod Adding
 pub mod NodeCounts
 pub mod Indexing
+pub mod NodeSums
+pub mod PairSums
+pub mod WholeSums

@@ -26,7 +26,7 @@ use Rattle.builder.proofs.CommunicationCounts.{communication-inputs, co
 
 -- ---- sums
 
-total-same : (f g : ℕ → ℕ) (xs : List ℕ) → ((x : ℕ) → member x xs ≡ true → f x ≡ g x) → total (map f xs) ≡ total (map g xs)
+pub total-same : (f g : ℕ → ℕ) (xs : List ℕ) → ((x : ℕ) → member x xs ≡ true → f x ≡ g x) → total (map f xs) ≡ total (map g xs)
 unfolding total
 total-same f g [] h = refl
 total-same f g (x ∷ xs) h = rw (h x (member-here x xs), total-same f g xs (λ z m. h z (member-there z x xs m)))
@@ -36,12 +36,12 @@ unfolding total
 total-line c h [] = omega arith
 total-line c h (x ∷ xs) = omega (arith, total-line c h xs, suc-mul (length xs) c)
 
-total-each : (c : ℕ) (xs : List ℕ) → total (map (λ v. c) xs) ≡ length xs * c
+pub total-each : (c : ℕ) (xs : List ℕ) → total (map (λ v. c) xs) ≡ length xs * c
 unfolding total
 total-each c [] = omega arith
 total-each c (x ∷ xs) = omega (arith, total-each c xs, suc-mul (length xs) c)
 
-sum-of-map : {A : Type 0} (f : A → ℕ) (g : ℕ → A) (xs : List ℕ) → sum f (map g xs) ≡ total (map (λ v. f (g v)) xs)
+pub sum-of-map : {A : Type 0} (f : A → ℕ) (g : ℕ → A) (xs : List ℕ) → sum f (map g xs) ≡ total (map (λ v. f (g v)) xs)
 unfolding total
 sum-of-map f g [] = refl
 sum-of-map f g (x ∷ xs) = rw (sum-of-map f g xs)
