@@ -2,22 +2,22 @@
 use mathlib.Core.Path.{_≡_, refl, sym, ap, subst, _∙_}
 use mathlib.Core.Bool.{Bool, true, false, not, _&&_}
 use mathlib.Core.List.{List, [], _∷_, map}
-use Prim.Native.Nat.{ℕ, _+_, _-_, _*_, _≤_, _<_}
+use Prim.Native.Nat.{ℕ, _+_, _-_, _≤_, _<_}
 use native.Mathlib.Omega.{arith}
 use lib.Dec.{ltb}
-use lib.ListN.{length, getD, take}
+use lib.ListN.{length, take}
 use lib.Seq.{slice, getD-take, length-take-le}
 use Rattle.lists.specs.Lists.{pick, same, word, from, range, member}
 use Rattle.lists.proofs.Ranges.{from-more, from-done, from-whole, member-from}
 use Rattle.lists.proofs.Members.{member-getD, member-map}
 use Rattle.lists.proofs.Tests.{same-yes, same-no}
 use Rattle.lists.proofs.Slices.{slice-step, slice-none}
-use Rattle.table.specs.Words.{publics, bounds, branches, branchKind, isStop, isChoice, isNew, isSilent, isSend, isReceive, nodeFirst, nodeSecond, channel, branchName, argumentsOf}
+use Rattle.table.specs.Words.{publics, bounds, branches, branchKind, isStop, isChoice, isNew, isSilent, isSend, isReceive, nodeFirst, nodeSecond}
+use Rattle.table.specs.Words.{channel, branchName, argumentsOf}
 use Rattle.table.specs.Owners.{held, branchThread}
 use Rattle.table.specs.Scheme.{scheme}
-use Rattle.builder.specs.Transitions.{common}
-use Rattle.builder.specs.Inner.Plan.{today, values, freeNames}
-use Rattle.builder.specs.Inner.Counting.{Sums, sums, Few, addTimes, over, releaseSums, copySums, silentSums, nodeSums, boundBit, publicCount, privateCount}
+use Rattle.builder.specs.Inner.Plan.{freeNames}
+use Rattle.builder.specs.Inner.Counting.{Sums, Few, addTimes, over, releaseSums, copySums, silentSums, nodeSums}
 use Rattle.builder.specs.Inner.Counting.{pairSums, partnerSums, sendSums}
 
 pub silent-yes : (w : List ℕ) (s : Sums) (b : ℕ) → branchKind w b ≡ 0 → silentSums w s b ≡ addTimes s 1 1 1
@@ -164,7 +164,8 @@ module _ (w : List ℕ) where
       grows-pick (isStop w n) s _ _ (over-grows (releaseSums w) release-grows s (held w n))
       (grows-pick (isChoice w n) s _ _ (over-grows (silentSums w) silent-grows s (from (nodeFirst w n) (nodeSecond w n)))
       (grows-pick (isNew w n) s _ _ (grows-times s (bounds w) (freeNames w + 2) (freeNames w + 2))
-      (grows-on s called _ (grows-on s (addTimes s 1 1 1) called (grows-times s 1 1 1) (over-grows (copySums w) copy-grows (addTimes s 1 1 1) (argumentsOf w n)))
+      (grows-on s called _
+      (grows-on s (addTimes s 1 1 1) called (grows-times s 1 1 1) (over-grows (copySums w) copy-grows (addTimes s 1 1 1) (argumentsOf w n)))
       (over-grows (releaseSums w) release-grows called (held w n)))))
     where
       called : Sums

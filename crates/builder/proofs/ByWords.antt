@@ -1,26 +1,26 @@
 -- The nodes and branches of an accepted table by the words that the code reads, and the names that a node holds.
 use mathlib.Core.Path.{_≡_, refl, sym, ap, _∙_}
-use mathlib.Core.Bool.{Bool, true, false}
-use mathlib.Core.List.{List, [], _∷_, map}
+use mathlib.Core.Bool.{true, false}
+use mathlib.Core.List.{List, [], _∷_}
 use mathlib.Core.Logic.{_⊎_, inl, inr}
-use Prim.Native.Nat.{ℕ, suc, _+_, _≤_, _<_}
+use Prim.Native.Nat.{ℕ, _+_, _≤_, _<_}
 use native.Mathlib.Omega.{arith}
 use lib.ListN.{length}
 use borrow.Author.Tests.{lt-ltb}
-use Rattle.lists.specs.Lists.{pick, same, from, range, every, member}
+use Rattle.lists.specs.Lists.{same, from, range, every}
 use Rattle.lists.proofs.Tests.{true-or-false, false-true, all-hold, same-true, same-yes, same-no}
 use Rattle.lists.proofs.Ranges.{every-below, from-length}
-use Rattle.table.specs.Words.{publics, bounds, definitions, nodes, branches, arguments, names, nodeKind, nodeFirst, nodeSecond, isStop, isChoice, isNew, isCall}
-use Rattle.table.specs.Words.{branchKind, channel, branchName, next, isSilent, isSend, isReceive, formals, formalCount, argument, argumentsOf}
+use Rattle.table.specs.Words.{publics, bounds, definitions, nodes, branches, arguments, names, nodeKind, nodeFirst, nodeSecond, isChoice, isNew, isCall}
+use Rattle.table.specs.Words.{branchKind, channel, branchName, next, formals, formalCount, argument, argumentsOf}
 use Rattle.table.specs.Owners.{held}
 use Rattle.table.specs.Index.{heldIn, HeldNames}
 use Rattle.table.specs.Causes.{cause, kindsRight, nameKindRight, formalsZero, nodeKindRight, branchKindRight}
-use Rattle.table.specs.Scheme.{Scheme, stop, choice, new, call, silent, send, receive, nodeAt, branchAt, argumentsAt, scheme}
+use Rattle.table.specs.Scheme.{stop, choice, new, call, silent, send, receive, nodeAt, branchAt, argumentsAt, scheme}
 use Rattle.table.proofs.Passed.{passed}
 use Rattle.table.proofs.Inside
 use Rattle.table.proofs.Inside.{counted}
 use Rattle.table.proofs.Indexed.{held-indexed}
-use Rattle.builder.specs.Places.{controlsAt, controls}
+use Rattle.builder.specs.Places.{controls}
 use Rattle.builder.specs.Inner.Plan.{Known}
 use Rattle.builder.proofs.Controls.{controls-few, few-nodes}
 
@@ -133,7 +133,8 @@ pub held-known : (w owners homes : List ℕ) → Known w owners homes → (n : �
 held-known w owners homes k n l =
     let c = counted w (passed w (k .accepted) .counts) in
     held-indexed w owners homes n (k .owners-are) (k .homes-are)
-    (omega (arith, c .few-nodes, k .owners-enough)) (omega (arith, c .few-branches, k .homes-enough)) (omega (arith, c .few-definitions)) (omega (arith, c .few-nodes))
+    (omega (arith, c .few-nodes, k .owners-enough)) (omega (arith, c .few-branches, k .homes-enough)) (omega (arith, c .few-definitions))
+    (omega (arith, c .few-nodes))
 
 -- ---- control places of a node
 

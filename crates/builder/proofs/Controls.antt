@@ -7,7 +7,7 @@ use native.Mathlib.Omega.{arith}
 use native.Mathlib.Decide.{ℕ-discrete}
 use lib.ListN.{length, set}
 use lib.Seq.{getD-set-same, getD-set-other}
-use Rattle.lists.specs.Lists.{pick, word, from, range, total}
+use Rattle.lists.specs.Lists.{pick, word, from, range}
 use Rattle.lists.proofs.Ranges.{from-length, from-member}
 use Rattle.lists.proofs.Sums.{sum-few}
 use Rattle.table.specs.Words.{publics, bounds, nodes}

@@ -1,6 +1,6 @@
 -- The counts of a node, and of a send and a receive, as the code adds them.
 use mathlib.Core.Path.{_≡_, refl, sym, ap, subst, _∙_}
-use mathlib.Core.Bool.{Bool, true, false, not, _&&_}
+use mathlib.Core.Bool.{Bool, true, false, not}
 use mathlib.Core.List.{List, [], _++_, map, append-nil}
 use Prim.Native.Nat.{ℕ, _+_, _-_, _*_, _≤_, _<_}
 use native.Mathlib.Omega.{arith}
@@ -12,8 +12,8 @@ use Rattle.lists.specs.Lists.{pick, bit, same, from, range, keep, member}
 use Rattle.lists.proofs.Tests.{bit-small, same-yes, same-no, same-true}
 use Rattle.lists.proofs.Ranges.{from-length, from-member}
 use Rattle.lists.proofs.Members.{keep-append, keep-all, keep-none, keep-length, map-member}
-use Rattle.table.specs.Words.{publics, bounds, names, nodes, branches, nodeKind, nodeFirst, nodeSecond, isStop, isChoice, isNew, formalCount, argument, argumentsOf}
-use Rattle.table.specs.Words.{channel, branchName, branchKind, isSend, isReceive}
+use Rattle.table.specs.Words.{publics, bounds, names, nodes, branches, nodeKind, nodeFirst, nodeSecond, formalCount, argument, argumentsOf}
+use Rattle.table.specs.Words.{channel, branchName, branchKind, isSend}
 use Rattle.table.specs.Owners.{held, branchThread}
 use Rattle.table.specs.Index.{heldIn, HeldNames}
 use Rattle.table.specs.Scheme.{scheme}

@@ -2,27 +2,27 @@
 use mathlib.Core.Path.{_≡_, refl, sym, ap, _∙_}
 use mathlib.Core.Bool.{Bool, true, false}
 use mathlib.Core.List.{List, [], _∷_, _++_, map}
-use mathlib.Core.Logic.{_⊎_, inl, inr}
+use mathlib.Core.Logic.{inl, inr}
 use Prim.Native.Nat.{ℕ, suc, _+_, _-_, _*_, _≤_, _<_}
 use native.Mathlib.Decide.{decLt, ℕ-discrete}
 use native.Mathlib.Omega.{arith}
-use lib.Dec.{ltb, leb}
+use lib.Dec.{ltb}
 use lib.ListN.{length, length-append, length-map}
 use borrow.Author.Tests.{lt-ltb, le-ltb, le-leb, lt-leb}
-use Rattle.lists.specs.Lists.{pick, bit, from, flat, member, positions, total}
+use Rattle.lists.specs.Lists.{pick, from, flat, member, positions, total}
 use Rattle.lists.proofs.Tests.{false-true, same-no}
 use Rattle.lists.proofs.Ranges.{from-length, from-member}
 use Rattle.lists.proofs.Members.{member-here, member-there}
-use Rattle.lists.proofs.Sums.{sum, sum-append}
+use Rattle.lists.proofs.Sums.{sum-append}
 use Rattle.table.specs.Words.{publics, bounds, nodes, branches, branchKind, nodeKind, nodeFirst, nodeSecond, channel, branchName, next, isSend, isReceive}
 use Rattle.table.specs.Words.{argumentsOf}
 use Rattle.table.specs.Owners.{held}
-use Rattle.table.specs.Scheme.{Scheme, Node, stop, choice, new, call, Branch, absent, silent, send, receive, branchAt, scheme}
+use Rattle.table.specs.Scheme.{Scheme, Node, new, call, absent, send, receive, branchAt, scheme}
 use Rattle.table.specs.Causes.{cause}
 use Rattle.table.specs.Accepted.{Accepted, Usable}
 use Rattle.table.proofs.Accepted.{accepted}
-use Rattle.builder.specs.Values.{Values, allValues, privateValues, valuesOf}
-use Rattle.builder.specs.Places.{control, controlsAt, controls, places}
+use Rattle.builder.specs.Values.{Values, privateValues, valuesOf}
+use Rattle.builder.specs.Places.{control, controls, places}
 use Rattle.builder.specs.Rows.{IsBound, Exists, has-control}
 use Rattle.builder.specs.Transitions.{Description, isInput, isOutput, releasing, releases, copying, copies, making, going, silents, calling, ofNode}
 use Rattle.builder.specs.Inner.Plan.{today, freeNames}
@@ -35,7 +35,7 @@ use Rattle.builder.proofs.ArcCounts.{next-place, new-inputs, new-output
 use Rattle.builder.proofs.Totals.{inputSum, outputSum, privatesAmong, boundBit, privates-bound, privates-public, total-same, total-each, sum-of-map}
 use Rattle.builder.proofs.Totals.{release-input-sum, release-output-sum, copy-input-sum, copy-output-sum}
 use Rattle.builder.proofs.Controls.{nodes-are, publics-are, bounds-are, privates-are}
-use Rattle.builder.proofs.ByWords.{other-call, stop-node, choice-node, new-node, call-node, called-inside, silent-branch, held-of, arguments-of, choice-inside}
+use Rattle.builder.proofs.ByWords.{other-call, stop-node, choice-node, new-node, call-node, silent-branch, held-of, arguments-of, choice-inside}
 use Rattle.builder.proofs.Adding.{over-one, over-none, silent-yes, silent-no}
 use Rattle.builder.proofs.NodeCounts.{stop-sums, choice-sums, new-sums, call-sums}
 
@@ -161,7 +161,8 @@ module _ (w : List ℕ) (h : cause w ≡ 0) where
             let one : boundBit S ok a ≡ 1 = rw (le-leb (S .publics) a p′) in
             rw (le-ltb a (publics w) (omega arith))
             (plus-is s ds _ _ _ (omega (arith, size, v, bounds-are w, publics-are w))
-            (rw (ins, v, one, privates-bound S ok a p′, bounds-are w, publics-are w) (omega arith)) (rw (outs, v, one, bounds-are w, publics-are w) (omega arith)))
+            (rw (ins, v, one, privates-bound S ok a p′, bounds-are w, publics-are w) (omega arith))
+            (rw (outs, v, one, bounds-are w, publics-are w) (omega arith)))
 
     copies-sum : (fs as′ : List ℕ) (k : ℕ) → length as′ ≡ length fs → k + length fs ≤ controls S n
         → ((f : ℕ) → member f fs ≡ true → IsBound S U f × (S .restricted f ≡ false))
@@ -240,14 +241,16 @@ module _ (w : List ℕ) (h : cause w ≡ 0) where
         ins at =
             sum-of-map (λ d. length (positions (isInput S d) (places S U))) (making S U n r m) (privateValues S U)
             ∙ total-same (λ v. length (positions (isInput S (making S U n r m v)) (places S U))) (λ v. otherNames S + 2) (privateValues S U)
-            (λ v q. new-inputs S ok n r m v (inside n l) (ok .new-inside n r m at .1) (ok .new-restricted n r m at) (bound at) (private v q .0) (private v q .1))
+            (λ v q. new-inputs S ok n r m v (inside n l) (ok .new-inside n r m at .1) (ok .new-restricted n r m at) (bound at) (private v q .0)
+            (private v q .1))
             ∙ total-each (otherNames S + 2) (privateValues S U) ∙ rw (count, others)
 
         outs : S .node n ≡ new r m → outputSum S ok ds ≡ bounds w * (freeNames w + 2)
         outs at =
             sum-of-map (λ d. length (positions (isOutput S d) (places S U))) (making S U n r m) (privateValues S U)
             ∙ total-same (λ v. length (positions (isOutput S (making S U n r m v)) (places S U))) (λ v. otherNames S + 2) (privateValues S U)
-            (λ v q. new-outputs S ok n r m v (inside n l) (ok .new-inside n r m at .1) (ok .new-restricted n r m at) (bound at) (private v q .0) (private v q .1))
+            (λ v q. new-outputs S ok n r m v (inside n l) (ok .new-inside n r m at .1) (ok .new-restricted n r m at) (bound at) (private v q .0)
+            (private v q .1))
             ∙ total-each (otherNames S + 2) (privateValues S U) ∙ rw (count, others)
 
     -- a branch that is not silent has no transition of its own
@@ -255,7 +258,13 @@ module _ (w : List ℕ) (h : cause w ≡ 0) where
     unfolding scheme branchAt
     loud b e = rw (same-no (branchKind w b) 0 e) (go (ltb b (branches w)) (isSend w b) (isReceive w b))
       where
-        go : (i j k : Bool) → silents S U n b (pick i (pick j (send (channel w b) (branchName w b) (next w b)) (pick k (receive (channel w b) (branchName w b) (next w b)) absent)) absent) ≡ []
+        x : ℕ
+        x = channel w b
+
+        y : ℕ
+        y = branchName w b
+
+        go : (i j k : Bool) → silents S U n b (pick i (pick j (send x y (next w b)) (pick k (receive x y (next w b)) absent)) absent) ≡ []
         go true true k = refl
         go true false true = refl
         go true false false = refl

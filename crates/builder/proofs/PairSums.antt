@@ -1,29 +1,29 @@
 -- What the code counts for the sends of an accepted table are its communications and their arcs.
 use mathlib.Core.Path.{_≡_, refl, sym, ap, _∙_}
 use mathlib.Core.Bool.{Bool, true, false, not}
-use mathlib.Core.List.{List, [], _∷_, _++_, map}
+use mathlib.Core.List.{List, [], _∷_, map}
 use Prim.Native.Nat.{ℕ, _+_, _*_, _≤_, _<_}
 use native.Mathlib.Decide.{decLt, ℕ-discrete}
 use native.Mathlib.Omega.{arith}
 use lib.Dec.{ltb, leb}
 use lib.ListN.{length, length-map}
 use borrow.Author.Tests.{lt-ltb, le-ltb, le-leb, lt-leb}
-use Rattle.lists.specs.Lists.{pick, bit, same, from, range, keep, flat, member, total}
+use Rattle.lists.specs.Lists.{pick, bit, range, keep, flat, member, total}
 use Rattle.lists.proofs.Tests.{same-yes, same-no}
 use Rattle.lists.proofs.Ranges.{from-member}
-use Rattle.lists.proofs.Members.{keep-yes, keep-no, flat-length}
+use Rattle.lists.proofs.Members.{flat-length}
 use Rattle.table.specs.Words.{publics, branches, branchKind, channel, branchName, next, isSilent, isSend, isReceive}
 use Rattle.table.specs.Owners.{branchThread}
 use Rattle.table.specs.Scheme.{Scheme, Branch, absent, silent, send, receive, branchAt, scheme}
 use Rattle.table.specs.Causes.{cause}
 use Rattle.table.specs.Accepted.{Accepted}
 use Rattle.table.proofs.Accepted.{accepted}
-use Rattle.builder.specs.Values.{Values, valuesOf}
+use Rattle.builder.specs.Values.{Values}
 use Rattle.builder.specs.Transitions.{Description, communicating, common, sentOn, ofPair}
 use Rattle.builder.specs.Inner.Plan.{today, values}
-use Rattle.builder.specs.Inner.Counting.{Sums, addTimes, over, boundBit, publicCount, privateCount, pairSums, partnerSums, sendSums}
+use Rattle.builder.specs.Inner.Counting.{Sums, boundBit, publicCount, privateCount, pairSums, partnerSums, sendSums}
 use Rattle.builder.proofs.Totals
-use Rattle.builder.proofs.Totals.{inputSum, outputSum, privatesAmong, total-same, total-each, pair-input-sum, pair-output-sum, self-input-sum, self-output-sum}
+use Rattle.builder.proofs.Totals.{privatesAmong, total-same, total-each, pair-input-sum, pair-output-sum, self-input-sum, self-output-sum}
 use Rattle.builder.proofs.Controls.{publics-are}
 use Rattle.builder.proofs.ByWords.{send-branch, receive-branch}
 use Rattle.builder.proofs.NodeCounts.{partner-yes, partner-own, partner-no, send-yes, send-no}

@@ -1,13 +1,13 @@
 -- How many places are marked at first: N for each input and formal, N for [*≠n], one for each thread.
 use mathlib.Core.Path.{_≡_, refl, sym, ap, _∙_}
-use mathlib.Core.Bool.{Bool, true, false, not, _&&_}
+use mathlib.Core.Bool.{Bool, true, false}
 use mathlib.Core.List.{List, [], _∷_, _++_, map}
 use Prim.Native.Nat.{ℕ, _+_, _*_, _≤_, _<_}
 use native.Mathlib.Nat.{mul-le-mul}
 use native.Mathlib.Omega.{arith}
 use lib.ListN.{length, length-append, length-map}
-use Rattle.lists.specs.Lists.{pick, same, from, range, keep, flat, some, member, total, Distinct, none, more}
-use Rattle.lists.proofs.Tests.{and-intro, and-right, and-left, false-true, not-true-false}
+use Rattle.lists.specs.Lists.{pick, same, from, range, keep, flat, some, member, Distinct, none, more}
+use Rattle.lists.proofs.Tests.{and-intro, and-left, false-true, not-true-false}
 use Rattle.lists.proofs.Ranges.{from-length, from-member, member-from}
 use Rattle.lists.proofs.Members.{member-here, member-there, member-keep, map-member, flat-length, distinct-head, distinct-tail, distinct-from, distinct-keep}
 use Rattle.lists.proofs.Counts.{flat-keep-length}
@@ -59,7 +59,8 @@ module _ (S : Scheme) (ok : Accepted S) where
   -- the nodes where threads start are the roots of their entries
   starts-count : length (keep (startsAt S U) (range (S .nodes))) ≡ S .threads
   starts-count =
-      let a = distinct-within (keep (startsAt S U) (range (S .nodes))) firsts (distinct-keep (startsAt S U) (range (S .nodes)) (distinct-from 0 (S .nodes))) to in
+      let a = distinct-within (keep (startsAt S U) (range (S .nodes))) firsts
+      (distinct-keep (startsAt S U) (range (S .nodes)) (distinct-from 0 (S .nodes))) to in
       let b = distinct-within firsts (keep (startsAt S U) (range (S .nodes)))
       (distinct-map first (S .thread) (range (S .threads)) (λ t m. ok .entry-thread t (inside t m)) (distinct-from 0 (S .threads))) of in
       omega (arith, a, b, length-map (range (S .threads)) first, from-length 0 (S .threads))

@@ -1,21 +1,19 @@
 -- The counts of an accepted table are those of its net: transitions, inputs and outputs, each below 2³², and the words of its image.
 use mathlib.Core.Path.{_≡_, refl, sym, ap, subst, _∙_}
-use mathlib.Core.Bool.{true}
 use mathlib.Core.List.{List, [], _∷_, _++_, map}
-use Prim.Native.Nat.{ℕ, _+_, _*_, _≤_, _<_}
+use Prim.Native.Nat.{ℕ, _+_, _*_}
 use native.Mathlib.Omega.{arith}
 use lib.ListN.{length, length-map}
-use Rattle.lists.specs.Lists.{range, flat, member, positions, total}
+use Rattle.lists.specs.Lists.{range, flat, total}
 use Rattle.lists.proofs.Ranges.{from-member}
-use Rattle.lists.proofs.Sums.{sum}
 use Rattle.table.specs.Words.{nodes, branches}
 use Rattle.table.specs.Scheme.{scheme}
 use Rattle.table.specs.Causes.{cause}
 use Rattle.table.proofs.Accepted.{accepted}
 use Rattle.net.specs.Net.{Net, inputTotal, outputTotal, headerWords}
 use Rattle.net.proofs.Encode
-use Rattle.builder.specs.Places.{places, isInitial}
-use Rattle.builder.specs.Transitions.{Description, isInput, isOutput, ofNode, ofPair, descriptions}
+use Rattle.builder.specs.Places.{places}
+use Rattle.builder.specs.Transitions.{Description, ofNode, ofPair, descriptions}
 use Rattle.builder.specs.Image.{transitionOf, netWith, netOf, imageOf}
 use Rattle.builder.specs.Inner.Arcs.{initialNumbers}
 use Rattle.builder.specs.Inner.Plan.{today, controlOf, Laid, headerOf}

@@ -6,12 +6,13 @@ ghost use Prim.Native.Nat.{_+_, _-_, _*_, _<_, _≤_};
 ghost use lib.Dec.{ltb};
 ghost use lib.ListN.{length, take};
 ghost use Rattle.lists.specs.Lists.{pick, bit, from, range};
-ghost use Rattle.table.specs.Words.{publics, bounds, names, nodes, branches, argument};
-ghost use Rattle.table.specs.Words.{isSend, isReceive, branchName, channel};
+ghost use Rattle.table.specs.Words.{publics, names, nodes, branches, argument};
+ghost use Rattle.table.specs.Words.{isSend, branchName, channel};
 ghost use Rattle.table.specs.Owners.{branchThread};
-ghost use Rattle.builder.specs.Inner.Plan.{Known, Named, Counted, Defined, Laid, InBoth, freeNames};
-ghost use Rattle.builder.specs.Inner.Counting.{Few, sums, sumsOf, addTimes, over, boundBit};
-ghost use Rattle.builder.specs.Inner.Counting.{releaseSums, copySums, silentSums, nodeSums, pairSums, partnerSums, sendSums, allSums};
+ghost use Rattle.builder.specs.Inner.Plan.{Known, Named, Counted, Defined, InBoth, freeNames};
+ghost use Rattle.builder.specs.Inner.Counting.{Few, sumsOf, addTimes, over};
+ghost use Rattle.builder.specs.Inner.Counting.{releaseSums, copySums, silentSums, nodeSums};
+ghost use Rattle.builder.specs.Inner.Counting.{pairSums, partnerSums, sendSums, allSums};
 use crate::layout::Layout;
 use crate::layout::Reach;
 use crate::layout::free_names;
@@ -57,7 +58,8 @@ fn all_releases(table: &[u16], plan: Layout, t: Totals, names: &[u32], count: us
     requires { ⌜ Counted (now table) plan × (count ≤ length (now names))
         × Named (now table) (take count (now names))
         × Few (over (releaseSums (now table)) (sumsOf t) (take count (now names))) ⌝ }
-    ensures { λ r. ⌜ sumsOf r ≡ over (releaseSums (now (table .entry))) (sumsOf t) (take count (now (names .entry))) ⌝ }
+    ensures { λ r. ⌜ sumsOf r
+        ≡ over (releaseSums (now (table .entry))) (sumsOf t) (take count (now (names .entry))) ⌝ }
 {
     let mut r = t;
     let mut i = 0;
@@ -87,7 +89,9 @@ fn all_copies(table: &[u16], plan: Layout, t: Totals, first: usize, end: usize) 
     requires { ⌜ Counted (now table) plan
         × Named (now table) (map (argument (now table)) (from first (end - first)))
         × Few (over (copySums (now table)) (sumsOf t) (map (argument (now table)) (from first (end - first)))) ⌝ }
-    ensures { λ r. ⌜ sumsOf r ≡ over (copySums (now (table .entry))) (sumsOf t) (map (argument (now (table .entry))) (from first (end - first))) ⌝ }
+    ensures { λ r. ⌜ sumsOf r
+        ≡ over (copySums (now (table .entry))) (sumsOf t)
+        (map (argument (now (table .entry))) (from first (end - first))) ⌝ }
 {
     let mut r = t;
     let mut i = first;
@@ -263,10 +267,11 @@ fn partners(
     t: Totals,
     send: usize,
 ) -> Totals
-    requires { ⌜ Defined (now table) (now homes) (now definitions) × Counted (now table) plan × (send < branches (now table))
-        × (isSend (now table) send ≡ true)
+    requires { ⌜ Defined (now table) (now homes) (now definitions) × Counted (now table) plan
+        × (send < branches (now table)) × (isSend (now table) send ≡ true)
         × Few (over (partnerSums (now table) send) (sumsOf t) (range (branches (now table)))) ⌝ }
-    ensures { λ r. ⌜ sumsOf r ≡ over (partnerSums (now (table .entry)) send) (sumsOf t) (range (branches (now (table .entry)))) ⌝ }
+    ensures { λ r. ⌜ sumsOf r
+        ≡ over (partnerSums (now (table .entry)) send) (sumsOf t) (range (branches (now (table .entry)))) ⌝ }
 {
     let branches = word16(table, 5);
     let own = thread_of(table, homes, definitions, send);
@@ -287,7 +292,8 @@ fn partners(
 fn of_nodes(table: &[u16], owners: &[u32], homes: &[u32], plan: Layout, t: Totals) -> Totals
     requires { ⌜ Known (now table) (now owners) (now homes) × Counted (now table) plan
         × Few (over (nodeSums (now table)) (sumsOf t) (range (nodes (now table)))) ⌝ }
-    ensures { λ r. ⌜ sumsOf r ≡ over (nodeSums (now (table .entry))) (sumsOf t) (range (nodes (now (table .entry)))) ⌝ }
+    ensures { λ r. ⌜ sumsOf r
+        ≡ over (nodeSums (now (table .entry))) (sumsOf t) (range (nodes (now (table .entry)))) ⌝ }
 {
     let nodes = word16(table, 4);
     let free = free_names(table);
@@ -304,7 +310,8 @@ fn of_nodes(table: &[u16], owners: &[u32], homes: &[u32], plan: Layout, t: Total
 fn of_sends(table: &[u16], homes: &[u32], definitions: &[u16], plan: Layout, t: Totals) -> Totals
     requires { ⌜ Defined (now table) (now homes) (now definitions) × Counted (now table) plan
         × Few (over (sendSums (now table)) (sumsOf t) (range (branches (now table)))) ⌝ }
-    ensures { λ r. ⌜ sumsOf r ≡ over (sendSums (now (table .entry))) (sumsOf t) (range (branches (now (table .entry)))) ⌝ }
+    ensures { λ r. ⌜ sumsOf r
+        ≡ over (sendSums (now (table .entry))) (sumsOf t) (range (branches (now (table .entry)))) ⌝ }
 {
     let branches = word16(table, 5);
     let mut q = t;

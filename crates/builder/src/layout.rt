@@ -47,7 +47,8 @@ pub(crate) fn is_restricted(table: &[u16], name: usize) -> bool
 
 pub(crate) fn reach_of(table: &[u16], name: usize) -> Reach
     requires { ⌜ name < names (now table) ⌝ }
-    ensures { λ r. ⌜ Lists (publics (now (table .entry))) (bounds (now (table .entry))) r (values (now (table .entry)) name) ⌝ }
+    ensures { λ r. ⌜ Lists (publics (now (table .entry))) (bounds (now (table .entry))) r
+        (values (now (table .entry)) name) ⌝ }
 {
     let publics = word16(table, 0);
     if name < publics {
@@ -73,8 +74,8 @@ pub(crate) fn reach_of(table: &[u16], name: usize) -> Reach
 
 // Value k of a name's reach.
 pub(crate) fn value_at(plan: Layout, values: Reach, k: usize) -> usize
-    requires { ⌜ (values .low ≤ values .high) × (values .high ≤ 65536) × (plan .publics < 65536) × (plan .privates < 65536)
-        × (k < length (reached (plan .publics) (plan .privates) values)) ⌝ }
+    requires { ⌜ (values .low ≤ values .high) × (values .high ≤ 65536) × (plan .publics < 65536)
+        × (plan .privates < 65536) × (k < length (reached (plan .publics) (plan .privates) values)) ⌝ }
     ensures { λ r. ⌜ r ≡ word (reached (plan .publics) (plan .privates) values) k ⌝ }
 {
     let publics = values.high - values.low;

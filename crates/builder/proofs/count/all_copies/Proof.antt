@@ -1,7 +1,7 @@
 -- `builder::count::all_copies` meets its contract. Loop: the arguments left are still to be counted. Measure: arguments left.
-use mathlib.Core.Path.{_≡_, refl, sym, ap, _∙_}
+use mathlib.Core.Path.{_≡_, refl, sym, _∙_}
 use mathlib.Core.List.{map}
-use Prim.Native.Nat.{ℕ, _+_, _-_, _≤_}
+use Prim.Native.Nat.{_-_, _≤_}
 use native.Mathlib.Omega.{arith}
 use borrow.Author.Needs.{needs}
 use Rattle.lists.specs.Lists.{from}
@@ -29,16 +29,17 @@ field1-requires c κs = search needs
 
 copies-requires : tie.Need-copies-requires Inv-loop μ-loop
 copies-requires c κs =
-    let s = c .before .before .before .before in
+    let c2 = c .before .before in
+    let s = c2 .before .before in
     let a = s .args in
     let w = a .table .now in
-    let l = c .before .before .loop in
+    let l = c2 .loop in
     let x = c .field1 in
     let inside = s .pre .1 (argument w (l .i)) (mapped-member (argument w) (a .first) (l .i) (a .end) (l .inv .1) (c .before .loop-test .taken)) in (
       s .pre .0,
       omega (arith, inside, x .ensures .is),
-      map-few (copySums w) (copy-grows w) (argument w) (over (copySums w) (sumsOf (a .t)) (map (argument w) (from (a .first) (a .end - a .first)))) (sumsOf (l .r))
-          (l .i) (a .end) (x .result) (l .inv .0) (c .before .loop-test .taken) (x .ensures .is) (s .pre .2),
+      map-few (copySums w) (copy-grows w) (argument w) (over (copySums w) (sumsOf (a .t)) (map (argument w) (from (a .first) (a .end - a .first))))
+          (sumsOf (l .r)) (l .i) (a .end) (x .result) (l .inv .0) (c .before .loop-test .taken) (x .ensures .is) (s .pre .2),
     )
 
 add-i : tie.Need-add-i Inv-loop μ-loop
@@ -49,13 +50,15 @@ loop-less c = omega arith
 
 loop-again : tie.Need-loop-again Inv-loop μ-loop
 loop-again c =
-    let a = c .before .before .before .before .before .args in
+    let c2 = c .before .before in
+    let c3 = c2 .before in
+    let a = c3 .before .before .args in
     let w = a .table .now in
-    let l = c .before .before .before .loop in
+    let l = c3 .loop in
     let x = c .before .field1 in
     let r = c .copies in (
-      map-on (copySums w) (argument w) (over (copySums w) (sumsOf (a .t)) (map (argument w) (from (a .first) (a .end - a .first)))) (sumsOf (l .r)) (sumsOf (r .result))
-          (l .i) (a .end) (x .result) (l .inv .0) (c .before .before .loop-test .taken) (x .ensures .is) (r .ensures),
+      map-on (copySums w) (argument w) (over (copySums w) (sumsOf (a .t)) (map (argument w) (from (a .first) (a .end - a .first)))) (sumsOf (l .r))
+          (sumsOf (r .result)) (l .i) (a .end) (x .result) (l .inv .0) (c2 .loop-test .taken) (x .ensures .is) (r .ensures),
       omega (arith, l .inv .1),
     )
 

@@ -1,14 +1,13 @@
 -- `builder::count::node` meets its contract.
-use mathlib.Core.Path.{_≡_, refl, sym, ap, subst, _∙_}
-use mathlib.Core.List.{List, map}
-use Prim.Native.Nat.{ℕ, _+_, _-_}
+use mathlib.Core.Path.{_≡_, sym, ap, subst, _∙_}
+use Prim.Native.Nat.{_+_, _-_}
 use native.Mathlib.Omega.{arith}
 use borrow.Author.Needs.{needs}
 use Rattle.lists.specs.Lists.{from}
-use Rattle.table.specs.Words.{nodeKind, formalCount, argument, argumentsOf}
+use Rattle.table.specs.Words.{nodeKind, argumentsOf}
 use Rattle.table.specs.Owners.{held}
 use Rattle.builder.specs.Inner.Plan.{Named}
-use Rattle.builder.specs.Inner.Counting.{Sums, Few, sumsOf, addTimes, over, releaseSums, copySums, silentSums, nodeSums}
+use Rattle.builder.specs.Inner.Counting.{Few, sumsOf, addTimes, over, releaseSums, copySums, silentSums, nodeSums}
 use Rattle.builder.proofs.Controls.{few-nodes}
 use Rattle.builder.proofs.NodeCounts.{names-asks, names-gives, stop-sums, choice-sums, new-sums, call-sums, copied-few, called-few, arguments-named}
 use Rattle.builder.proofs.NodeCounts.{arguments-are, choice-range, free-few}
@@ -47,27 +46,33 @@ slice-aggregate-all-releases c = search needs
 
 all-releases-requires : tie.Need-all-releases-requires
 all-releases-requires c κs =
-    let s = c .before .before .before .before .before .before .before .before .before .before .before in
+    let c2 = c .before .before in
+    let c4 = c2 .before .before in
+    let c7 = c4 .before .before .before in
+    let s = c7 .before .before .before .before in
     let a = s .args in
     let w = a .table .now in
     let h = s .pre .0 .accepted in
     let t = sumsOf (a .t) in
-    let e = stop-sums w h (a .n) (s .pre .3) t (sym (c .before .before .before .before .before .before .before .field3 .ensures .is) ∙ c .before .before .before .before .if1 .taken) in
+    let e = stop-sums w h (a .n) (s .pre .3) t (sym (c7 .field3 .ensures .is) ∙ c4 .if1 .taken) in
     let q =
-    names-asks w (a .owners .now) (a .homes .now) (s .pre .0) (a .n) (s .pre .3) _ (c .before .before .held-names .result) (c .before .before .held-names .last .1 .1 .1 .1 .0)
-    (c .before .before .held-names .ensures) (omega arith) t (subst Few e (s .pre .4)) in
+    names-asks w (a .owners .now) (a .homes .now) (s .pre .0) (a .n) (s .pre .3) _ (c2 .held-names .result) (c2 .held-names .last .1 .1 .1 .1 .0)
+    (c2 .held-names .ensures) (omega arith) t (subst Few e (s .pre .4)) in
     (s .pre .1, q .0, q .1, q .2)
 
 returns : tie.Need-returns
 returns c =
-    let s = c .before .before .before .before .before .before .before .before .before .before .before .before in
+    let c3 = c .before .before .before in
+    let c5 = c3 .before .before in
+    let c8 = c5 .before .before .before in
+    let s = c8 .before .before .before .before in
     let a = s .args in
     let w = a .table .now in
     let h = s .pre .0 .accepted in
     let t = sumsOf (a .t) in
-    let e = stop-sums w h (a .n) (s .pre .3) t (sym (c .before .before .before .before .before .before .before .before .field3 .ensures .is) ∙ c .before .before .before .before .before .if1 .taken) in
-    names-gives w (a .owners .now) (a .homes .now) (s .pre .0) (a .n) (s .pre .3) _ (c .before .before .before .held-names .result) (c .before .before .before .held-names .last .1 .1 .1 .1 .0)
-    (c .before .before .before .held-names .ensures) (omega arith) t (sumsOf (c .all-releases .result)) (c .all-releases .ensures)
+    let e = stop-sums w h (a .n) (s .pre .3) t (sym (c8 .field3 .ensures .is) ∙ c5 .if1 .taken) in
+    names-gives w (a .owners .now) (a .homes .now) (s .pre .0) (a .n) (s .pre .3) _ (c3 .held-names .result) (c3 .held-names .last .1 .1 .1 .1 .0)
+    (c3 .held-names .ensures) (omega arith) t (sumsOf (c .all-releases .result)) (c .all-releases .ensures)
     ∙ sym e
 
 add-silents : tie.Need-add-silents
@@ -103,32 +108,36 @@ returns-2 c =
 
 add-more : tie.Need-add-more
 add-more c =
-    omega (arith, c .before .before .before .before .before .before .before .before .before .pre .2, free-few (c .before .before .before .before .before .before .before .before .before .args .table .now) (c .before .before .before .before .before .before .before .before .before .pre .1 .few-bounds))
+    let c9 = c .before .before .before .before .before .before .before .before .before in
+    omega (arith, c9 .pre .2, free-few (c9 .args .table .now) (c9 .pre .1 .few-bounds))
 
 add-more-2 : tie.Need-add-more-2
 add-more-2 c =
-    omega (arith, c .before .before .before .before .before .before .before .before .before .pre .2, free-few (c .before .before .before .before .before .before .before .before .before .args .table .now) (c .before .before .before .before .before .before .before .before .before .pre .1 .few-bounds))
+    let c9 = c .before .before .before .before .before .before .before .before .before in
+    omega (arith, c9 .pre .2, free-few (c9 .args .table .now) (c9 .pre .1 .few-bounds))
 
 more-requires : tie.Need-more-requires
 more-requires c κs =
-    let s = c .before .before .before .before .before .before .before .before .before in
+    let c5 = c .before .before .before .before .before in
+    let s = c5 .before .before .before .before in
     let a = s .args in
     let w = a .table .now in
     let h = s .pre .0 .accepted in
     let t = sumsOf (a .t) in
     let e : nodeSums w t (a .n) ≡ addTimes t (a .plan .privates) (a .free + 2) (a .free + 2) =
-    new-sums w h (a .n) (s .pre .3) t (sym (c .before .before .before .before .before .field3 .ensures .is) ∙ c .if3 .taken) ∙ rw (s .pre .1 .privates-are, s .pre .2) in
+    new-sums w h (a .n) (s .pre .3) t (sym (c5 .field3 .ensures .is) ∙ c .if3 .taken) ∙ rw (s .pre .1 .privates-are, s .pre .2) in
     subst Few e (s .pre .4)
 
 returns-3 : tie.Need-returns-3
 returns-3 c =
-    let s = c .before .before .before .before .before .before .before .before .before .before in
+    let c6 = c .before .before .before .before .before .before in
+    let s = c6 .before .before .before .before in
     let a = s .args in
     let w = a .table .now in
     let h = s .pre .0 .accepted in
     let t = sumsOf (a .t) in
     let e : nodeSums w t (a .n) ≡ addTimes t (a .plan .privates) (a .free + 2) (a .free + 2) =
-    new-sums w h (a .n) (s .pre .3) t (sym (c .before .before .before .before .before .before .field3 .ensures .is) ∙ c .before .if3 .taken) ∙ rw (s .pre .1 .privates-are, s .pre .2) in
+    new-sums w h (a .n) (s .pre .3) t (sym (c6 .field3 .ensures .is) ∙ c .before .if3 .taken) ∙ rw (s .pre .1 .privates-are, s .pre .2) in
     c .more .ensures ∙ sym e
 
 cast-held-names-2 : tie.Need-cast-held-names-2
@@ -163,17 +172,23 @@ add-all-copies c = search needs
 
 all-copies-requires : tie.Need-all-copies-requires
 all-copies-requires c κs =
-    let s = c .before .before .before .before .before .before .before .before .before .before .before .before .before .before in
+    let c5 = c .before .before .before .before .before in
+    let c6 = c5 .before in
+    let c7 = c6 .before in
+    let c8 = c7 .before in
+    let c9 = c8 .before in
+    let c10 = c9 .before in
+    let s = c10 .before .before .before .before in
     let a = s .args in
     let w = a .table .now in
     let h = s .pre .0 .accepted in
     let t = sumsOf (a .t) in
-    let f = c .before .before .before .before .before .before .before .before .before .before .field3 .ensures .is in
-    let n0 : nodeKind w (a .n) ≡ 0 → ⊥ = λ q. c .before .before .before .before .before .before .before .if1 .left (f ∙ q) in
-    let n1 : nodeKind w (a .n) ≡ 1 → ⊥ = λ q. c .before .before .before .before .before .before .if2 .left (f ∙ q) in
-    let n2 : nodeKind w (a .n) ≡ 2 → ⊥ = λ q. c .before .before .before .before .before .if3 .left (f ∙ q) in
+    let f = c10 .field3 .ensures .is in
+    let n0 : nodeKind w (a .n) ≡ 0 → ⊥ = λ q. c7 .if1 .left (f ∙ q) in
+    let n1 : nodeKind w (a .n) ≡ 1 → ⊥ = λ q. c6 .if2 .left (f ∙ q) in
+    let n2 : nodeKind w (a .n) ≡ 2 → ⊥ = λ q. c5 .if3 .left (f ∙ q) in
     let as′ =
-    arguments-are w (a .n) (c .before .before .before .before .before .before .before .before .before .field32 .result) (c .before .before .before .before .before .before .before .before .field33 .result) (c .field4 .result) (c .before .before .before .before .before .before .before .before .before .field32 .ensures .is) (c .before .before .before .before .before .before .before .before .field33 .ensures .is)
+    arguments-are w (a .n) (c9 .field32 .result) (c8 .field33 .result) (c .field4 .result) (c9 .field32 .ensures .is) (c8 .field33 .ensures .is)
     (c .field4 .ensures .is) in
     let few = copied-few w h (a .n) (s .pre .3) t n0 n1 n2 (s .pre .4) in (
       s .pre .1,
@@ -186,47 +201,66 @@ slice-aggregate-all-releases-2 c = search needs
 
 all-releases-requires-2 : tie.Need-all-releases-requires-2
 all-releases-requires-2 c κs =
-    let s = c .before .before .before .before .before .before .before .before .before .before .before .before .before .before .before .before in
+    let c2 = c .before .before in
+    let c3 = c2 .before in
+    let c5 = c3 .before .before in
+    let c7 = c5 .before .before in
+    let c8 = c7 .before in
+    let c9 = c8 .before in
+    let c10 = c9 .before in
+    let c11 = c10 .before in
+    let c12 = c11 .before in
+    let s = c12 .before .before .before .before in
     let a = s .args in
     let w = a .table .now in
     let h = s .pre .0 .accepted in
     let t = sumsOf (a .t) in
-    let f = c .before .before .before .before .before .before .before .before .before .before .before .before .field3 .ensures .is in
-    let n0 : nodeKind w (a .n) ≡ 0 → ⊥ = λ q. c .before .before .before .before .before .before .before .before .before .if1 .left (f ∙ q) in
-    let n1 : nodeKind w (a .n) ≡ 1 → ⊥ = λ q. c .before .before .before .before .before .before .before .before .if2 .left (f ∙ q) in
-    let n2 : nodeKind w (a .n) ≡ 2 → ⊥ = λ q. c .before .before .before .before .before .before .before .if3 .left (f ∙ q) in
+    let f = c12 .field3 .ensures .is in
+    let n0 : nodeKind w (a .n) ≡ 0 → ⊥ = λ q. c9 .if1 .left (f ∙ q) in
+    let n1 : nodeKind w (a .n) ≡ 1 → ⊥ = λ q. c8 .if2 .left (f ∙ q) in
+    let n2 : nodeKind w (a .n) ≡ 2 → ⊥ = λ q. c7 .if3 .left (f ∙ q) in
     let as′ =
-    arguments-are w (a .n) (c .before .before .before .before .before .before .before .before .before .before .before .field32 .result) (c .before .before .before .before .before .before .before .before .before .before .field33 .result) (c .before .before .field4 .result) (c .before .before .before .before .before .before .before .before .before .before .before .field32 .ensures .is) (c .before .before .before .before .before .before .before .before .before .before .field33 .ensures .is)
-    (c .before .before .field4 .ensures .is) in
+    arguments-are w (a .n) (c11 .field32 .result) (c10 .field33 .result) (c2 .field4 .result) (c11 .field32 .ensures .is) (c10 .field33 .ensures .is)
+    (c2 .field4 .ensures .is) in
     let copied : sumsOf (c .before .all-copies .result) ≡ over (copySums w) (addTimes t 1 1 1) (argumentsOf w (a .n)) =
-    c .before .all-copies .ensures ∙ rw (as′, c .before .before .before .more2 .ensures) in
+    c .before .all-copies .ensures ∙ rw (as′, c3 .more2 .ensures) in
     let e : nodeSums w t (a .n) ≡ over (releaseSums w) (sumsOf (c .before .all-copies .result)) (held w (a .n)) =
     call-sums w h (a .n) (s .pre .3) t n0 n1 n2 ∙ rw copied in
     let q =
-    names-asks w (a .owners .now) (a .homes .now) (s .pre .0) (a .n) (s .pre .3) _ (c .before .before .before .before .before .held-names2 .result) (c .before .before .before .before .before .held-names2 .last .1 .1 .1 .1 .0)
-    (c .before .before .before .before .before .held-names2 .ensures) (omega arith) (sumsOf (c .before .all-copies .result)) (subst Few e (s .pre .4)) in
+    names-asks w (a .owners .now) (a .homes .now) (s .pre .0) (a .n) (s .pre .3) _ (c5 .held-names2 .result) (c5 .held-names2 .last .1 .1 .1 .1 .0)
+    (c5 .held-names2 .ensures) (omega arith) (sumsOf (c .before .all-copies .result)) (subst Few e (s .pre .4)) in
     (s .pre .1, q .0, q .1, q .2)
 
 returns-4 : tie.Need-returns-4
 returns-4 c =
-    let s = c .before .before .before .before .before .before .before .before .before .before .before .before .before .before .before .before .before in
+    let c2 = c .before .before in
+    let c3 = c2 .before in
+    let c4 = c3 .before in
+    let c6 = c4 .before .before in
+    let c8 = c6 .before .before in
+    let c9 = c8 .before in
+    let c10 = c9 .before in
+    let c11 = c10 .before in
+    let c12 = c11 .before in
+    let c13 = c12 .before in
+    let s = c13 .before .before .before .before in
     let a = s .args in
     let w = a .table .now in
     let h = s .pre .0 .accepted in
     let t = sumsOf (a .t) in
-    let f = c .before .before .before .before .before .before .before .before .before .before .before .before .before .field3 .ensures .is in
-    let n0 : nodeKind w (a .n) ≡ 0 → ⊥ = λ q. c .before .before .before .before .before .before .before .before .before .before .if1 .left (f ∙ q) in
-    let n1 : nodeKind w (a .n) ≡ 1 → ⊥ = λ q. c .before .before .before .before .before .before .before .before .before .if2 .left (f ∙ q) in
-    let n2 : nodeKind w (a .n) ≡ 2 → ⊥ = λ q. c .before .before .before .before .before .before .before .before .if3 .left (f ∙ q) in
+    let f = c13 .field3 .ensures .is in
+    let n0 : nodeKind w (a .n) ≡ 0 → ⊥ = λ q. c10 .if1 .left (f ∙ q) in
+    let n1 : nodeKind w (a .n) ≡ 1 → ⊥ = λ q. c9 .if2 .left (f ∙ q) in
+    let n2 : nodeKind w (a .n) ≡ 2 → ⊥ = λ q. c8 .if3 .left (f ∙ q) in
     let as′ =
-    arguments-are w (a .n) (c .before .before .before .before .before .before .before .before .before .before .before .before .field32 .result) (c .before .before .before .before .before .before .before .before .before .before .before .field33 .result) (c .before .before .before .field4 .result) (c .before .before .before .before .before .before .before .before .before .before .before .before .field32 .ensures .is) (c .before .before .before .before .before .before .before .before .before .before .before .field33 .ensures .is)
-    (c .before .before .before .field4 .ensures .is) in
-    let copied : sumsOf (c .before .before .all-copies .result) ≡ over (copySums w) (addTimes t 1 1 1) (argumentsOf w (a .n)) =
-    c .before .before .all-copies .ensures ∙ rw (as′, c .before .before .before .before .more2 .ensures) in
-    let e : nodeSums w t (a .n) ≡ over (releaseSums w) (sumsOf (c .before .before .all-copies .result)) (held w (a .n)) =
+    arguments-are w (a .n) (c12 .field32 .result) (c11 .field33 .result) (c3 .field4 .result) (c12 .field32 .ensures .is) (c11 .field33 .ensures .is)
+    (c3 .field4 .ensures .is) in
+    let copied : sumsOf (c2 .all-copies .result) ≡ over (copySums w) (addTimes t 1 1 1) (argumentsOf w (a .n)) =
+    c2 .all-copies .ensures ∙ rw (as′, c4 .more2 .ensures) in
+    let e : nodeSums w t (a .n) ≡ over (releaseSums w) (sumsOf (c2 .all-copies .result)) (held w (a .n)) =
     call-sums w h (a .n) (s .pre .3) t n0 n1 n2 ∙ rw copied in
-    names-gives w (a .owners .now) (a .homes .now) (s .pre .0) (a .n) (s .pre .3) _ (c .before .before .before .before .before .before .held-names2 .result) (c .before .before .before .before .before .before .held-names2 .last .1 .1 .1 .1 .0)
-    (c .before .before .before .before .before .before .held-names2 .ensures) (omega arith) (sumsOf (c .before .before .all-copies .result)) (sumsOf (c .all-releases2 .result)) (c .all-releases2 .ensures)
+    names-gives w (a .owners .now) (a .homes .now) (s .pre .0) (a .n) (s .pre .3) _ (c6 .held-names2 .result) (c6 .held-names2 .last .1 .1 .1 .1 .0)
+    (c6 .held-names2 .ensures) (omega arith) (sumsOf (c2 .all-copies .result)) (sumsOf (c .all-releases2 .result)) (c .all-releases2 .ensures)
     ∙ sym e
 
 pub node-spec : {M : Type 1} → statement M

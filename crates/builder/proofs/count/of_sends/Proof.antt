@@ -1,7 +1,7 @@
 -- `builder::count::of_sends` meets its contract. Loop: the branches left are still to be counted. Measure: branches left.
 use mathlib.Core.Logic.{⊎-elim}
-use mathlib.Core.Path.{_≡_, refl, sym, ap, subst, _∙_}
-use Prim.Native.Nat.{ℕ, _+_, _-_, _<_}
+use mathlib.Core.Path.{_≡_, sym, ap, subst, _∙_}
+use Prim.Native.Nat.{_-_, _<_}
 use native.Mathlib.Omega.{arith}
 use borrow.Author.Needs.{needs}
 use Rattle.lists.specs.Lists.{from, range}
@@ -34,18 +34,22 @@ field4-requires c κs = search needs
 
 partners-requires : tie.Need-partners-requires Inv-loop μ-loop
 partners-requires c κs =
-    let b = c .before .before .before .before .before .before .before .before in
+    let c2 = c .before .before in
+    let c3 = c2 .before in
+    let c4 = c3 .before in
+    let b = c4 .before .before .before .before in
     let a = b .args in
     let w = a .table .now in
-    let l = c .before .before .before .loop in
-    let u : l .s < branches w = omega (arith, c .before .before .before .before .word16 .ensures .is, c .before .before .loop-test .taken) in
+    let l = c3 .loop in
+    let u : l .s < branches w = omega (arith, c4 .word16 .ensures .is, c2 .loop-test .taken) in
     let e = sym (c .before .field4 .ensures .is) ∙ c .if1 .taken in (
       b .pre .0,
       b .pre .1,
       u,
       same-yes (branchKind w (l .s)) 1 e,
       subst Few (send-yes w (sumsOf (l .q)) (l .s) e)
-          (range-few (sendSums w) (send-grows w) (over (sendSums w) (sumsOf (a .t)) (range (branches w))) (sumsOf (l .q)) (l .s) (branches w) (l .inv) u (b .pre .2)),
+          (range-few (sendSums w) (send-grows w) (over (sendSums w) (sumsOf (a .t)) (range (branches w))) (sumsOf (l .q)) (l .s) (branches w) (l .inv) u
+          (b .pre .2)),
     )
 
 add-s : tie.Need-add-s Inv-loop μ-loop

@@ -1,7 +1,7 @@
 -- `builder::count::partners` meets its contract. Loop: the branches left are still to be counted. Measure: branches left.
 use mathlib.Core.Logic.{⊎-elim}
-use mathlib.Core.Path.{_≡_, refl, sym, ap, subst, _∙_}
-use Prim.Native.Nat.{ℕ, _+_, _-_, _<_}
+use mathlib.Core.Path.{_≡_, sym, ap, subst, _∙_}
+use Prim.Native.Nat.{_-_, _<_}
 use native.Mathlib.Omega.{arith}
 use borrow.Author.Needs.{needs}
 use Rattle.lists.specs.Lists.{from, range}
@@ -31,23 +31,35 @@ thread-of-requires : tie.Need-thread-of-requires Inv-loop μ-loop
 thread-of-requires c κs = (c .before .before .before .before .pre .0, c .before .before .before .before .pre .2)
 
 loop-holds : tie.Need-loop-holds Inv-loop μ-loop
-loop-holds c = let a = c .before .before .before .before .before .args in range-whole (partnerSums (a .table .now) (a .send)) (sumsOf (a .t)) (branches (a .table .now))
+loop-holds c =
+    let c5 = c .before .before .before .before .before in
+    let a = c5 .args in range-whole (partnerSums (a .table .now) (a .send)) (sumsOf (a .t)) (branches (a .table .now))
 
 field4-requires : tie.Need-field4-requires Inv-loop μ-loop
 field4-requires c κs = search needs
 
 thread-of-requires-2 : tie.Need-thread-of-requires-2 Inv-loop μ-loop
-thread-of-requires-2 c κs = (c .before .before .before .before .before .before .before .before .before .pre .0, omega (arith, c .before .before .before .before .before .word16 .ensures .is, c .before .before .loop-test .taken))
+thread-of-requires-2 c κs =
+    let c2 = c .before .before in
+    let c5 = c2 .before .before .before in
+    let c9 = c5 .before .before .before .before in
+    (c9 .pre .0, omega (arith, c5 .word16 .ensures .is, c2 .loop-test .taken))
 
 pair-requires : tie.Need-pair-requires Inv-loop μ-loop
 pair-requires c κs =
-    let s = c .before .before .before .before .before .before .before .before .before .before .before in
+    let c2 = c .before .before in
+    let c3 = c2 .before in
+    let c4 = c3 .before in
+    let c5 = c4 .before in
+    let c6 = c5 .before in
+    let c7 = c6 .before in
+    let s = c7 .before .before .before .before in
     let a = s .args in
     let w = a .table .now in
-    let l = c .before .before .before .before .before .loop in
-    let u : l .r < branches w = omega (arith, c .before .before .before .before .before .before .before .word16 .ensures .is, c .before .before .before .before .loop-test .taken) in
-    let e = sym (c .before .before .before .field4 .ensures .is) ∙ c .before .before .if1 .taken in
-    let d : branchThread w (l .r) ≡ branchThread w (a .send) → ⊥ = λ q. c .if2 .taken (c .before .thread-of2 .ensures ∙ q ∙ sym (c .before .before .before .before .before .before .thread-of .ensures)) in
+    let l = c5 .loop in
+    let u : l .r < branches w = omega (arith, c7 .word16 .ensures .is, c4 .loop-test .taken) in
+    let e = sym (c3 .field4 .ensures .is) ∙ c2 .if1 .taken in
+    let d : branchThread w (l .r) ≡ branchThread w (a .send) → ⊥ = λ q. c .if2 .taken (c .before .thread-of2 .ensures ∙ q ∙ sym (c6 .thread-of .ensures)) in
     let ns = pair-names w (s .pre .0 .accepted) (a .send) (l .r) (s .pre .2) u (s .pre .3) e in (
       s .pre .1,
       ns .0,
@@ -85,10 +97,11 @@ loop-again c =
 
 returns : tie.Need-returns Inv-loop μ-loop
 returns c =
-    let a = c .before .before .before .before .before .before .before .args in
+    let c3 = c .before .before .before in
+    let a = c3 .before .before .before .before .args in
     let w = a .table .now in
     let l = c .before .loop in
-    sym (l .inv ∙ range-done (partnerSums w (a .send)) (sumsOf (l .q)) (l .r) (branches w) (omega (arith, c .before .before .before .word16 .ensures .is, c .loop-test .left)))
+    sym (l .inv ∙ range-done (partnerSums w (a .send)) (sumsOf (l .q)) (l .r) (branches w) (omega (arith, c3 .word16 .ensures .is, c .loop-test .left)))
 
 pub partners-spec : {M : Type 1} → statement M
 partners-spec =

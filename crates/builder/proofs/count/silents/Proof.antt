@@ -1,11 +1,11 @@
 -- `builder::count::silents` meets its contract. Loop: the branches left are still to be counted. Measure: branches left.
 use mathlib.Core.Logic.{⊎-elim}
 use mathlib.Core.Path.{_≡_, refl, sym, ap, subst, _∙_}
-use Prim.Native.Nat.{ℕ, _+_, _-_, _≤_}
+use Prim.Native.Nat.{_-_}
 use native.Mathlib.Omega.{arith}
 use borrow.Author.Needs.{needs}
 use Rattle.lists.specs.Lists.{from}
-use Rattle.builder.specs.Inner.Counting.{Sums, Few, sumsOf, over, silentSums}
+use Rattle.builder.specs.Inner.Counting.{Few, sumsOf, over, silentSums}
 use Rattle.builder.proofs.Adding.{silent-grows, silent-yes, silent-no, range-few, range-on, range-done}
 use Rattle.builder.proofs.count.silents.Statement.{statement}
 use Rattle.builder.proofs.count.silents.Tie as tie

@@ -16,7 +16,9 @@ of-sends-requires c κs =
 
 returns : tie.Need-returns
 returns c =
-    all-added (c .before .before .before .before .before .before .args .table .now) (sumsOf (c .before .of-nodes .result)) (sumsOf (c .of-sends .result)) (c .before .of-nodes .ensures) (c .of-sends .ensures)
+    let n = c .before .of-nodes in
+    let s = c .before .before .before .before .before .before in
+    all-added (s .args .table .now) (sumsOf (n .result)) (sumsOf (c .of-sends .result)) (n .ensures) (c .of-sends .ensures)
 
 pub totals-of-spec : {M : Type 1} → statement M
 totals-of-spec = tie.close (tie.spec of-nodes-requires of-sends-requires returns)

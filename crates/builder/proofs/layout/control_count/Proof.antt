@@ -1,5 +1,5 @@
 -- `builder::layout::control_count` meets its contract.
-use mathlib.Core.Path.{_≡_, refl, sym, ap, _∙_}
+use mathlib.Core.Path.{sym, ap, _∙_}
 use native.Mathlib.Omega.{arith}
 use borrow.Author.Needs.{needs}
 use Rattle.table.specs.Words.{formalCount}
@@ -25,18 +25,18 @@ slice-aggregate-held-names c = search needs
 held-names-requires : tie.Need-held-names-requires
 held-names-requires c κs = search needs
 
-add-result : tie.Need-add-result
-add-result c =
-    let s = c .before .before .before .before .before .before .before .before in
-    let r = count-stop (s .args .table .now) (s .args .owners .now) (s .args .homes .now) (s .pre .0) (s .args .node) (s .pre .1) _ _ (c .before .held-names .result)
-    (sym (c .before .before .before .before .field3 .ensures .is) ∙ c .before .before .before .if1 .taken) (c .before .held-names .ensures) in
-    omega (arith, r .1)
-
 returns : tie.Need-returns
 returns c =
-    let s = c .before .before .before .before .before .before .before .before in
-    count-stop (s .args .table .now) (s .args .owners .now) (s .args .homes .now) (s .pre .0) (s .args .node) (s .pre .1) _ _ (c .before .held-names .result)
-    (sym (c .before .before .before .before .field3 .ensures .is) ∙ c .before .before .before .if1 .taken) (c .before .held-names .ensures)
+    let c1 = c .before in
+    let c3 = c1 .before .before in
+    let c4 = c3 .before in
+    let s = c4 .before .before .before .before in
+    let a = s .args in
+    count-stop (a .table .now) (a .owners .now) (a .homes .now) (s .pre .0) (a .node) (s .pre .1) _ _ (c1 .held-names .result)
+    (sym (c4 .field3 .ensures .is) ∙ c3 .if1 .taken) (c1 .held-names .ensures)
+
+add-result : tie.Need-add-result
+add-result c = let r = returns c in omega (arith, r .1)
 
 field3-requires-2 : tie.Need-field3-requires-2
 field3-requires-2 c κs = search needs
@@ -58,18 +58,21 @@ slice-aggregate-held-names-2 c = search needs
 held-names-requires-2 : tie.Need-held-names-requires-2
 held-names-requires-2 c κs = search needs
 
-add-result-3 : tie.Need-add-result-3
-add-result-3 c =
-    let s = c .before .before .before .before .before .before .before .before .before .before .before in
-    let r = count-call (s .args .table .now) (s .args .owners .now) (s .args .homes .now) (s .pre .0) (s .args .node) (s .pre .1) _ _ (c .before .before .before .field4 .result) (c .before .held-names2 .result)
-    (sym (c .before .before .before .before .before .before .before .field3 .ensures .is) ∙ c .before .before .before .before .before .if2 .taken) (c .before .before .before .field4 .ensures .is ∙ ap (formalCount (s .args .table .now)) (c .before .before .before .before .field32 .ensures .is)) (c .before .held-names2 .ensures) in
-    omega (arith, r .1)
-
 returns-2 : tie.Need-returns-2
 returns-2 c =
-    let s = c .before .before .before .before .before .before .before .before .before .before .before in
-    count-call (s .args .table .now) (s .args .owners .now) (s .args .homes .now) (s .pre .0) (s .args .node) (s .pre .1) _ _ (c .before .before .before .field4 .result) (c .before .held-names2 .result)
-    (sym (c .before .before .before .before .before .before .before .field3 .ensures .is) ∙ c .before .before .before .before .before .if2 .taken) (c .before .before .before .field4 .ensures .is ∙ ap (formalCount (s .args .table .now)) (c .before .before .before .before .field32 .ensures .is)) (c .before .held-names2 .ensures)
+    let c1 = c .before in
+    let c3 = c1 .before .before in
+    let c4 = c3 .before in
+    let c5 = c4 .before in
+    let c7 = c5 .before .before in
+    let s = c7 .before .before .before .before in
+    let a = s .args in
+    count-call (a .table .now) (a .owners .now) (a .homes .now) (s .pre .0) (a .node) (s .pre .1) _ _ (c3 .field4 .result) (c1 .held-names2 .result)
+    (sym (c7 .field3 .ensures .is) ∙ c5 .if2 .taken) (c3 .field4 .ensures .is ∙ ap (formalCount (a .table .now)) (c4 .field32 .ensures .is))
+    (c1 .held-names2 .ensures)
+
+add-result-3 : tie.Need-add-result-3
+add-result-3 c = let r = returns-2 c in omega (arith, r .1)
 
 returns-3 : tie.Need-returns-3
 returns-3 c =

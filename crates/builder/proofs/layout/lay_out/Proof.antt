@@ -1,6 +1,6 @@
 -- `builder::layout::lay_out` meets its contract.
-use mathlib.Core.Path.{_≡_, refl, sym, ap, _∙_}
-use Prim.Native.Nat.{ℕ, _+_, _*_}
+use mathlib.Core.Path.{_≡_}
+use Prim.Native.Nat.{ℕ, _*_, _≤_}
 use native.Mathlib.Omega.{arith}
 use borrow.Author.Needs.{needs}
 use Rattle.table.specs.Words.{bounds}
@@ -43,35 +43,32 @@ word16-requires-3 c κs = search needs
 free-names-requires : tie.Need-free-names-requires
 free-names-requires c κs = search needs
 
-mul-t17 : tie.Need-mul-t17
-mul-t17 c =
-    let s = c .before .before .before .before .before .before .before .before .before .before .before .before .before .before .before .before .before in
+-- N, as it was read
+abbrev privates : tie.After-free-names → ℕ
+privates c = c .before .before .before .before .before .before .before .before .before .before .before .word16 .result
+
+product : (c : tie.After-free-names) → c .free-names .result * privates c ≤ 1024
+product c =
+    let f = c .free-names in
     let p = c .before .before .before .before .before .before .before .before .before .before .before .word16 in
-    omega (arith, product-few (s .args .table .now) (s .pre .0 .accepted) (c .free-names .result) (p .result) (omega (arith, c .free-names .ensures .1, p .ensures .is)) (p .ensures .is))
+    let s = c .before .before .before .before .before .before .before .before .before .before .before .before .before .before .before .before .before in
+    product-few (s .args .table .now) (s .pre .0 .accepted) (f .result) (p .result) (omega (arith, f .ensures .1, p .ensures .is)) (p .ensures .is)
+
+mul-t17 : tie.Need-mul-t17
+mul-t17 c = omega (arith, product c)
 
 add-t18 : tie.Need-add-t18
 add-t18 c =
-    let s = c .before .before .before .before .before .before .before .before .before .before .before .before .before .before .before .before .before in
     let p = c .before .before .before .before .before .before .before .before .before .before .before .word16 in
-    omega (
-      arith,
-      p .ensures .small,
-      product-few (s .args .table .now) (s .pre .0 .accepted) (c .free-names .result) (p .result) (omega (arith, c .free-names .ensures .1, p .ensures .is)) (p .ensures .is),
-    )
+    omega (arith, product c, p .ensures .small)
 
 word16-requires-4 : tie.Need-word16-requires-4
 word16-requires-4 c κs = search needs
 
 add-t20 : tie.Need-add-t20
 add-t20 c =
-    let s = c .before .before .before .before .before .before .before .before .before .before .before .before .before .before .before .before .before .before in
     let p = c .before .before .before .before .before .before .before .before .before .before .before .before .word16 in
-    omega (
-      arith,
-      p .ensures .small,
-      c .word164 .ensures .small,
-      product-few (s .args .table .now) (s .pre .0 .accepted) (c .before .free-names .result) (p .result) (omega (arith, c .before .free-names .ensures .1, p .ensures .is)) (p .ensures .is),
-    )
+    omega (arith, product (c .before), p .ensures .small, c .word164 .ensures .small)
 
 same-length : tie.Need-same-length
 same-length c = search needs
@@ -81,22 +78,27 @@ same-length-2 c = search needs
 
 returns : tie.Need-returns
 returns c =
-    let s = c .before .before .before .before .before .before .before .before .before .before .before .before .before .before .before .before .before .before in
+    let c2 = c .before .before in
+    let c3 = c2 .before in
+    let c6 = c3 .before .before .before in
+    let c10 = c6 .before .before .before .before in
+    let c12 = c10 .before .before in
+    let s = c12 .before .before .before .before .before .before in
     let w = s .args .table .now in
     let h = s .pre .0 .accepted in
     let f = c .before .free-names in
-    let p = c .before .before .before .before .before .before .before .before .before .before .before .before .word16 in
-    let r = c .before .before .before .before .before .before .before .before .before .before .fill-rows .ensures in
-    let q = c .before .before .before .before .before .before .fill-spots .ensures in
+    let p = c12 .word16 in
+    let r = c10 .fill-rows .ensures in
+    let q = c6 .fill-spots .ensures in
     let t : f .result * p .result ≡ freeNames w * bounds w = rw (f .ensures .0, p .ensures .is) in
-    let few = product-few w h (f .result) (p .result) (omega (arith, f .ensures .1, p .ensures .is)) (p .ensures .is) in
+    let few = product (c .before) in
     record {
       rowed = record {
         accepted = h;
         few-publics = few-publics w h;
         few-bounds = few-bounds w h;
-        publics-are = c .before .before .before .word162 .ensures .is;
-        bounds-are = c .before .before .word163 .ensures .is;
+        publics-are = c3 .word162 .ensures .is;
+        bounds-are = c2 .word163 .ensures .is;
         privates-are = p .ensures .is;
         free-is = r .0;
         few-free = r .1;
