@@ -100,12 +100,12 @@ module _ (w : List ℕ) (h : cause w ≡ 0) where
 
   -- by the counts that the code has
   module _ (rows spots : List ℕ) (plan : Layout) (laid : Laid w rows spots plan) (t : Totals) (all : sumsOf t ≡ allSums w) where
-    counts-are : (t .transitions ≡ length (net .transitions)) × (t .inputs ≡ inputTotal net) × (t .outputs ≡ outputTotal net)
+    pub counts-are : (t .transitions ≡ length (net .transitions)) × (t .inputs ≡ inputTotal net) × (t .outputs ≡ outputTotal net)
     counts-are =
         let e : sumsOf t ≡ sums (length (net .transitions)) (inputTotal net) (outputTotal net) = all ∙ whole-sums in
         (ap (λ (s : Sums). s .transitions) e, ap (λ (s : Sums). s .inputs) e, ap (λ (s : Sums). s .outputs) e)
 
-    tokens-is : plan .tokens ≡ length (net .initial)
+    pub tokens-is : plan .tokens ≡ length (net .initial)
     tokens-is = laid .tokens-are ∙ ap (λ (xs : List ℕ). length xs) (sym initial-is)
 
     pub header-is : headerOf (plan .places) (t .transitions) (t .inputs) (t .outputs) (plan .tokens) ≡ headerWords net
