@@ -33,3 +33,4 @@ pub mod Indexing
 pub mod NodeSums
 pub mod PairSums
 pub mod WholeSums
+pub mod Building

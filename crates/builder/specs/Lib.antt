@@ -3,4 +3,5 @@ pub mod Places
 pub mod Rows
 pub mod Transitions
 pub mod Image
+pub mod Answer
 pub mod Inner

@@ -19,6 +19,13 @@ pub enum Planned {
     Short,
 }
 
+// What `build` answers: the words written, the table's cause, or that the buffer is too short.
+pub enum Built {
+    Words(usize),
+    Refused(Verdict),
+    Room,
+}
+
 // Checks a table and fills in its index and where its places stand: 256 words for owners, homes, definitions and control places, 64 for rows.
 pub fn plan(
     table: &[u16],
