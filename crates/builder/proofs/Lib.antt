@@ -34,3 +34,6 @@ pub mod NodeSums
 pub mod PairSums
 pub mod WholeSums
 pub mod Building
+pub mod Chains
+pub mod ValueLoops
+pub mod ChainLoops

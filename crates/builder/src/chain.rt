@@ -1,8 +1,28 @@
 // The chain of control places of a Stop or a Call: its copies and releases.
 ghost use mathlib.Core.Path.{_≡_};
-ghost use Prim.Native.Nat.{_+_, _-_, _<_};
+ghost use mathlib.Core.List.{[], _∷_, map};
+ghost use Prim.Native.Nat.{_+_, _-_, _<_, _≤_};
 ghost use lib.Dec.{ltb};
+ghost use lib.ListN.{length, take};
 ghost use Rattle.lists.specs.Lists.{pick};
+ghost use Rattle.table.specs.Words.{publics, names};
+ghost use Rattle.table.specs.Scheme.{scheme};
+ghost use Rattle.builder.specs.Transitions.{releasing, releases};
+ghost use Rattle.builder.specs.Inner.Writing.{Inside};
+ghost use Rattle.builder.specs.Inner.Plan.{today, values, put, state};
+ghost use Rattle.builder.specs.Inner.Plan.{Rowed, Chained};
+ghost use Rattle.builder.specs.Inner.Plan.{Holds, Bounded};
+use crate::layout::Layout;
+use crate::layout::differs;
+use crate::layout::equals;
+use crate::layout::free_place;
+use crate::layout::is_restricted;
+use crate::layout::reach_of;
+use crate::layout::value_at;
+use crate::layout::value_count;
+use crate::write::Heads;
+use crate::write::transition;
+use lists::word32;
 
 // The chain of a node: the node that it leads to, its first control place, how many it has, and the place that the last
 // one leads to.
@@ -23,4 +43,96 @@ pub(crate) fn on(c: Chain, k: usize) -> u32
         return (c.first + k + 1) as u32;
     }
     c.last as u32
+}
+
+// The release of name z with value v at place k of a chain.
+fn release(
+    table: &[u16],
+    rows: &[u32],
+    plan: Layout,
+    out: &mut [u32],
+    h: Heads,
+    c: Chain,
+    k: usize,
+    z: usize,
+    v: usize,
+) -> Heads
+    requires { ⌜ Rowed (now table) (now rows) plan × Chained (now table) c × (k < c .controls)
+        × Holds (now table) z v
+        × Inside (put (now table) (now out) h (releasing (scheme (now table)) (today (now table)) (c .node) (c .to) k z v ∷ [])) ⌝ }
+    ensures { λ r. ⌜ state (now (out .exit)) r
+        ≡ put (now (table .entry)) (now (out .entry)) h (releasing (scheme (now (table .entry))) (today (now (table .entry))) (c .node) (c .to) k z v ∷ []) ⌝ }
+{
+    let mut ins = [0u32; 2];
+    let mut outs = [0u32; 2];
+    ins[0] = equals(table, rows, plan, z, v);
+    ins[1] = (c.first + k) as u32;
+    let n = c.node;
+    if is_restricted(table, z) {
+        outs[0] = free_place(table, rows, plan, v);
+        outs[1] = on(c, k);
+        return transition(out, h, 1, n, z, &ins, 2, &outs, 2);
+    }
+    if v < plan.publics {
+        outs[0] = on(c, k);
+        return transition(out, h, 1, n, z, &ins, 2, &outs, 1);
+    }
+    outs[0] = differs(table, rows, plan, z, v);
+    outs[1] = on(c, k);
+    transition(out, h, 1, n, z, &ins, 2, &outs, 2)
+}
+
+// The releases of one name at place k of a chain.
+fn release_name(
+    table: &[u16],
+    rows: &[u32],
+    plan: Layout,
+    out: &mut [u32],
+    h: Heads,
+    c: Chain,
+    k: usize,
+    z: usize,
+) -> Heads
+    requires { ⌜ Rowed (now table) (now rows) plan × Chained (now table) c × (k < c .controls)
+        × (publics (now table) ≤ z) × (z < names (now table))
+        × Inside (put (now table) (now out) h (map (releasing (scheme (now table)) (today (now table)) (c .node) (c .to) k z) (values (now table) z))) ⌝ }
+    ensures { λ r. ⌜ state (now (out .exit)) r
+        ≡ put (now (table .entry)) (now (out .entry)) h (map (releasing (scheme (now (table .entry))) (today (now (table .entry))) (c .node) (c .to) k z) (values (now (table .entry)) z)) ⌝ }
+{
+    let r = reach_of(table, z);
+    let count = value_count(plan, r);
+    let mut q = h;
+    let mut i = 0;
+    while i < count {
+        q = release(table, rows, plan, out, q, c, k, z, value_at(plan, r, i));
+        i += 1;
+    }
+    q
+}
+
+// The releases of `count` held names, the first at place k of the chain.
+pub(crate) fn release_all(
+    table: &[u16],
+    rows: &[u32],
+    plan: Layout,
+    out: &mut [u32],
+    h: Heads,
+    c: Chain,
+    names: &[u32],
+    count: usize,
+    k: usize,
+) -> Heads
+    requires { ⌜ Rowed (now table) (now rows) plan × Chained (now table) c
+        × (count ≤ length (now names)) × (k + count ≤ c .controls) × Bounded (now table) (take count (now names))
+        × Inside (put (now table) (now out) h (releases (scheme (now table)) (today (now table)) (c .node) (c .to) k (take count (now names)))) ⌝ }
+    ensures { λ r. ⌜ state (now (out .exit)) r
+        ≡ put (now (table .entry)) (now (out .entry)) h (releases (scheme (now (table .entry))) (today (now (table .entry))) (c .node) (c .to) k (take count (now (names .entry)))) ⌝ }
+{
+    let mut q = h;
+    let mut i = 0;
+    while i < count {
+        q = release_name(table, rows, plan, out, q, c, k + i, word32(names, i));
+        i += 1;
+    }
+    q
 }
