@@ -36,6 +36,11 @@ module _ (names : List ℕ) (count i : ℕ) (h : i < count) (room : count ≤ le
   pub taken-member : (x : ℕ) → x ≡ word names i → member x (take count names) ≡ true
   taken-member x e = rw (e, sym taken-at) (member-getD (take count names) i (omega (arith, taken-length)))
 
+-- an argument among the arguments
+pub argument-member : (arg : ℕ → ℕ) (argument count i x : ℕ) → i < count → x ≡ arg (argument + i) → member x (map arg (from argument count)) ≡ true
+argument-member arg argument count i x h e =
+    rw e (member-map arg (argument + i) (from argument count) (member-from (argument + i) argument count (omega arith) (omega arith)))
+
 module _ (S : Scheme) (U : Values) (n m : ℕ) where
   -- ---- releases
 

@@ -37,3 +37,6 @@ pub mod Building
 pub mod Chains
 pub mod ValueLoops
 pub mod ChainLoops
+pub mod Filling
+pub mod Copying
+pub mod ByWords

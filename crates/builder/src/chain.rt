@@ -1,17 +1,19 @@
 // The chain of control places of a Stop or a Call: its copies and releases.
+ghost use mathlib.Core.Bool.{false};
 ghost use mathlib.Core.Path.{_≡_};
 ghost use mathlib.Core.List.{[], _∷_, map};
 ghost use Prim.Native.Nat.{_+_, _-_, _<_, _≤_};
 ghost use lib.Dec.{ltb};
 ghost use lib.ListN.{length, take};
-ghost use Rattle.lists.specs.Lists.{pick};
+ghost use Rattle.lists.specs.Lists.{pick, from};
 ghost use Rattle.table.specs.Words.{publics, names};
 ghost use Rattle.table.specs.Scheme.{scheme};
-ghost use Rattle.builder.specs.Transitions.{releasing, releases};
+ghost use Rattle.builder.specs.Transitions.{releasing, releases, copying, copies};
 ghost use Rattle.builder.specs.Inner.Writing.{Inside};
-ghost use Rattle.builder.specs.Inner.Plan.{today, values, put, state};
+ghost use Rattle.builder.specs.Inner.Plan.{today, values, put, state, argumentName};
 ghost use Rattle.builder.specs.Inner.Plan.{Rowed, Chained};
-ghost use Rattle.builder.specs.Inner.Plan.{Holds, Bounded};
+ghost use Rattle.builder.specs.Inner.Plan.{Holds, Reads, Named, Bounded, Frees};
+use crate::insertion::insert;
 use crate::layout::Layout;
 use crate::layout::differs;
 use crate::layout::equals;
@@ -23,6 +25,7 @@ use crate::layout::value_count;
 use crate::write::Heads;
 use crate::write::transition;
 use lists::word32;
+use table::fields::field1;
 
 // The chain of a node: the node that it leads to, its first control place, how many it has, and the place that the last
 // one leads to.
@@ -132,6 +135,110 @@ pub(crate) fn release_all(
     let mut i = 0;
     while i < count {
         q = release_name(table, rows, plan, out, q, c, k + i, word32(names, i));
+        i += 1;
+    }
+    q
+}
+
+// The copy of formal f from a with value v at place k of a chain.
+fn copy(
+    table: &[u16],
+    rows: &[u32],
+    plan: Layout,
+    out: &mut [u32],
+    h: Heads,
+    c: Chain,
+    k: usize,
+    f: usize,
+    a: usize,
+    v: usize,
+) -> Heads
+    requires { ⌜ Rowed (now table) (now rows) plan × Chained (now table) c × (k < c .controls)
+        × (publics (now table) ≤ f) × (f < names (now table)) × (scheme (now table) .restricted f ≡ false)
+        × Reads (now table) a v
+        × Inside (put (now table) (now out) h (copying (scheme (now table)) (today (now table)) (c .node) (c .to) k f a v ∷ [])) ⌝ }
+    ensures { λ r. ⌜ state (now (out .exit)) r
+        ≡ put (now (table .entry)) (now (out .entry)) h (copying (scheme (now (table .entry))) (today (now (table .entry))) (c .node) (c .to) k f a v ∷ []) ⌝ }
+{
+    let mut ins = [0u32; 4];
+    let mut outs = [0u32; 4];
+    let mut i = 0;
+    let mut o = 0;
+    if plan.publics <= a {
+        i = insert(&mut ins, i, equals(table, rows, plan, a, v));
+        o = insert(&mut outs, o, equals(table, rows, plan, a, v));
+    }
+    if plan.publics <= v {
+        i = insert(&mut ins, i, differs(table, rows, plan, f, v));
+    }
+    i = insert(&mut ins, i, (c.first + k) as u32);
+    o = insert(&mut outs, o, equals(table, rows, plan, f, v));
+    o = insert(&mut outs, o, on(c, k));
+    transition(out, h, 0, c.node, f, &ins, i, &outs, o)
+}
+
+// The copies of formal f from a at place k of a chain.
+fn copy_formal(
+    table: &[u16],
+    rows: &[u32],
+    plan: Layout,
+    out: &mut [u32],
+    h: Heads,
+    c: Chain,
+    k: usize,
+    f: usize,
+    a: usize,
+) -> Heads
+    requires { ⌜ Rowed (now table) (now rows) plan × Chained (now table) c × (k < c .controls)
+        × (publics (now table) ≤ f) × (f < names (now table)) × (scheme (now table) .restricted f ≡ false)
+        × (a < names (now table))
+        × Inside (put (now table) (now out) h (map (copying (scheme (now table)) (today (now table)) (c .node) (c .to) k f a) (values (now table) a))) ⌝ }
+    ensures { λ r. ⌜ state (now (out .exit)) r
+        ≡ put (now (table .entry)) (now (out .entry)) h (map (copying (scheme (now (table .entry))) (today (now (table .entry))) (c .node) (c .to) k f a) (values (now (table .entry)) a)) ⌝ }
+{
+    let r = reach_of(table, a);
+    let count = value_count(plan, r);
+    let mut q = h;
+    let mut i = 0;
+    while i < count {
+        q = copy(table, rows, plan, out, q, c, k, f, a, value_at(plan, r, i));
+        i += 1;
+    }
+    q
+}
+
+// The copies of `count` formals from their arguments, the first at place 1 of the chain.
+pub(crate) fn copy_all(
+    table: &[u16],
+    rows: &[u32],
+    plan: Layout,
+    out: &mut [u32],
+    h: Heads,
+    c: Chain,
+    formal: usize,
+    argument: usize,
+    count: usize,
+) -> Heads
+    requires { ⌜ Rowed (now table) (now rows) plan × Chained (now table) c × (count < c .controls) × (argument < 65536)
+        × Frees (now table) (from formal count) × Named (now table) (map (argumentName (now table)) (from argument count))
+        × Inside (put (now table) (now out) h (copies (scheme (now table)) (today (now table)) (c .node) (c .to) 1 (from formal count) (map (argumentName (now table)) (from argument count)))) ⌝ }
+    ensures { λ r. ⌜ state (now (out .exit)) r
+        ≡ put (now (table .entry)) (now (out .entry)) h (copies (scheme (now (table .entry))) (today (now (table .entry))) (c .node) (c .to) 1 (from formal count) (map (argumentName (now (table .entry))) (from argument count))) ⌝ }
+{
+    let mut q = h;
+    let mut i = 0;
+    while i < count {
+        q = copy_formal(
+            table,
+            rows,
+            plan,
+            out,
+            q,
+            c,
+            1 + i,
+            formal + i,
+            field1(table, 12, argument + i),
+        );
         i += 1;
     }
     q

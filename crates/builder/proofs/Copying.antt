@@ -1,0 +1,131 @@
+-- The arcs of a copy, place by place as the code puts them in.
+use mathlib.Core.Path.{_≡_, refl, sym, ap, _∙_}
+use mathlib.Core.Bool.{Bool, true, false}
+use mathlib.Core.List.{List, [], _∷_, _++_}
+use Prim.Native.Nat.{ℕ, suc, _+_, _≤_, _<_}
+use native.Mathlib.Decide.{decLt}
+use native.Mathlib.Omega.{arith}
+use lib.Dec.{ltb}
+use lib.ListN
+use lib.ListN.{length}
+use borrow.Author.Tests.{lt-ltb, le-ltb}
+use Rattle.lists.specs.Lists.{pick, member}
+use Rattle.table.specs.Words.{publics, names, nodes}
+use Rattle.table.specs.Scheme.{Scheme, scheme}
+use Rattle.table.specs.Causes.{cause}
+use Rattle.builder.specs.Values.{Values}
+use Rattle.builder.specs.Places.{Place, equals, differs, control}
+use Rattle.builder.specs.Rows.{numberOf, Exists}
+use Rattle.builder.specs.Transitions.{take, copying}
+use Rattle.builder.specs.Inner.Arcs.{takenPlaces, givenPlaces, exists, numbersOf}
+use Rattle.builder.specs.Inner.Spans.{firstValue, endValue}
+use Rattle.builder.specs.Inner.Plan.{today, Chained, Holds, Reads, Inserted, ofTable, arrow}
+use Rattle.builder.specs.declared.chain.Chain.{Chain}
+use Rattle.builder.proofs.Arcs.{inputs-named, outputs-named}
+use Rattle.builder.proofs.Spans.{value-member, member-value}
+use Rattle.builder.proofs.Split.{numbers-tail, numbers-swap}
+use Rattle.builder.proofs.ByKind.{on-left, equals-public, differs-public}
+use Rattle.builder.proofs.Controls.{publics-are, bounds-are}
+use Rattle.builder.proofs.Chains.{Next, next-place}
+use Rattle.builder.proofs.Filling.{Filled, fill-none, fill-with, fill-without}
+
+module _ (w : List ℕ) where
+  abbrev S : Scheme
+  S = scheme w
+
+  abbrev U : Values
+  U = today w
+
+  -- ---- the value that is copied
+
+  end-few : (x : ℕ) → x < names w → endValue S x ≤ names w
+  unfolding endValue
+  end-few x h = go (decLt x (S .publics))
+    where
+      go : Dec (x < S .publics) → pick (ltb x (S .publics)) (x + 1) (S .publics + S .bounds) ≤ names w
+      go (yes l) = rw (lt-ltb x (S .publics) l) (omega arith)
+      go (no l) = rw (le-ltb x (S .publics) (omega arith)) (omega (arith, publics-are w, bounds-are w))
+
+  pub read-few : (a v : ℕ) → Reads w a v → v < names w
+  read-few a v r = omega (arith, value-member S a v (r .value), end-few a (r .high))
+
+  pub read-holds : (a v : ℕ) → publics w ≤ a → Reads w a v → Holds w a v
+  read-holds a v l r = record { low = l; high = r .high; value = r .value }
+
+  -- a name that is not restricted may hold every value
+  free-first : (f : ℕ) → publics w ≤ f → S .restricted f ≡ false → firstValue S f ≡ 0
+  unfolding firstValue
+  free-first f l r = rw (le-ltb f (S .publics) (omega (arith, publics-are w)), r)
+
+  free-end : (f : ℕ) → publics w ≤ f → endValue S f ≡ names w
+  unfolding endValue
+  free-end f l = rw (le-ltb f (S .publics) (omega (arith, publics-are w))) (omega (arith, publics-are w, bounds-are w))
+
+  pub free-holds : (f v : ℕ) → publics w ≤ f → f < names w → S .restricted f ≡ false → v < names w → Holds w f v
+  free-holds f v l u r h = record {
+    low = l;
+    high = u;
+    value = member-value S f v (omega (arith, free-first f l r)) (omega (arith, free-end f l));
+  }
+
+  -- ---- the places that there are not
+
+  pub no-value : (a v : ℕ) → a < publics w → exists S U (equals a v) ≡ false
+  no-value a v h = equals-public S U a v (omega (arith, publics-are w))
+
+  pub no-difference : (f v : ℕ) → v < publics w → exists S U (differs f v) ≡ false
+  no-difference f v h = differs-public S U f v (omega (arith, publics-are w))
+
+  -- ---- "read [a=v] if a is bound, take [f≠v] if private, give [f=v]; on."
+
+  module _ (c : Chain) (h : Chained w c) (k : ℕ) (inside : k < c .controls) (f a v : ℕ) (r : S .restricted f ≡ false) where
+    pub copy-inputs : ofTable w (copying S U (c .node) (c .to) k f a v) .inputs
+        ≡ numbersOf S U (control (c .node) k ∷ differs f v ∷ equals a v ∷ [])
+    copy-inputs =
+        inputs-named S U (copying S U (c .node) (c .to) k f a v)
+        ∙ ap (λ (l : List Place). numbersOf S U (l ++ (equals a v ∷ takenPlaces S (take f v)))) (on-left S U (c .node) k (c .to))
+        ∙ rw r
+        (numbers-tail S U (control (c .node) k) (equals a v ∷ differs f v ∷ []) (differs f v ∷ equals a v ∷ []) (numbers-swap S U (equals a v) (differs f v) []))
+
+    pub copy-outputs : ofTable w (copying S U (c .node) (c .to) k f a v) .outputs
+        ≡ numbersOf S U (next-place w c h k inside .place ∷ equals f v ∷ equals a v ∷ [])
+    copy-outputs =
+        let p = next-place w c h k inside in
+        outputs-named S U (copying S U (c .node) (c .to) k f a v)
+        ∙ ap (λ (l : List Place). numbersOf S U (l ++ (equals a v ∷ givenPlaces S (take f v)))) (p .goes)
+        ∙ rw r
+        (numbers-tail S U (p .place) (equals a v ∷ equals f v ∷ []) (equals f v ∷ equals a v ∷ []) (numbers-swap S U (equals a v) (equals f v) []))
+
+    pub copy-arrow : (ins outs : List ℕ) (i o : ℕ) → Filled w ins i (control (c .node) k ∷ differs f v ∷ equals a v ∷ [])
+        → Filled w outs o (next-place w c h k inside .place ∷ equals f v ∷ equals a v ∷ [])
+        → ofTable w (copying S U (c .node) (c .to) k f a v) ≡ arrow 0 (c .node) f (ListN.take i ins) (ListN.take o outs)
+    copy-arrow ins outs i o x y = rw (copy-inputs, copy-outputs, x .holds, y .holds)
+
+-- ---- two lists of four words after the first place, which both get
+
+pub record Begun (w : List ℕ) (p : Place) (ins outs : List ℕ) (i o : ℕ) : Type 0 where
+  pub ins-are : Filled w ins i (p ∷ [])
+  pub outs-are : Filled w outs o (p ∷ [])
+  pub ins-room : length ins ≡ 4
+  pub outs-room : length outs ≡ 4
+
+module _ (w : List ℕ) (p : Place) where
+  abbrev zeros : List ℕ
+  zeros = 0 ∷ 0 ∷ 0 ∷ 0 ∷ []
+
+  pub begun-with : (ins outs : List ℕ) (i o x y : ℕ) → Exists (scheme w) (today w) p → x ≡ numberOf (scheme w) (today w) p → y ≡ numberOf (scheme w) (today w) p
+      → Inserted x 0 zeros i ins → Inserted y 0 zeros o outs → length ins ≡ 4 → length outs ≡ 4 → Begun w p ins outs i o
+  begun-with ins outs i o x y e a b f g l m = record {
+    ins-are = fill-with w zeros ins 0 i x p [] e a f (fill-none w zeros);
+    outs-are = fill-with w zeros outs 0 o y p [] e b g (fill-none w zeros);
+    ins-room = l;
+    outs-room = m;
+  }
+
+  pub begun-without : exists (scheme w) (today w) p ≡ false → Begun w p zeros zeros 0 0
+  begun-without e = record {
+    ins-are = fill-without w zeros 0 p [] e (fill-none w zeros);
+    outs-are = fill-without w zeros 0 p [] e (fill-none w zeros);
+    ins-room = refl;
+    outs-room = refl;
+  }
