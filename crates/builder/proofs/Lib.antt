@@ -40,3 +40,5 @@ pub mod ChainLoops
 pub mod Filling
 pub mod Copying
 pub mod ByWords
+pub mod NodeArrows
+pub mod Making

@@ -7,6 +7,7 @@ mod count;
 mod insertion;
 pub mod layout;
 mod marking;
+mod nodes;
 mod write;
 
 use layout::Layout;

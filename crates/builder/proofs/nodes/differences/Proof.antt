@@ -1,0 +1,122 @@
+-- `builder::nodes::differences` meets its contract. Loop: [y≠v] of the bound names below x are in the list. Measure: names left.
+use mathlib.Core.Path.{_≡_, refl, sym, ap, subst, _∙_}
+use mathlib.Core.Logic.{⊎-elim}
+use Prim.Native.Nat.{ℕ, _+_, _-_, _≤_, _<_}
+use native.Mathlib.Omega.{arith}
+use lib.ListN.{length}
+use Rattle.table.specs.Words.{publics, names}
+use Rattle.table.specs.Scheme.{scheme}
+use Rattle.builder.specs.Inner.Arcs.{numbersOf}
+use Rattle.builder.specs.Inner.Plan.{today, Differs}
+use Rattle.builder.proofs.Names.{kind-free, kind-restricted}
+use Rattle.builder.proofs.Filling.{Filled, fill-same, fill-rising}
+use Rattle.builder.proofs.Making.{differsBelow, below-length, below-all, below-start, below-with, below-without}
+use borrow.Author.Needs.{needs}
+use Rattle.builder.proofs.nodes.differences.Statement.{statement}
+use Rattle.builder.proofs.nodes.differences.Tie as tie
+use Rattle.builder.proofs.nodes.differences.Reads as reads
+use Rattle.builder.proofs.nodes.differences.Lts as lts
+use Rattle.builder.proofs.insertion.insert.Reads as insert-reads
+use Rattle.builder.proofs.layout.differs.Reads as differs-reads
+use Rattle.table.proofs.fields.name_kind.Reads as name-kind-reads
+
+abbrev Inv-loop : tie.InvT-loop
+Inv-loop table rows plan list₀ v end count₀ x₀ list count x =
+    Filled table list count (differsBelow table v x) × (length list ≡ length list₀) × (publics table ≤ x) × (x ≤ end)
+
+abbrev μ-loop : tie.MeasureT-loop
+μ-loop table rows plan list₀ v end count₀ x₀ list count x = end - x
+
+-- [x≠v] of one name
+differs-here : (c : tie.Then1 Inv-loop μ-loop) → Differs (c .before .before .before .before .before .before .before .before .args .table .now) (c .before .before .before .loop .x) (c .before .before .before .before .before .before .before .before .args .v)
+differs-here c =
+    let w = c .before .before .before .before .before .before .before .before .args .table .now in
+    let p = c .before .before .before .before .before .before .before .before .pre in
+    let x = c .before .before .before .loop .x in
+    let k = c .before .name-kind in
+    let l = c .before .before .before .loop .inv .2 in
+    let u : x < names w = omega (arith, c .before .before .loop-test .taken, p .0 .publics-are, p .0 .bounds-are) in
+    record { low = l; high = u; free = kind-free w x (k .result) l u (k .ensures .is) (c .if1 .taken); private = p .1; value = p .2 }
+
+-- what a turn puts in
+turn : (c : tie.Joined1 Inv-loop μ-loop)
+    → Filled (c .before .before .before .before .before .before .before .before .args .table .now) (c .if1 .list) (c .if1 .count) (differsBelow (c .before .before .before .before .before .before .before .before .args .table .now) (c .before .before .before .before .before .before .before .before .args .v) (c .before .before .before .loop .x + 1))
+    × (length (c .if1 .list) ≡ length (c .before .before .before .before .before .before .before .before .args .list .now))
+turn c =
+    let a = c .before .before .before .before .before .before .before .before .args in
+    let p = c .before .before .before .before .before .before .before .before .pre in
+    let w = a .table .now in
+    let l = c .before .before .before .loop in
+    let k = c .before .name-kind in
+    let u : l .x < names w = omega (arith, c .before .before .loop-test .taken, p .0 .publics-are, p .0 .bounds-are) in
+    ⊎-elim
+    (λ y. rw (y .6, y .7) (
+      below-with w (a .v) (l .list) _ (l .count) _ (y .2 .result) (l .x) (differs-here (record { before = c .before; if1 = y .0 })) (y .2 .ensures) (y .3 .ensures) (l .inv .0),
+      y .3 .kept .0 ∙ l .inv .1,
+    ))
+    (λ y. rw (y .1, y .2) (
+      below-without w (a .v) (l .list) (l .count) (l .x) (l .inv .2) (kind-restricted w (l .x) (k .result) (l .inv .2) u (k .ensures .is) (y .0 .left)) (l .inv .0),
+      l .inv .1,
+    ))
+    (c .if1 .came)
+
+add-end : tie.Need-add-end Inv-loop μ-loop
+add-end c = omega (arith, c .before .before .before .before .pre .0 .publics-are, c .before .before .before .before .pre .0 .bounds-are, c .before .before .before .before .pre .0 .few-publics, c .before .before .before .before .pre .0 .few-bounds)
+
+loop-holds : tie.Need-loop-holds Inv-loop μ-loop
+loop-holds c =
+    let a = c .before .before .before .before .args in
+    let e = c .before .before .before .before .pre .0 .publics-are in
+    (below-start (a .table .now) (a .v) (a .list .now) (a .plan .publics) e, refl, omega (arith, e), omega arith)
+
+name-kind-requires : tie.Need-name-kind-requires Inv-loop μ-loop
+name-kind-requires c κs = search needs
+
+differs-requires : tie.Need-differs-requires Inv-loop μ-loop
+differs-requires c κs = (c .before .before .before .before .before .before .before .before .before .pre .0, differs-here (c .before))
+
+insert-requires : tie.Need-insert-requires Inv-loop μ-loop
+insert-requires c κs =
+    let a = c .before .before .before .before .before .before .before .before .before .before .args in
+    let p = c .before .before .before .before .before .before .before .before .before .before .pre in
+    let l = c .before .before .before .before .before .loop in
+    fill-rising (a .table .now) (p .0 .accepted) (l .list) (l .count) (differsBelow (a .table .now) (a .v) (l .x))
+    (omega (arith, below-length (a .table .now) (a .v) (l .x), c .before .before .before .before .loop-test .taken, p .0 .publics-are, p .0 .bounds-are, p .0 .few-bounds, p .3, l .inv .1, l .inv .2)) (l .inv .0)
+
+add-x : tie.Need-add-x Inv-loop μ-loop
+add-x c = omega (arith, c .before .before .loop-test .taken, c .before .before .before .before .before .before .before .before .pre .0 .publics-are, c .before .before .before .before .before .before .before .before .pre .0 .bounds-are, c .before .before .before .before .before .before .before .before .pre .0 .few-publics, c .before .before .before .before .before .before .before .before .pre .0 .few-bounds)
+
+loop-less : tie.Need-loop-less Inv-loop μ-loop
+loop-less c = omega (arith, c .before .before .loop-test .taken)
+
+loop-again : tie.Need-loop-again Inv-loop μ-loop
+loop-again c = (turn c .0, turn c .1, omega (arith, c .before .before .before .loop .inv .2), omega (arith, c .before .before .loop-test .taken))
+
+same-length : tie.Need-same-length Inv-loop μ-loop
+same-length c = c .before .loop .inv .1
+
+returns : tie.Need-returns Inv-loop μ-loop
+returns c =
+    let a = c .before .before .before .before .before .before .args in
+    let p = c .before .before .before .before .before .before .pre in
+    let w = a .table .now in
+    let l = c .before .loop in
+    let e = below-all w (a .v) (l .x) (omega (arith, c .loop-test .left, l .inv .3, p .0 .publics-are, p .0 .bounds-are)) in
+    let f = fill-same w (l .list) (l .count) _ _ (ap (numbersOf (scheme w) (today w)) e) (l .inv .0) in
+    (f .holds, f .size)
+pub differences-spec : {M : Type 1} → statement M
+differences-spec =
+    tie.close
+    (tie.spec
+    Inv-loop
+    μ-loop
+    add-end
+    loop-holds
+    name-kind-requires
+    differs-requires
+    insert-requires
+    add-x
+    loop-less
+    loop-again
+    same-length
+    returns)

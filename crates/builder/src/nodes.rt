@@ -1,0 +1,135 @@
+// The transitions of nodes.
+ghost use mathlib.Core.Bool.{true};
+ghost use mathlib.Core.Path.{_≡_};
+ghost use mathlib.Core.List.{[], _∷_, map};
+ghost use Prim.Native.Nat.{_+_, _-_, _<_, _≤_};
+ghost use lib.ListN.{length, take};
+ghost use Rattle.lists.specs.Lists.{from, flat};
+ghost use Rattle.table.specs.Words.{publics, bounds, names, nodes, branches, nodeSecond};
+ghost use Rattle.table.specs.Words.{isNew};
+ghost use Rattle.table.specs.Scheme.{scheme};
+ghost use Rattle.builder.specs.Transitions.{silents};
+ghost use Rattle.builder.specs.Inner.Arcs.{allDiffer, numbersOf};
+ghost use Rattle.builder.specs.Inner.Writing.{Inside};
+ghost use Rattle.builder.specs.Inner.Plan.{today, controlOf, put, state, made};
+ghost use Rattle.builder.specs.Inner.Plan.{Rowed, Spotted, Laid};
+use crate::insertion::insert;
+use crate::layout::Layout;
+use crate::layout::differs;
+use crate::layout::equals;
+use crate::layout::free_place;
+use crate::write::Heads;
+use crate::write::go;
+use crate::write::transition;
+use lists::word32;
+use table::fields::field3;
+use table::fields::field4;
+use table::fields::name_kind;
+
+fn silents(
+    table: &[u16],
+    spots: &[u32],
+    out: &mut [u32],
+    h: Heads,
+    n: usize,
+    first: usize,
+    end: usize,
+) -> Heads
+    requires { ⌜ Spotted (now table) (now spots) × (n < nodes (now table)) × (end ≤ branches (now table))
+        × Inside (put (now table) (now out) h (flat (λ b. silents (scheme (now table)) (today (now table)) n b (scheme (now table) .branch b)) (from first (end - first)))) ⌝ }
+    ensures { λ r. ⌜ state (now (out .exit)) r
+        ≡ put (now (table .entry)) (now (out .entry)) h (flat (λ b. silents (scheme (now (table .entry))) (today (now (table .entry))) n b (scheme (now (table .entry)) .branch b)) (from first (end - first))) ⌝ }
+{
+    let from = word32(spots, n) as u32;
+    let mut q = h;
+    let mut b = first;
+    while b < end {
+        if field4(table, 11, b, 0) == 0 {
+            q = go(
+                out,
+                q,
+                3,
+                b,
+                from,
+                word32(spots, field4(table, 11, b, 3)) as u32,
+            );
+        }
+        b += 1;
+    }
+    q
+}
+
+// Puts the numbers of every [x≠v] into the list and returns how many there are.
+fn differences(table: &[u16], rows: &[u32], plan: Layout, list: &mut [u32], v: usize) -> usize
+    requires { ⌜ Rowed (now table) (now rows) plan × (publics (now table) ≤ v) × (v < names (now table))
+        × (40 ≤ length (now list)) ⌝ }
+    ensures { λ r. ⌜ (take r (now (list .exit)) ≡ numbersOf (scheme (now (table .entry))) (today (now (table .entry))) (allDiffer (scheme (now (table .entry))) v))
+        × (r ≡ length (numbersOf (scheme (now (table .entry))) (today (now (table .entry))) (allDiffer (scheme (now (table .entry))) v))) ⌝ }
+{
+    let end = plan.publics + plan.bounds;
+    let mut count = 0;
+    let mut x = plan.publics;
+    while x < end {
+        if name_kind(table, x) != 0 {
+            count = insert(list, count, differs(table, rows, plan, x, v));
+        }
+        x += 1;
+    }
+    count
+}
+
+// New with one value.
+fn make(
+    table: &[u16],
+    rows: &[u32],
+    plan: Layout,
+    out: &mut [u32],
+    h: Heads,
+    n: usize,
+    from: u32,
+    to: u32,
+    v: usize,
+) -> Heads
+    requires { ⌜ Rowed (now table) (now rows) plan × (n < nodes (now table)) × (isNew (now table) n ≡ true)
+        × (from ≡ controlOf (now table) n) × (to ≡ controlOf (now table) (nodeSecond (now table) n))
+        × (publics (now table) ≤ v) × (v < names (now table))
+        × Inside (put (now table) (now out) h (made (now table) n v ∷ [])) ⌝ }
+    ensures { λ r. ⌜ state (now (out .exit)) r
+        ≡ put (now (table .entry)) (now (out .entry)) h (made (now (table .entry)) n v ∷ []) ⌝ }
+{
+    let name = field3(table, 10, n, 1);
+    let mut ins = [0u32; 40];
+    let mut outs = [0u32; 40];
+    let mut i = differences(table, rows, plan, &mut ins, v);
+    let mut o = differences(table, rows, plan, &mut outs, v);
+    i = insert(&mut ins, i, free_place(table, rows, plan, v));
+    i = insert(&mut ins, i, from);
+    o = insert(&mut outs, o, equals(table, rows, plan, name, v));
+    o = insert(&mut outs, o, to);
+    transition(out, h, 2, n, name, &ins, i, &outs, o)
+}
+
+fn news(
+    table: &[u16],
+    rows: &[u32],
+    spots: &[u32],
+    plan: Layout,
+    out: &mut [u32],
+    h: Heads,
+    n: usize,
+) -> Heads
+    requires { ⌜ Laid (now table) (now rows) (now spots) plan × (n < nodes (now table)) × (isNew (now table) n ≡ true)
+        × Inside (put (now table) (now out) h (map (made (now table) n) (from (publics (now table)) (bounds (now table))))) ⌝ }
+    ensures { λ r. ⌜ state (now (out .exit)) r
+        ≡ put (now (table .entry)) (now (out .entry)) h (map (made (now (table .entry)) n) (from (publics (now (table .entry))) (bounds (now (table .entry))))) ⌝ }
+{
+    let from = word32(spots, n) as u32;
+    let to = word32(spots, field3(table, 10, n, 2)) as u32;
+    let mut q = h;
+    let mut k = 0;
+    while k < plan.privates {
+        q = make(table, rows, plan, out, q, n, from, to, plan.publics + k);
+        k += 1;
+    }
+    q
+}
