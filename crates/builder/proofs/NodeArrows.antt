@@ -1,26 +1,27 @@
--- The arrows of silent branches and calls as the code makes them.
+-- The arrows of silent branches and calls as the code makes them, and what each kind of node writes.
 use mathlib.Core.Path.{_≡_, refl, sym, ap, subst, _∙_}
 use mathlib.Core.Bool.{Bool, true, false}
-use mathlib.Core.List.{List, [], _∷_}
-use Prim.Native.Nat.{ℕ, _+_, _≤_, _<_}
+use mathlib.Core.List.{List, [], _∷_, map}
+use Prim.Native.Nat.{ℕ, _+_, _-_, _≤_, _<_}
 use native.Mathlib.Omega.{arith}
 use lib.Dec.{ltb}
-use Rattle.lists.specs.Lists.{pick}
+use Rattle.lists.specs.Lists.{pick, from, flat}
 use Rattle.lists.proofs.Tests.{same-no}
-use Rattle.table.specs.Words.{nodes, branches, branchKind, next, channel, branchName, isSend, isReceive}
-use Rattle.table.specs.Scheme.{Scheme, Branch, absent, silent, send, receive, nextNode, present, branchAt, scheme}
+use Rattle.table.specs.Words.{publics, bounds, nodes, branches, nodeKind, nodeFirst, nodeSecond, branchKind, next, channel, branchName, isSend, isReceive}
+use Rattle.table.specs.Owners.{held}
+use Rattle.table.specs.Scheme.{Scheme, call, Branch, absent, silent, send, receive, nextNode, present, branchAt, scheme}
 use Rattle.table.specs.Causes.{cause}
 use Rattle.table.proofs.Accepted.{accepted}
 use Rattle.builder.specs.Values.{Values}
 use Rattle.builder.specs.Places.{control}
 use Rattle.builder.specs.Rows.{numberOf, Exists}
-use Rattle.builder.specs.Transitions.{Description, silents, going, calling, ofNode}
-use Rattle.builder.specs.Inner.Plan.{today, controlOf, Chained, ofTable, arrow}
+use Rattle.builder.specs.Transitions.{Description, releases, silents, going, calling, ofNode}
+use Rattle.builder.specs.Inner.Plan.{today, controlOf, Chained, ofTable, made, arrow}
 use Rattle.builder.specs.declared.chain.Chain.{Chain}
 use Rattle.builder.proofs.Explicit.{going-inputs, going-outputs, calling-inputs, calling-outputs}
-use Rattle.builder.proofs.Controls.{nodes-are}
+use Rattle.builder.proofs.Controls.{nodes-are, publics-are, bounds-are, privates-are}
 use Rattle.builder.proofs.Chains.{controls-some, has-place, Next, next-place, own-number}
-use Rattle.builder.proofs.ByWords.{silent-branch}
+use Rattle.builder.proofs.ByWords.{stop-node, choice-node, new-node, call-node, held-of, silent-branch}
 
 -- the transitions of a branch if it is silent, and those of a node
 abbrev pub silentsAt : List ℕ → ℕ → ℕ → List Description
@@ -86,3 +87,20 @@ module _ (w : List ℕ) where
         p .number,
         sym e,
       )
+
+-- ---- "By node"
+
+module _ (w : List ℕ) (h : cause w ≡ 0) (n : ℕ) (l : n < nodes w) where
+  pub all-stop : nodeKind w n ≡ 0 → nodeAll w n ≡ releases (scheme w) (today w) n n 0 (held w n)
+  all-stop e = rw (stop-node w h n l e, held-of w h n)
+
+  pub all-choice : (f c : ℕ) → nodeKind w n ≡ 1 → f ≡ nodeFirst w n → c ≡ nodeSecond w n → nodeAll w n ≡ flat (silentsAt w n) (from f (f + c - f))
+  all-choice f c e a b =
+      let s : f + c - f ≡ c = omega arith in
+      rw (choice-node w h n l e, s, a, b)
+
+  pub all-new : nodeKind w n ≡ 2 → nodeAll w n ≡ map (made w n) (from (publics w) (bounds w))
+  all-new e = rw (new-node w h n l e, privates-are w, publics-are w, bounds-are w)
+
+  pub all-call : nodeKind w n ≡ 3 → nodeAll w n ≡ ofNode (scheme w) (today w) n (call (nodeFirst w n))
+  all-call e = rw (call-node w h n l e)

@@ -4,15 +4,20 @@ ghost use mathlib.Core.Path.{_≡_};
 ghost use mathlib.Core.List.{[], _∷_, map};
 ghost use Prim.Native.Nat.{_+_, _-_, _<_, _≤_};
 ghost use lib.ListN.{length, take};
-ghost use Rattle.lists.specs.Lists.{from, flat};
-ghost use Rattle.table.specs.Words.{publics, bounds, names, nodes, branches, nodeSecond};
-ghost use Rattle.table.specs.Words.{isNew};
-ghost use Rattle.table.specs.Scheme.{scheme};
-ghost use Rattle.builder.specs.Transitions.{silents};
+ghost use Rattle.lists.specs.Lists.{from, range, flat};
+ghost use Rattle.table.specs.Words.{publics, bounds, names, nodes, branches, nodeFirst, nodeSecond};
+ghost use Rattle.table.specs.Words.{isStop, isNew, isCall};
+ghost use Rattle.table.specs.Owners.{held};
+ghost use Rattle.table.specs.Scheme.{scheme, call};
+ghost use Rattle.builder.specs.Transitions.{releases, silents, ofNode};
 ghost use Rattle.builder.specs.Inner.Arcs.{allDiffer, numbersOf};
 ghost use Rattle.builder.specs.Inner.Writing.{Inside};
 ghost use Rattle.builder.specs.Inner.Plan.{today, controlOf, put, state, made};
-ghost use Rattle.builder.specs.Inner.Plan.{Rowed, Spotted, Laid};
+ghost use Rattle.builder.specs.Inner.Plan.{Known, Rowed, Spotted, Laid};
+use crate::chain::Chain;
+use crate::chain::copy_all;
+use crate::chain::on;
+use crate::chain::release_all;
 use crate::insertion::insert;
 use crate::layout::Layout;
 use crate::layout::differs;
@@ -21,6 +26,7 @@ use crate::layout::free_place;
 use crate::write::Heads;
 use crate::write::go;
 use crate::write::transition;
+use lists::word16;
 use lists::word32;
 use table::fields::field3;
 use table::fields::field4;
@@ -130,6 +136,137 @@ fn news(
     while k < plan.privates {
         q = make(table, rows, plan, out, q, n, from, to, plan.publics + k);
         k += 1;
+    }
+    q
+}
+
+fn call(
+    table: &[u16],
+    owners: &[u32],
+    homes: &[u32],
+    rows: &[u32],
+    spots: &[u32],
+    plan: Layout,
+    out: &mut [u32],
+    h: Heads,
+    n: usize,
+) -> Heads
+    requires { ⌜ Known (now table) (now owners) (now homes) × Laid (now table) (now rows) (now spots) plan
+        × (n < nodes (now table)) × (isCall (now table) n ≡ true)
+        × Inside (put (now table) (now out) h (ofNode (scheme (now table)) (today (now table)) n (call (nodeFirst (now table) n)))) ⌝ }
+    ensures { λ r. ⌜ state (now (out .exit)) r
+        ≡ put (now (table .entry)) (now (out .entry)) h (ofNode (scheme (now (table .entry))) (today (now (table .entry))) n (call (nodeFirst (now (table .entry)) n))) ⌝ }
+{
+    let d = field3(table, 10, n, 1);
+    let formals = field4(table, 8, d, 3);
+    let mut names = [0u32; 64];
+    let held = table::index::held_names(table, owners, homes, n as u16, &mut names);
+    let to = field4(table, 8, d, 1);
+    let c = Chain {
+        node: n,
+        to,
+        first: word32(spots, n),
+        controls: 1 + formals + held,
+        last: word32(spots, to),
+    };
+    let mut q = go(out, h, 5, n, c.first as u32, on(c, 0));
+    q = copy_all(
+        table,
+        rows,
+        plan,
+        out,
+        q,
+        c,
+        field4(table, 8, d, 2),
+        field3(table, 10, n, 2),
+        formals,
+    );
+    release_all(table, rows, plan, out, q, c, &names, held, 1 + formals)
+}
+
+fn stop(
+    table: &[u16],
+    owners: &[u32],
+    homes: &[u32],
+    rows: &[u32],
+    spots: &[u32],
+    plan: Layout,
+    out: &mut [u32],
+    h: Heads,
+    n: usize,
+) -> Heads
+    requires { ⌜ Known (now table) (now owners) (now homes) × Laid (now table) (now rows) (now spots) plan
+        × (n < nodes (now table)) × (isStop (now table) n ≡ true)
+        × Inside (put (now table) (now out) h (releases (scheme (now table)) (today (now table)) n n 0 (held (now table) n))) ⌝ }
+    ensures { λ r. ⌜ state (now (out .exit)) r
+        ≡ put (now (table .entry)) (now (out .entry)) h (releases (scheme (now (table .entry))) (today (now (table .entry))) n n 0 (held (now (table .entry)) n)) ⌝ }
+{
+    let mut names = [0u32; 64];
+    let held = table::index::held_names(table, owners, homes, n as u16, &mut names);
+    let first = word32(spots, n);
+    let c = Chain {
+        node: n,
+        to: n,
+        first,
+        controls: 1 + held,
+        last: first,
+    };
+    release_all(table, rows, plan, out, h, c, &names, held, 0)
+}
+
+fn node(
+    table: &[u16],
+    owners: &[u32],
+    homes: &[u32],
+    rows: &[u32],
+    spots: &[u32],
+    plan: Layout,
+    out: &mut [u32],
+    h: Heads,
+    n: usize,
+) -> Heads
+    requires { ⌜ Known (now table) (now owners) (now homes) × Laid (now table) (now rows) (now spots) plan
+        × (n < nodes (now table))
+        × Inside (put (now table) (now out) h (ofNode (scheme (now table)) (today (now table)) n (scheme (now table) .node n))) ⌝ }
+    ensures { λ r. ⌜ state (now (out .exit)) r
+        ≡ put (now (table .entry)) (now (out .entry)) h (ofNode (scheme (now (table .entry))) (today (now (table .entry))) n (scheme (now (table .entry)) .node n)) ⌝ }
+{
+    let kind = field3(table, 10, n, 0);
+    let first = field3(table, 10, n, 1);
+    let second = field3(table, 10, n, 2);
+    if kind == 0 {
+        return stop(table, owners, homes, rows, spots, plan, out, h, n);
+    }
+    if kind == 1 {
+        return silents(table, spots, out, h, n, first, first + second);
+    }
+    if kind == 2 {
+        return news(table, rows, spots, plan, out, h, n);
+    }
+    call(table, owners, homes, rows, spots, plan, out, h, n)
+}
+
+pub(crate) fn nodes(
+    table: &[u16],
+    owners: &[u32],
+    homes: &[u32],
+    rows: &[u32],
+    spots: &[u32],
+    plan: Layout,
+    out: &mut [u32],
+    h: Heads,
+) -> Heads
+    requires { ⌜ Known (now table) (now owners) (now homes) × Laid (now table) (now rows) (now spots) plan
+        × Inside (put (now table) (now out) h (flat (λ n. ofNode (scheme (now table)) (today (now table)) n (scheme (now table) .node n)) (range (nodes (now table))))) ⌝ }
+    ensures { λ r. ⌜ state (now (out .exit)) r
+        ≡ put (now (table .entry)) (now (out .entry)) h (flat (λ n. ofNode (scheme (now (table .entry))) (today (now (table .entry))) n (scheme (now (table .entry)) .node n)) (range (nodes (now (table .entry))))) ⌝ }
+{
+    let count = word16(table, 4);
+    let mut q = h;
+    let mut n = 0;
+    while n < count {
+        q = node(table, owners, homes, rows, spots, plan, out, q, n);
+        n += 1;
     }
     q
 }

@@ -104,6 +104,7 @@ returns c =
     let e = below-all w (a .v) (l .x) (omega (arith, c .loop-test .left, l .inv .3, p .0 .publics-are, p .0 .bounds-are)) in
     let f = fill-same w (l .list) (l .count) _ _ (ap (numbersOf (scheme w) (today w)) e) (l .inv .0) in
     (f .holds, f .size)
+
 pub differences-spec : {M : Type 1} → statement M
 differences-spec =
     tie.close

@@ -186,6 +186,7 @@ returns c =
     c .before .before .transition .ensures
     ∙ sym (put-as w (a .out .now) (a .h) _ _
     (made-arrow w (p .0 .accepted) (a .n) (p .1) (p .2) (a .v) (f .result) _ _ _ _ (f .ensures .is) (ins-2 (c .before .before .before .before .before .before .before .before .before .before .before .before .before .before)) (outs-2 (c .before .before .before .before .before .before .before))))
+
 pub make-spec : {M : Type 1} → statement M
 make-spec =
     tie.close

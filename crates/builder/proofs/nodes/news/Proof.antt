@@ -107,6 +107,7 @@ returns c =
     let l = c .before .before .loop in
     map-done (ofTable w) _ (state (l .out) (l .q)) (Lists.from (publics w) (bounds w)) (l .k) (made w (a .n)) (l .inv .0)
     (omega (arith, from-length (publics w) (bounds w), c .if1 .left, r .privates-are))
+
 pub news-spec : {M : Type 1} → statement M
 news-spec =
     tie.close

@@ -97,8 +97,8 @@ go-requires c κs =
     (part-inside (ofTable w) _ (state (l .out) (l .q)) _ _ (l .inv .0 ∙ ap (put w (l .out) (l .q)) (flat-more g (l .b) (a .end) t)) (p .3)) in (
       omega (arith, few-branches w (p .0 .accepted), u),
       inside-as w (l .out) (l .q) _ _
-      (going-arrow w (a .n) (l .b) (next w (l .b)) (c .before .before .before .before .before .before .before .word32 .result) (c .word322 .result) (p .1) i (c .before .before .before .before .before .before .before .word32 .ensures .is ∙ p .0 .spot-is (a .n) (p .1))
-      (c .word322 .ensures .is ∙ ap (Lists.word (a .spots .now)) (c .before .field42 .ensures .is) ∙ p .0 .spot-is (next w (l .b)) i)) d,
+          (going-arrow w (a .n) (l .b) (next w (l .b)) (c .before .before .before .before .before .before .before .word32 .result) (c .word322 .result) (p .1) i (c .before .before .before .before .before .before .before .word32 .ensures .is ∙ p .0 .spot-is (a .n) (p .1))
+          (c .word322 .ensures .is ∙ ap (Lists.word (a .spots .now)) (c .before .field42 .ensures .is) ∙ p .0 .spot-is (next w (l .b)) i)) d,
     )
 
 add-b : tie.Need-add-b Inv-loop μ-loop
@@ -127,6 +127,7 @@ returns c =
     let l = c .before .loop in
     let g = silentsAt w (a .n) in
     sym (l .inv .0 ∙ ap (put w (l .out) (l .q)) (flat-done g (l .b) (a .end) (c .loop-test .left)) ∙ put-none (ofTable w) (state (l .out) (l .q)))
+
 pub silents-spec : {M : Type 1} → statement M
 silents-spec =
     tie.close
