@@ -39,7 +39,6 @@ pub mod ValueLoops
 pub mod ChainLoops
 pub mod Filling
 pub mod Copying
-pub mod ByWords
 pub mod NodeArrows
 pub mod Making
 pub mod HeldChains
