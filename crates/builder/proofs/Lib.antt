@@ -42,3 +42,4 @@ pub mod Copying
 pub mod NodeArrows
 pub mod Making
 pub mod HeldChains
+pub mod Marked
