@@ -43,3 +43,6 @@ pub mod NodeArrows
 pub mod Making
 pub mod HeldChains
 pub mod Marked
+pub mod Pairs
+pub mod PairLoops
+pub mod Partners

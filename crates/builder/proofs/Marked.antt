@@ -29,6 +29,7 @@ use Rattle.builder.specs.declared.layout.Layout.{Layout}
 use Rattle.builder.proofs.Rows.{control-next}
 use Rattle.builder.proofs.Order.{control-rises}
 use Rattle.builder.proofs.Today
+use Rattle.builder.proofs.Names
 use Rattle.builder.proofs.Controls.{bounds-are}
 use Rattle.builder.proofs.Initial.{some-control}
 use Rattle.builder.proofs.Sorted.{insert-ascends, member-insert, insert-length}
@@ -145,6 +146,16 @@ module _ (w rows : List ℕ) (plan : Layout) (k : Rowed w rows plan) (begin : Li
         high = omega arith;
       }
 
+  -- the sums that the code forms are small
+  pub rows-room : (out : List ℕ) (at x row : ℕ) → RowsTurn w begin end out at x → x < end → row ≡ word rows x
+      → (row + plan .publics + plan .privates + plan .privates ≤ 4096) × (at ≤ 4096)
+  rows-room out at x row i l e =
+      let u : x < names w = omega (arith, end-is) in
+      let f = Names.row-few w rows plan k x (i .low) u in (
+        omega (arith, f, k .publics-are, k .privates-are, k .few-publics, k .few-bounds),
+        omega (arith, i .few, i .high, k .few-bounds),
+      )
+
   pub rows-close : (out : List ℕ) (at x : ℕ) → RowsTurn w begin end out at x → end ≤ x
       → (at ≡ 8 + length (initialRows w)) × (at < 65536) × (out ≡ writes begin 8 (initialRows w))
   rows-close out at x i l =
@@ -221,7 +232,8 @@ module _ (w : List ℕ) (h : cause w ≡ 0) where
       go : (b : Bool) → ascends (controlOf w (a + 1 + n)) (controlOf w (a + 1)) (flat marksAt (from (a + 1) n)) ≡ true
           → ascends (controlOf w (a + suc n)) (controlOf w a) (pick b (controlOf w a ∷ []) [] ++ flat marksAt (from (a + 1) n)) ≡ true
       go true ih =
-          rw sum (ascends-cons (controlOf w (a + 1 + n)) (controlOf w a) (controlOf w a) (flat marksAt (from (a + 1) n)) (omega arith) (omega (arith, next, top))
+          rw sum (ascends-cons (controlOf w (a + 1 + n)) (controlOf w a) (controlOf w a) (flat marksAt (from (a + 1) n)) (omega arith)
+          (omega (arith, next, top))
           ∙ ascends-lower (controlOf w (a + 1 + n)) (controlOf w (a + 1)) (controlOf w a + 1) (flat marksAt (from (a + 1) n)) (omega (arith, next)) ih)
       go false ih =
           rw sum (ascends-lower (controlOf w (a + 1 + n)) (controlOf w (a + 1)) (controlOf w a) (flat marksAt (from (a + 1) n)) (omega (arith, next)) ih)
@@ -237,7 +249,8 @@ module _ (w : List ℕ) (h : cause w ≡ 0) where
   starts-some : (t n : ℕ) → t < threads w → n ≡ root w (entry w t) → startsAt S (today w) n ≡ true
   unfolding scheme
   starts-some t n l e =
-      some-in (λ s. same n (root w (entry w s))) t (range (threads w)) (member-in t (range (threads w)) (member-from t 0 (threads w) (omega arith) (omega arith)))
+      some-in (λ s. same n (root w (entry w s))) t (range (threads w)) (member-in t (range (threads w))
+      (member-from t 0 (threads w) (omega arith) (omega arith)))
       (same-yes n (root w (entry w t)) e)
 
   some-starts : (n : ℕ) (ts : List ℕ) → some (λ s. same n (root w (entry w s))) ts ≡ true → member (controlOf w n) (map (entryPlace w) ts) ≡ true
@@ -305,7 +318,8 @@ module _ (w : List ℕ) (h : cause w ≡ 0) where
       ap (λ (k : ℕ). filled [] (map (entryPlace w) (range k))) z
       ∙ ascends-same (controlOf w (nodes w)) 0 (filled [] ks) (flat marksAt (range (nodes w))) (filled-ascends (controlOf w (nodes w)) [] ks entry-below refl)
       (ascends-lower (controlOf w (nodes w)) (controlOf w 0) 0 (flat marksAt (range (nodes w))) (omega arith) (rw o at (spots-rise 0 (nodes w))))
-      (λ x. filled-member x [] ks ∙ or-false (member x ks) ∙ both-ways (member x ks) (member x (flat marksAt (range (nodes w)))) (entry-marked x) (marked-entry x))
+      (λ x. filled-member x [] ks ∙ or-false (member x ks) ∙ both-ways (member x ks) (member x (flat marksAt (range (nodes w)))) (entry-marked x)
+      (marked-entry x))
 
 -- the loop over threads: the first words are in order, and what is left is still to be put in
 pub record SpotsTurn (w : List ℕ) (end : ℕ) (list : List ℕ) (count t : ℕ) : Type 0 where
@@ -319,7 +333,8 @@ pub spots-begin : (w list : List ℕ) (end : ℕ) → length list ≡ 8 → Spot
 unfolding ascends
 spots-begin w list end s = record { placed = refl; rises = refl; few = omega arith; low = omega arith; eight = s }
 
-pub spots-put : (w spots : List ℕ) (end : ℕ) (list after : List ℕ) (count to t d n x : ℕ) → Spotted w spots → end ≡ threads w → SpotsTurn w end list count t → t < end
+pub spots-put : (w spots : List ℕ) (end : ℕ) (list after : List ℕ) (count to t d n x : ℕ) → Spotted w spots → end ≡ threads w → SpotsTurn w end list count t →
+    t < end
     → d ≡ entry w t → n ≡ root w d → x ≡ word spots n → x < 4294967296 → Inserted x count list to after
     → length after ≡ length list → SpotsTurn w end after to (t + 1)
 spots-put w spots end list after count to t d n x k e i l p q r u a b =
@@ -345,7 +360,8 @@ spots-room w list end count t h e i l =
 pub spots-few : (w list : List ℕ) (end count t : ℕ) → cause w ≡ 0 → end ≡ threads w → SpotsTurn w end list count t → count ≤ length list
 spots-few w list end count t h e i = omega (arith, few-threads w h, i .eight, i .few, i .low)
 
-pub spots-close : (w list : List ℕ) (end count t : ℕ) → cause w ≡ 0 → end ≡ threads w → SpotsTurn w end list count t → end ≤ t → take count list ≡ initialSpots w
+pub spots-close : (w list : List ℕ) (end count t : ℕ) → cause w ≡ 0 → end ≡ threads w → SpotsTurn w end list count t → end ≤ t → take count list ≡
+    initialSpots w
 spots-close w list end count t h e i l = sym (sym (spots-are w h end e) ∙ i .placed ∙ spots-done w (take count list) t end l)
 
 -- ---- rows, then [*≠n], then entries

@@ -1,4 +1,31 @@
 // The communications.
+ghost use mathlib.Core.Bool.{true};
+ghost use mathlib.Core.Path.{_≡_};
+ghost use mathlib.Core.List.{[], _∷_, map};
+ghost use Prim.Native.Nat.{_+_, _-_, _<_};
+ghost use Rattle.lists.specs.Lists.{range, flat};
+ghost use Rattle.table.specs.Words.{publics, names, branches, channel, branchName};
+ghost use Rattle.table.specs.Words.{isSend};
+ghost use Rattle.table.specs.Scheme.{scheme};
+ghost use Rattle.builder.specs.Transitions.{ofPair, sentOn};
+ghost use Rattle.builder.specs.Inner.Writing.{Inside};
+ghost use Rattle.builder.specs.Inner.Plan.{today, values, put, state, told, pairTold};
+ghost use Rattle.builder.specs.Inner.Plan.{Rowed, Laid, Defined, Paired};
+ghost use Rattle.builder.specs.Inner.Plan.{Reads};
+use crate::count::common;
+use crate::count::thread_of;
+use crate::insertion::insert;
+use crate::layout::Layout;
+use crate::layout::differs;
+use crate::layout::equals;
+use crate::layout::reach_of;
+use crate::layout::value_at;
+use crate::layout::value_count;
+use crate::write::Heads;
+use crate::write::transition;
+use lists::word16;
+use lists::word32;
+use table::fields::field4;
 
 // What the communications of a send and a receive share: the branches, the names that they use, and the places before
 // and after them.
@@ -13,4 +40,170 @@ pub struct Pair {
     pub onsend: u32,
     pub receiver: u32,
     pub onreceive: u32,
+}
+
+fn communicate(
+    table: &[u16],
+    rows: &[u32],
+    plan: Layout,
+    out: &mut [u32],
+    h: Heads,
+    p: Pair,
+    i: usize,
+    j: usize,
+) -> Heads
+    requires { ⌜ Rowed (now table) (now rows) plan × Paired (now table) p
+        × Reads (now table) (channel (now table) (p .send)) i × Reads (now table) (channel (now table) (p .receive)) i
+        × Reads (now table) (branchName (now table) (p .send)) j
+        × Inside (put (now table) (now out) h (told (now table) (p .send) (p .receive) i j ∷ [])) ⌝ }
+    ensures { λ r. ⌜ state (now (out .exit)) r
+        ≡ put (now (table .entry)) (now (out .entry)) h (told (now (table .entry)) (p .send) (p .receive) i j ∷ []) ⌝ }
+{
+    let a = p.channel;
+    let z = p.sent;
+    let e = p.heard;
+    let y = p.bound;
+    let mut ins = [0u32; 8];
+    let mut outs = [0u32; 8];
+    let mut c = 0;
+    let mut o = 0;
+    if plan.publics <= a {
+        c = insert(&mut ins, c, equals(table, rows, plan, a, i));
+        o = insert(&mut outs, o, equals(table, rows, plan, a, i));
+    }
+    if plan.publics <= e {
+        c = insert(&mut ins, c, equals(table, rows, plan, e, i));
+        o = insert(&mut outs, o, equals(table, rows, plan, e, i));
+    }
+    if plan.publics <= z {
+        c = insert(&mut ins, c, equals(table, rows, plan, z, j));
+        o = insert(&mut outs, o, equals(table, rows, plan, z, j));
+    }
+    if plan.publics <= j {
+        c = insert(&mut ins, c, differs(table, rows, plan, y, j));
+    }
+    o = insert(&mut outs, o, equals(table, rows, plan, y, j));
+    c = insert(&mut ins, c, p.sender);
+    c = insert(&mut ins, c, p.receiver);
+    o = insert(&mut outs, o, p.onsend);
+    o = insert(&mut outs, o, p.onreceive);
+    transition(out, h, 4, p.send, p.receive, &ins, c, &outs, o)
+}
+
+// All sent values for one channel value.
+fn sent(
+    table: &[u16],
+    rows: &[u32],
+    plan: Layout,
+    out: &mut [u32],
+    h: Heads,
+    p: Pair,
+    i: usize,
+) -> Heads
+    requires { ⌜ Rowed (now table) (now rows) plan × Paired (now table) p
+        × Reads (now table) (channel (now table) (p .send)) i × Reads (now table) (channel (now table) (p .receive)) i
+        × Inside (put (now table) (now out) h (map (told (now table) (p .send) (p .receive) i) (sentOn (scheme (now table)) (today (now table)) (channel (now table) (p .send)) (branchName (now table) (p .send)) i))) ⌝ }
+    ensures { λ r. ⌜ state (now (out .exit)) r
+        ≡ put (now (table .entry)) (now (out .entry)) h (map (told (now (table .entry)) (p .send) (p .receive) i) (sentOn (scheme (now (table .entry))) (today (now (table .entry))) (channel (now (table .entry)) (p .send)) (branchName (now (table .entry)) (p .send)) i)) ⌝ }
+{
+    if p.sent == p.channel {
+        return communicate(table, rows, plan, out, h, p, i, i);
+    }
+    let r = reach_of(table, p.sent);
+    let count = value_count(plan, r);
+    let mut q = h;
+    let mut k = 0;
+    while k < count {
+        q = communicate(table, rows, plan, out, q, p, i, value_at(plan, r, k));
+        k += 1;
+    }
+    q
+}
+
+fn pair_up(table: &[u16], rows: &[u32], plan: Layout, out: &mut [u32], h: Heads, p: Pair) -> Heads
+    requires { ⌜ Rowed (now table) (now rows) plan × Paired (now table) p
+        × Inside (put (now table) (now out) h (pairTold (now table) (p .send) (p .receive))) ⌝ }
+    ensures { λ r. ⌜ state (now (out .exit)) r
+        ≡ put (now (table .entry)) (now (out .entry)) h (pairTold (now (table .entry)) (p .send) (p .receive)) ⌝ }
+{
+    let i = common(reach_of(table, p.channel), reach_of(table, p.heard));
+    let count = value_count(plan, i);
+    let mut q = h;
+    let mut k = 0;
+    while k < count {
+        q = sent(table, rows, plan, out, q, p, value_at(plan, i, k));
+        k += 1;
+    }
+    q
+}
+
+fn partners(
+    table: &[u16],
+    homes: &[u32],
+    definitions: &[u16],
+    rows: &[u32],
+    spots: &[u32],
+    plan: Layout,
+    out: &mut [u32],
+    h: Heads,
+    send: usize,
+) -> Heads
+    requires { ⌜ Defined (now table) (now homes) (now definitions) × Laid (now table) (now rows) (now spots) plan
+        × (send < branches (now table)) × (isSend (now table) send ≡ true)
+        × Inside (put (now table) (now out) h (flat (λ r. ofPair (scheme (now table)) (today (now table)) send (scheme (now table) .branch send) r (scheme (now table) .branch r)) (range (branches (now table))))) ⌝ }
+    ensures { λ r. ⌜ state (now (out .exit)) r
+        ≡ put (now (table .entry)) (now (out .entry)) h (flat (λ r. ofPair (scheme (now (table .entry))) (today (now (table .entry))) send (scheme (now (table .entry)) .branch send) r (scheme (now (table .entry)) .branch r)) (range (branches (now (table .entry))))) ⌝ }
+{
+    let branches = word16(table, 5);
+    let own = thread_of(table, homes, definitions, send);
+    let mut q = h;
+    let mut r = 0;
+    while r < branches {
+        if field4(table, 11, r, 0) == 2 {
+            if thread_of(table, homes, definitions, r) != own {
+                let p = Pair {
+                    send,
+                    receive: r,
+                    channel: field4(table, 11, send, 1),
+                    sent: field4(table, 11, send, 2),
+                    heard: field4(table, 11, r, 1),
+                    bound: field4(table, 11, r, 2),
+                    sender: word32(spots, word32(homes, send)) as u32,
+                    onsend: word32(spots, field4(table, 11, send, 3)) as u32,
+                    receiver: word32(spots, word32(homes, r)) as u32,
+                    onreceive: word32(spots, field4(table, 11, r, 3)) as u32,
+                };
+                q = pair_up(table, rows, plan, out, q, p);
+            }
+        }
+        r += 1;
+    }
+    q
+}
+
+pub(crate) fn communications(
+    table: &[u16],
+    homes: &[u32],
+    definitions: &[u16],
+    rows: &[u32],
+    spots: &[u32],
+    plan: Layout,
+    out: &mut [u32],
+    h: Heads,
+) -> Heads
+    requires { ⌜ Defined (now table) (now homes) (now definitions) × Laid (now table) (now rows) (now spots) plan
+        × Inside (put (now table) (now out) h (flat (λ s. flat (λ r. ofPair (scheme (now table)) (today (now table)) s (scheme (now table) .branch s) r (scheme (now table) .branch r)) (range (branches (now table)))) (range (branches (now table))))) ⌝ }
+    ensures { λ r. ⌜ state (now (out .exit)) r
+        ≡ put (now (table .entry)) (now (out .entry)) h (flat (λ s. flat (λ r. ofPair (scheme (now (table .entry))) (today (now (table .entry))) s (scheme (now (table .entry)) .branch s) r (scheme (now (table .entry)) .branch r)) (range (branches (now (table .entry))))) (range (branches (now (table .entry))))) ⌝ }
+{
+    let branches = word16(table, 5);
+    let mut q = h;
+    let mut s = 0;
+    while s < branches {
+        if field4(table, 11, s, 0) == 1 {
+            q = partners(table, homes, definitions, rows, spots, plan, out, q, s);
+        }
+        s += 1;
+    }
+    q
 }

@@ -14,19 +14,23 @@ count-up-requires c κs = search needs
 
 initial-spots-requires : tie.Need-initial-spots-requires
 initial-spots-requires c κs =
-    let k = c .before .before .before .before .before .before .before .before .before .before .before .before .before .pre .rowed in
-    (c .before .before .before .before .before .before .before .before .before .before .before .before .before .pre .spotted, omega (arith, c .before .before .before .count-up .ensures .0, c .before .before .before .before .before .before .before .initial-rows .ensures .0, rows-few (c .before .before .before .before .before .before .before .before .before .before .before .before .before .args .table .now) (k .few-bounds), k .few-bounds, k .privates-are))
+    let s = c .before .before .before .before .before .before .before .before .before .before .before .before .before in
+    let k = s .pre .rowed in
+    let r = c .before .before .before .before .before .before .before .initial-rows in
+    let f = rows-few (s .args .table .now) (k .few-bounds) in
+    (s .pre .spotted, omega (arith, c .before .before .before .count-up .ensures .0, r .ensures .0, f, k .few-bounds, k .privates-are))
 
 same-length : tie.Need-same-length
 same-length c = search needs
 
 returns : tie.Need-returns
 returns c =
-    let a = c .before .before .before .before .before .before .before .before .before .before .before .before .before .before .before .before .args in
+    let b = c .before .before .before .before .before .before .before .before .before .before .before .before .before .before .before .before in
+    let a = b .args in
     let r = c .before .before .before .before .before .before .before .before .before .before .initial-rows in
     let u = c .before .before .before .before .before .before .count-up in
     let s = c .before .before .initial-spots in
-    all-marked (a .table .now) (a .rows .now) (a .plan) (a .out .now) (r .last .1 .0) (u .last .0) (s .last .1 .0) (r .result) (u .result) (c .before .before .before .before .before .before .before .before .before .before .before .before .before .before .before .before .pre .rowed)
+    all-marked (a .table .now) (a .rows .now) (a .plan) (a .out .now) (r .last .1 .0) (u .last .0) (s .last .1 .0) (r .result) (u .result) (b .pre .rowed)
     (r .ensures .0) (r .ensures .2) (u .ensures .0) (u .ensures .1) (s .ensures)
 
 pub initial-spec : {M : Type 1} → statement M

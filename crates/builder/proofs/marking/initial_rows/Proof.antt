@@ -6,8 +6,8 @@ use native.Mathlib.Omega.{arith}
 use borrow.Author.Needs.{needs}
 use lib.ListN.{length}
 use Rattle.table.specs.Words.{names}
-use Rattle.builder.proofs.Names.{kind-restricted, kind-free, row-few}
-use Rattle.builder.proofs.Marked.{RowsTurn, rows-begin, rows-skip, rows-put, rows-close}
+use Rattle.builder.proofs.Names.{kind-restricted, kind-free}
+use Rattle.builder.proofs.Marked.{RowsTurn, rows-begin, rows-skip, rows-put, rows-room, rows-close}
 use Rattle.builder.proofs.marking.initial_rows.Statement.{statement}
 use Rattle.builder.proofs.marking.initial_rows.Tie as tie
 
@@ -21,7 +21,9 @@ add-end : tie.Need-add-end Inv-loop μ-loop
 add-end c = omega (arith, c .before .before .before .before .pre)
 
 loop-holds : tie.Need-loop-holds Inv-loop μ-loop
-loop-holds c = rows-begin (c .before .before .before .before .args .table .now) (c .before .before .before .before .args .rows .now) (c .before .before .before .before .args .plan) (c .before .before .before .before .pre) (c .before .before .before .before .args .out .now)
+loop-holds c =
+    let s = c .before .before .before .before in
+    rows-begin (s .args .table .now) (s .args .rows .now) (s .args .plan) (s .pre) (s .args .out .now)
 
 name-kind-requires : tie.Need-name-kind-requires Inv-loop μ-loop
 name-kind-requires c κs = search needs
@@ -29,17 +31,30 @@ name-kind-requires c κs = search needs
 word32-requires : tie.Need-word32-requires Inv-loop μ-loop
 word32-requires c κs = search needs
 
+room : (c : tie.After-word32 Inv-loop μ-loop) → (
+    c .word32 .result + c .before .before .before .before .before .before .before .before .before .before .args .plan .publics +
+    c .before .before .before .before .before .before .before .before .before .before .args .plan .privates +
+    c .before .before .before .before .before .before .before .before .before .before .args .plan .privates ≤ 4096
+    ) × (c .before .before .before .before .before .loop .at ≤ 4096)
+room c =
+    let s = c .before .before .before .before .before .before .before .before .before .before in
+    let l = c .before .before .before .before .before .loop in
+    rows-room (s .args .table .now) (s .args .rows .now) (s .args .plan) (s .pre) (s .args .out .now) (l .out) (l .at) (l .x) (c .word32 .result) (l .inv)
+    (c .before .before .before .before .loop-test .taken) (c .word32 .ensures .is)
+
 add-count-up : tie.Need-add-count-up Inv-loop μ-loop
-add-count-up c = omega (arith, c .before .before .before .before .before .before .before .before .before .before .before .pre .publics-are, c .before .before .before .before .before .before .before .before .before .before .before .pre .privates-are, c .before .before .before .before .before .before .before .before .before .before .before .pre .few-publics, c .before .before .before .before .before .before .before .before .before .before .before .pre .few-bounds, c .before .word32 .ensures .is, row-few (c .before .before .before .before .before .before .before .before .before .before .before .args .table .now) (c .before .before .before .before .before .before .before .before .before .before .before .args .rows .now) (c .before .before .before .before .before .before .before .before .before .before .before .args .plan) (c .before .before .before .before .before .before .before .before .before .before .before .pre) (c .before .before .before .before .before .before .loop .x) (c .before .before .before .before .before .before .loop .inv .low) (omega (arith, c .before .before .before .before .before .before .before .before .before .before .before .pre .publics-are, c .before .before .before .before .before .before .before .before .before .before .before .pre .bounds-are)))
+add-count-up c = omega (arith, room (c .before))
 
 add-count-up-2 : tie.Need-add-count-up-2 Inv-loop μ-loop
-add-count-up-2 c = omega (arith, c .before .before .before .before .before .before .before .before .before .before .before .before .pre .publics-are, c .before .before .before .before .before .before .before .before .before .before .before .before .pre .privates-are, c .before .before .before .before .before .before .before .before .before .before .before .before .pre .few-publics, c .before .before .before .before .before .before .before .before .before .before .before .before .pre .few-bounds, c .before .before .word32 .ensures .is, row-few (c .before .before .before .before .before .before .before .before .before .before .before .before .args .table .now) (c .before .before .before .before .before .before .before .before .before .before .before .before .args .rows .now) (c .before .before .before .before .before .before .before .before .before .before .before .before .args .plan) (c .before .before .before .before .before .before .before .before .before .before .before .before .pre) (c .before .before .before .before .before .before .before .loop .x) (c .before .before .before .before .before .before .before .loop .inv .low) (omega (arith, c .before .before .before .before .before .before .before .before .before .before .before .before .pre .publics-are, c .before .before .before .before .before .before .before .before .before .before .before .before .pre .bounds-are)))
+add-count-up-2 c = omega (arith, room (c .before .before))
 
 count-up-requires : tie.Need-count-up-requires Inv-loop μ-loop
-count-up-requires c κs = (omega (arith, c .before .before .before .before .before .before .before .before .before .before .before .before .pre .publics-are, c .before .before .before .before .before .before .before .before .before .before .before .before .pre .privates-are, c .before .before .before .before .before .before .before .before .before .before .before .before .pre .few-publics, c .before .before .before .before .before .before .before .before .before .before .before .before .pre .few-bounds, c .before .before .word32 .ensures .is, row-few (c .before .before .before .before .before .before .before .before .before .before .before .before .args .table .now) (c .before .before .before .before .before .before .before .before .before .before .before .before .args .rows .now) (c .before .before .before .before .before .before .before .before .before .before .before .before .args .plan) (c .before .before .before .before .before .before .before .before .before .before .before .before .pre) (c .before .before .before .before .before .before .before .loop .x) (c .before .before .before .before .before .before .before .loop .inv .low) (omega (arith, c .before .before .before .before .before .before .before .before .before .before .before .before .pre .publics-are, c .before .before .before .before .before .before .before .before .before .before .before .before .pre .bounds-are))), omega (arith, c .before .before .before .before .before .before .before .loop .inv .few, c .before .before .before .before .before .before .before .loop .inv .high, c .before .before .before .before .before .before .before .before .before .before .before .before .pre .few-bounds))
+count-up-requires c κs = let r = room (c .before .before) in (omega (arith, r .0), omega (arith, r .1))
 
 add-x : tie.Need-add-x Inv-loop μ-loop
-add-x c = omega (arith, c .before .before .before .loop .inv .high, c .before .before .before .before .before .before .before .before .pre .few-bounds, c .before .before .before .before .before .before .before .before .pre .few-publics)
+add-x c =
+    let p = c .before .before .before .before .before .before .before .before .pre in
+    omega (arith, c .before .before .before .loop .inv .high, p .few-bounds, p .few-publics)
 
 loop-less : tie.Need-loop-less Inv-loop μ-loop
 loop-less c = omega arith
@@ -64,7 +79,10 @@ same-length : tie.Need-same-length Inv-loop μ-loop
 same-length c = c .before .loop .inv .kept
 
 returns : tie.Need-returns Inv-loop μ-loop
-returns c = rows-close (c .before .before .before .before .before .before .args .table .now) (c .before .before .before .before .before .before .args .rows .now) (c .before .before .before .before .before .before .args .plan) (c .before .before .before .before .before .before .pre) (c .before .before .before .before .before .before .args .out .now) (c .before .loop .out) (c .before .loop .at) (c .before .loop .x) (c .before .loop .inv) (c .loop-test .left)
+returns c =
+    let s = c .before .before .before .before .before .before in
+    let l = c .before .loop in
+    rows-close (s .args .table .now) (s .args .rows .now) (s .args .plan) (s .pre) (s .args .out .now) (l .out) (l .at) (l .x) (l .inv) (c .loop-test .left)
 
 pub initial-rows-spec : {M : Type 1} → statement M
 initial-rows-spec =

@@ -44,7 +44,8 @@ insert-requires c κs =
     let p = c .before .before .before .before .before .before .before .before .before .before .pre in
     let l = c .before .before .before .before .before .loop in
     let t = c .before .before .before .before .before .before .word16 in
-    spots-room (a .table .now) (l .list) (t .result) (l .count) (l .t) (p .0 .accepted) (t .ensures .is) (l .inv) (c .before .before .before .before .loop-test .taken)
+    spots-room (a .table .now) (l .list) (t .result) (l .count) (l .t) (p .0 .accepted) (t .ensures .is) (l .inv)
+    (c .before .before .before .before .loop-test .taken)
 
 add-t : tie.Need-add-t Inv-loop μ-loop
 add-t c = omega (arith, c .before .before .before .before .before .before .before .before .word16 .ensures .small)
@@ -59,8 +60,10 @@ loop-again c =
     let l = c .before .before .before .before .before .before .before .loop in
     let t = c .before .before .before .before .before .before .before .before .word16 in
     let s = c .before .insert in
-    spots-put (a .table .now) (a .spots .now) (t .result) (l .list) (s .last .0) (l .count) (s .result) (l .t) (c .before .before .before .before .before .field1 .result) (c .before .before .before .before .field4 .result)
-    (c .before .before .word32 .result) (p .0) (t .ensures .is) (l .inv) (c .before .before .before .before .before .before .loop-test .taken) (c .before .before .before .before .before .field1 .ensures .is) (c .before .before .before .before .field4 .ensures .is)
+    spots-put (a .table .now) (a .spots .now) (t .result) (l .list) (s .last .0) (l .count) (s .result) (l .t)
+    (c .before .before .before .before .before .field1 .result) (c .before .before .before .before .field4 .result)
+    (c .before .before .word32 .result) (p .0) (t .ensures .is) (l .inv) (c .before .before .before .before .before .before .loop-test .taken)
+    (c .before .before .before .before .before .field1 .ensures .is) (c .before .before .before .before .field4 .ensures .is)
     (c .before .before .word32 .ensures .is) (c .before .before .word32 .ensures .small) (s .ensures) (s .kept .0)
 
 slice-aggregate-words : tie.Need-slice-aggregate-words Inv-loop μ-loop
@@ -85,7 +88,8 @@ returns c =
     let t = c .before .before .before .before .before .before .before .word16 in
     c .before .before .words .ensures .1
     ∙ ap (writes (a .out .now) (a .at))
-    (spots-close (a .table .now) (l .list) (t .result) (l .count) (l .t) (p .0 .accepted) (t .ensures .is) (l .inv) (c .before .before .before .before .before .loop-test .left))
+    (spots-close (a .table .now) (l .list) (t .result) (l .count) (l .t) (p .0 .accepted) (t .ensures .is) (l .inv)
+    (c .before .before .before .before .before .loop-test .left))
 
 pub initial-spots-spec : {M : Type 1} → statement M
 initial-spots-spec =

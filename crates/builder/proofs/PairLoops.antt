@@ -1,0 +1,171 @@
+-- The communications of a send and a receive: a loop over channel values, and in it one over sent values.
+use mathlib.Core.Path.{_≡_, refl, sym, ap, subst, _∙_}
+use mathlib.Core.Bool.{Bool, true, false, _&&_}
+use mathlib.Core.List.{List, [], _∷_, _++_, map}
+use Prim.Native.Nat.{ℕ, _+_, _≤_, _<_}
+use native.Mathlib.Omega.{arith}
+use lib.ListN.{length, drop}
+use Rattle.lists.specs.Lists.{pick, same, word, keep, flat, member}
+use Rattle.lists.proofs.Tests.{same-yes, same-no, same-true, and-left, and-right}
+use Rattle.lists.proofs.Members.{member-keep}
+use Rattle.table.specs.Words.{publics, bounds, names, branchKind, channel, branchName}
+use Rattle.table.specs.Scheme.{scheme}
+use Rattle.builder.specs.Transitions.{Description, common, sentOn}
+use Rattle.builder.specs.Inner.Writing
+use Rattle.builder.specs.Inner.Writing.{putAll, Inside}
+use Rattle.builder.specs.Inner.Plan.{today, values, ofTable, told, pairTold, Rowed, Paired, Reads, Lists, InBoth, reached}
+use Rattle.builder.specs.declared.layout.Layout.{Layout}
+use Rattle.builder.specs.declared.layout.Reach.{Reach}
+use Rattle.builder.specs.declared.communications.Pair.{Pair}
+use Rattle.builder.proofs.ByWords.{channel-inside, name-inside}
+use Rattle.builder.proofs.ValueLoops
+
+-- what reading values by their index asks
+module _ (w rows : List ℕ) (plan : Layout) (k : Rowed w rows plan) (r : Reach) (vs : List ℕ) (l : Lists (publics w) (bounds w) r vs) where
+  pub values-few : (r .low ≤ r .high) × (r .high ≤ 65536) × (plan .privates < 65536)
+  values-few = (l .order, omega (arith, l .inside, k .few-publics), omega (arith, k .privates-are, k .few-bounds))
+
+  pub value-inside : (i n : ℕ) → n ≡ length (reached (plan .publics) (plan .privates) r) → i < n
+      → (r .low ≤ r .high) × (r .high ≤ 65536) × (plan .publics < 65536) × (plan .privates < 65536) × (i < length (reached (plan .publics) (plan .privates) r))
+  value-inside i n e h = (
+    l .order,
+    omega (arith, l .inside, k .few-publics),
+    omega (arith, k .publics-are, k .few-publics),
+    omega (arith, k .privates-are, k .few-bounds),
+    omega (arith, e),
+  )
+
+-- all sent values of a pair for channel value i
+abbrev pub pairSent : List ℕ → Pair → ℕ → List Description
+pairSent w p i = map (told w (p .send) (p .receive) i) (sentOn (scheme w) (today w) (channel w (p .send)) (branchName w (p .send)) i)
+
+module _ (w rows : List ℕ) (plan : Layout) (k : Rowed w rows plan) (p : Pair) (q : Paired w p) where
+  not-silent : (b n : ℕ) → branchKind w b ≡ n → 1 ≤ n → branchKind w b ≡ 0 → ⊥
+  not-silent b n e h z = omega arith
+
+  sends : branchKind w (p .send) ≡ 0 → ⊥
+  sends = not-silent (p .send) 1 (same-true (branchKind w (p .send)) 1 (q .sends)) (omega arith)
+
+  receives : branchKind w (p .receive) ≡ 0 → ⊥
+  receives = not-silent (p .receive) 2 (same-true (branchKind w (p .receive)) 2 (q .receives)) (omega arith)
+
+  pub channel-high : p .channel < names w
+  channel-high = rw (q .channel-is) (channel-inside w (k .accepted) (p .send) (q .send-inside) sends)
+
+  pub heard-high : p .heard < names w
+  heard-high = rw (q .heard-is) (channel-inside w (k .accepted) (p .receive) (q .receive-inside) receives)
+
+  pub sent-high : p .sent < names w
+  sent-high = rw (q .sent-is) (name-inside w (k .accepted) (p .send) (q .send-inside) sends)
+
+  abbrev toldAt : ℕ → ℕ → Description
+  toldAt i j = told w (p .send) (p .receive) i j
+
+  abbrev sentAt : ℕ → List Description
+  sentAt = pairSent w p
+
+  -- ---- the loop over sent values
+
+  module _ (i : ℕ) (a : Reads w (channel w (p .send)) i) (e : Reads w (channel w (p .receive)) i) where
+    -- "A name sent on itself has only j=i."
+    pub self-is : p .sent ≡ p .channel → sentAt i ≡ toldAt i i ∷ []
+    self-is s = let z : branchName w (p .send) ≡ channel w (p .send) = sym (q .sent-is) ∙ s ∙ q .channel-is in rw (same-yes _ _ z)
+
+    pub self-reads : p .sent ≡ p .channel → Reads w (branchName w (p .send)) i
+    self-reads s = subst (λ (x : ℕ). Reads w x i) (sym (sym (q .sent-is) ∙ s ∙ q .channel-is)) a
+
+    pub other-is : (p .sent ≡ p .channel → ⊥) → sentAt i ≡ map (toldAt i) (values w (p .sent))
+    other-is s =
+        let z : same (branchName w (p .send)) (channel w (p .send)) ≡ false =
+        same-no (branchName w (p .send)) (channel w (p .send)) (λ h. s (q .sent-is ∙ h ∙ sym (q .channel-is))) in
+        rw (z, q .sent-is)
+
+    -- what is left where value n is due
+    abbrev pub SentLeft : Writing.Heads → Writing.Heads → ℕ → Type 0
+    SentLeft begin s n = putAll (ofTable w) begin (map (toldAt i) (values w (p .sent))) ≡ putAll (ofTable w) s (map (toldAt i) (drop n (values w (p .sent))))
+
+    module _ (r : Reach) (l : Lists (publics w) (bounds w) r (values w (p .sent))) (count : ℕ)
+        (c : count ≡ length (reached (plan .publics) (plan .privates) r)) (begin s : Writing.Heads) (n : ℕ) (left : SentLeft begin s n) where
+      abbrev vs : List ℕ
+      vs = values w (p .sent)
+
+      abbrev all : Writing.Heads
+      all = putAll (ofTable w) begin (map (toldAt i) vs)
+
+      size : count ≡ length vs
+      size = ValueLoops.reach-count w plan r vs (k .publics-are) (k .privates-are) l count c
+
+      pub sent-done : count ≤ n → s ≡ all
+      sent-done h = ValueLoops.map-done (ofTable w) all s vs n (toldAt i) left (omega (arith, size))
+
+      module _ (v : ℕ) (h : n < count) (is : v ≡ word (reached (plan .publics) (plan .privates) r) n) where
+        at : v ≡ word vs n
+        at = ValueLoops.reach-at w plan r vs (k .publics-are) (k .privates-are) l n v is
+
+        stands : member v vs ≡ true
+        stands = ValueLoops.reach-member w plan r vs (k .publics-are) (k .privates-are) l n v (omega (arith, size)) is
+
+        reads : Reads w (branchName w (p .send)) v
+        reads = subst (λ (x : ℕ). Reads w x v) (q .sent-is) (record { high = sent-high; value = stands })
+
+        pub sent-needs : Inside all
+            → Rowed w rows plan × Paired w p × Reads w (channel w (p .send)) i × Reads w (channel w (p .receive)) i
+            × Reads w (branchName w (p .send)) v × Inside (putAll (ofTable w) s (toldAt i v ∷ []))
+        sent-needs o = (k, q, a, e, reads, ValueLoops.map-inside (ofTable w) all s vs n (toldAt i) left v (omega (arith, size)) at o)
+
+        pub sent-more : (t : Writing.Heads) → t ≡ putAll (ofTable w) s (toldAt i v ∷ []) → SentLeft begin t (n + 1)
+        sent-more t f = ValueLoops.map-more (ofTable w) all s vs n (toldAt i) left v (omega (arith, size)) at t f
+
+  -- ---- the loop over channel values
+
+  -- "channel value i common to both"
+  pub both-lists : (a b r : Reach) → Lists (publics w) (bounds w) a (values w (p .channel)) → Lists (publics w) (bounds w) b (values w (p .heard))
+      → InBoth a b r → Lists (publics w) (bounds w) r (common (scheme w) (today w) (p .channel) (p .heard))
+  both-lists a b r l m f = f (publics w) (bounds w) (values w (p .channel)) (values w (p .heard)) l m
+
+  pub pair-is : pairTold w (p .send) (p .receive) ≡ flat sentAt (common (scheme w) (today w) (p .channel) (p .heard))
+  unfolding pairTold
+  pair-is = rw (q .channel-is, q .heard-is)
+
+  abbrev pub PairLeft : Writing.Heads → Writing.Heads → ℕ → Type 0
+  PairLeft begin s n =
+      putAll (ofTable w) begin (flat sentAt (common (scheme w) (today w) (p .channel) (p .heard)))
+      ≡ putAll (ofTable w) s (flat sentAt (drop n (common (scheme w) (today w) (p .channel) (p .heard))))
+
+  module _ (r : Reach) (l : Lists (publics w) (bounds w) r (common (scheme w) (today w) (p .channel) (p .heard))) (count : ℕ)
+      (c : count ≡ length (reached (plan .publics) (plan .privates) r)) (begin s : Writing.Heads) (n : ℕ) (left : PairLeft begin s n) where
+    abbrev is : List ℕ
+    is = common (scheme w) (today w) (p .channel) (p .heard)
+
+    abbrev whole : Writing.Heads
+    whole = putAll (ofTable w) begin (flat sentAt is)
+
+    few : count ≡ length is
+    few = ValueLoops.reach-count w plan r is (k .publics-are) (k .privates-are) l count c
+
+    pub pair-done : count ≤ n → s ≡ whole
+    pair-done h = ValueLoops.flat-done (ofTable w) whole s is n sentAt left (omega (arith, few))
+
+    module _ (v : ℕ) (h : n < count) (e : v ≡ word (reached (plan .publics) (plan .privates) r) n) where
+      found : v ≡ word is n
+      found = ValueLoops.reach-at w plan r is (k .publics-are) (k .privates-are) l n v e
+
+      shared : (member v (values w (p .heard)) && member v (values w (p .channel))) ≡ true
+      shared =
+          sym (member-keep (λ i. member i (values w (p .heard))) v (values w (p .channel)))
+          ∙ ValueLoops.reach-member w plan r is (k .publics-are) (k .privates-are) l n v (omega (arith, few)) e
+
+      pub pair-needs : Inside whole
+          → Rowed w rows plan × Paired w p × Reads w (channel w (p .send)) v × Reads w (channel w (p .receive)) v × Inside (putAll (ofTable w) s (sentAt v))
+      pair-needs o = (
+        k,
+        q,
+        subst (λ (x : ℕ). Reads w x v) (q .channel-is)
+            (record { high = channel-high; value = and-right (member v (values w (p .heard))) (member v (values w (p .channel))) shared }),
+        subst (λ (x : ℕ). Reads w x v) (q .heard-is)
+            (record { high = heard-high; value = and-left (member v (values w (p .heard))) (member v (values w (p .channel))) shared }),
+        ValueLoops.flat-inside (ofTable w) whole s is n sentAt left v (omega (arith, few)) found o,
+      )
+
+      pub pair-more : (t : Writing.Heads) → t ≡ putAll (ofTable w) s (sentAt v) → PairLeft begin t (n + 1)
+      pair-more t f = ValueLoops.flat-more (ofTable w) whole s is n sentAt left v (omega (arith, few)) found t f

@@ -1,0 +1,153 @@
+-- `builder::communications::pair_up` meets its contract. Loop: the communications of the channel values left are still to be written. Measure: values left.
+use mathlib.Core.Path.{_≡_, refl, sym, ap, subst, _∙_}
+use mathlib.Core.List.{List, map}
+use Prim.Native.Nat.{ℕ, _+_, _-_, _≤_, _<_}
+use native.Mathlib.Omega.{arith}
+use borrow.Author.Needs.{needs}
+use lib.ListN.{length, drop}
+use Rattle.lists.specs.Lists.{flat}
+use Rattle.table.specs.Words.{publics, bounds}
+use Rattle.table.specs.Scheme.{scheme}
+use Rattle.builder.specs.Transitions.{Description, common}
+use Rattle.builder.specs.Inner.Writing.{Inside}
+use Rattle.builder.specs.Inner.Plan.{today, state, put, Lists}
+use Rattle.builder.proofs.PairLoops.{pairSent, values-few, value-inside, channel-high, heard-high, both-lists, pair-is, pair-done}
+use Rattle.builder.proofs.PairLoops.{pair-needs, pair-more}
+use Rattle.builder.proofs.communications.pair_up.Statement.{statement}
+use Rattle.builder.proofs.communications.pair_up.Tie as tie
+
+abbrev Inv-loop : tie.InvT-loop
+Inv-loop table rows plan out₀ p i count q₀ k₀ out q k =
+    (put table out₀ q₀ (flat (pairSent table p) (common (scheme table) (today table) (p .channel) (p .heard)))
+    ≡ put table out q (flat (pairSent table p) (drop k (common (scheme table) (today table) (p .channel) (p .heard)))))
+    × (length out ≡ length out₀)
+
+abbrev μ-loop : tie.MeasureT-loop
+μ-loop table rows plan out₀ p i count q₀ k₀ out q k = count - k
+
+abbrev start : tie.After-common Inv-loop μ-loop → tie.Start Inv-loop μ-loop
+start c = c .before .before .before .before .before .before
+
+abbrev both : tie.Start Inv-loop μ-loop → List ℕ
+both s = common (scheme (s .args .table .now)) (today (s .args .table .now)) (s .args .p .channel) (s .args .p .heard)
+
+lists : (c : tie.After-common Inv-loop μ-loop) → Lists (publics (start c .args .table .now)) (bounds (start c .args .table .now)) (c .common .result)
+    (both (start c))
+lists c =
+    let s = start c in
+    let a = s .args in
+    both-lists (a .table .now) (a .rows .now) (a .plan) (s .pre .0) (a .p) (s .pre .1) (c .before .before .reach-of .result) (c .before .reach-of2 .result)
+    (c .common .result)
+    (c .before .before .reach-of .ensures) (c .before .reach-of2 .ensures) (c .common .ensures)
+
+inside : (s : tie.Start Inv-loop μ-loop) → Inside (put (s .args .table .now) (s .args .out .now) (s .args .h)
+    (flat (pairSent (s .args .table .now) (s .args .p)) (both s)))
+inside s =
+    let a = s .args in
+    let w = a .table .now in
+    subst (λ (ds : List Description). Inside (put w (a .out .now) (a .h) ds)) (pair-is w (a .rows .now) (a .plan) (s .pre .0) (a .p) (s .pre .1)) (s .pre .2)
+
+reach-of-requires : tie.Need-reach-of-requires Inv-loop μ-loop
+reach-of-requires c κs =
+    let s = c .before .before .before in
+    let a = s .args in
+    let w = a .table .now in
+    channel-high w (a .rows .now) (a .plan) (s .pre .0) (a .p) (s .pre .1)
+
+reach-of-requires-2 : tie.Need-reach-of-requires-2 Inv-loop μ-loop
+reach-of-requires-2 c κs =
+    let s = c .before .before .before .before in
+    let a = s .args in
+    let w = a .table .now in
+    heard-high w (a .rows .now) (a .plan) (s .pre .0) (a .p) (s .pre .1)
+
+common-requires : tie.Need-common-requires Inv-loop μ-loop
+common-requires c κs = search needs
+
+value-count-requires : tie.Need-value-count-requires Inv-loop μ-loop
+value-count-requires c κs =
+    let s = c .before .before .before .before .before .before in
+    let a = s .args in
+    let w = a .table .now in
+    values-few w (a .rows .now) (a .plan) (s .pre .0) (c .common .result) (both s) (lists c)
+
+loop-holds : tie.Need-loop-holds Inv-loop μ-loop
+loop-holds c = (refl, refl)
+
+value-at-requires : tie.Need-value-at-requires Inv-loop μ-loop
+value-at-requires c κs =
+    let s = c .before .before .before .before .before .before .before .before .before .before in
+    let a = s .args in
+    let w = a .table .now in
+    let m = c .before .before .before .before in
+    let n = c .before .before .before .value-count in
+    value-inside w (a .rows .now) (a .plan) (s .pre .0) (m .common .result) (both s) (lists m) (c .before .before .loop .k) (n .result) (n .ensures)
+    (c .before .loop-test .taken)
+
+sent-requires : tie.Need-sent-requires Inv-loop μ-loop
+sent-requires c κs =
+    let s = c .before .before .before .before .before .before .before .before .before .before .before in
+    let a = s .args in
+    let w = a .table .now in
+    let m = c .before .before .before .before .before in
+    let n = c .before .before .before .before .value-count in
+    let l = c .before .before .before .loop in
+    pair-needs w (a .rows .now) (a .plan) (s .pre .0) (a .p) (s .pre .1) (m .common .result) (lists m) (n .result) (n .ensures)
+    (state (a .out .now) (a .h)) (state (l .out) (l .q)) (l .k) (l .inv .0)
+    (c .value-at .result) (c .before .before .loop-test .taken) (c .value-at .ensures) (inside s)
+
+add-k : tie.Need-add-k Inv-loop μ-loop
+add-k c = omega arith
+
+loop-less : tie.Need-loop-less Inv-loop μ-loop
+loop-less c = omega arith
+
+loop-again : tie.Need-loop-again Inv-loop μ-loop
+loop-again c =
+    let s = c .before .before .before .before .before .before .before .before .before .before .before .before .before .before in
+    let a = s .args in
+    let w = a .table .now in
+    let m = c .before .before .before .before .before .before .before .before in
+    let n = c .before .before .before .before .before .before .before .value-count in
+    let l = c .before .before .before .before .before .before .loop in
+    let v = c .before .before .before .value-at in
+    let u = c .before .before .sent in (
+      pair-more w (a .rows .now) (a .plan) (s .pre .0) (a .p) (s .pre .1) (m .common .result) (lists m) (n .result) (n .ensures)
+          (state (a .out .now) (a .h)) (state (l .out) (l .q)) (l .k) (l .inv .0)
+          (v .result) (c .before .before .before .before .before .loop-test .taken) (v .ensures) (state (u .last .1 .1 .1 .0) (u .result)) (u .ensures),
+      u .kept .1 .1 .1 .0 ∙ l .inv .1,
+    )
+
+same-length : tie.Need-same-length Inv-loop μ-loop
+same-length c = c .before .loop .inv .1
+
+returns : tie.Need-returns Inv-loop μ-loop
+returns c =
+    let s = c .before .before .before .before .before .before .before .before .before in
+    let a = s .args in
+    let w = a .table .now in
+    let m = c .before .before .before in
+    let n = c .before .before .value-count in
+    let l = c .before .loop in
+    pair-done w (a .rows .now) (a .plan) (s .pre .0) (a .p) (s .pre .1) (m .common .result) (lists m) (n .result) (n .ensures)
+    (state (a .out .now) (a .h)) (state (l .out) (l .q)) (l .k) (l .inv .0)
+    (c .loop-test .left) ∙ ap (put w (a .out .now) (a .h)) (sym (pair-is w (a .rows .now) (a .plan) (s .pre .0) (a .p) (s .pre .1)))
+
+pub pair-up-spec : {M : Type 1} → statement M
+pair-up-spec =
+    tie.close
+    (tie.spec
+    Inv-loop
+    μ-loop
+    reach-of-requires
+    reach-of-requires-2
+    common-requires
+    value-count-requires
+    loop-holds
+    value-at-requires
+    sent-requires
+    add-k
+    loop-less
+    loop-again
+    same-length
+    returns)
