@@ -44,7 +44,6 @@ module _ (w : List ℕ) where
       (out o1 o2 : List ℕ) (room : length (imageOf w) ≤ length out)
       (first : o1 ≡ writes out 0 (headerOf (plan .places) (t .transitions) (t .inputs) (t .outputs) (plan .tokens)))
       (second : o2 ≡ writes o1 8 (initialNumbers (scheme w) (today w))) where
-
     abbrev net : Net
     net = netOf (scheme w)
 

@@ -17,7 +17,13 @@ use Rattle.table.specs.Causes.{cause}
 use Rattle.table.proofs.Accepted.{accepted}
 use Rattle.table.proofs.Indexed.{definition-indexed}
 use Rattle.table.proofs.Scatter.{word-range}
-use Rattle.builder.specs.Inner.Plan.{Known, Defined}
+use Rattle.table.specs.Answer.{causeOf}
+use Rattle.table.specs.declared.Verdict.{Verdict}
+use Rattle.builder.specs.Inner.Plan.{Known, Defined, Laid}
+use Rattle.builder.specs.Inner.Planning.{PlanRight}
+use Rattle.builder.specs.declared.layout.Layout.{Layout}
+use Rattle.builder.specs.declared.Planned.{Planned}
+use Rattle.builder.specs.declared.Planned.the-variants.{Places, Refused, Short}
 
 -- where the code found a table accepted
 pub accepted-here : (w : List ℕ) (n : ℕ) → n ≡ cause w → same n 0 ≡ true → cause w ≡ 0
@@ -63,3 +69,15 @@ module _ (w owners homes defs : List ℕ) (n m k : ℕ) (ok : cause w ≡ 0) (o 
         definition-indexed w owners homes i (known .owners-are) (known .homes-are) (omega (arith, owners-length, few-nodes))
         (omega (arith, homes-length, few-branches)) (omega (arith, few-definitions)) (omega (arith, few-nodes));
   }
+
+-- ---- what `plan` found, by its answer
+
+module _ (w owners homes defs rows spots : List ℕ) (x : Planned) (right : PlanRight w owners homes defs rows spots x) where
+  pub plan-places : (plan : Layout) → x ≡ Places plan → Known w owners homes × Defined w homes defs × Laid w rows spots plan
+  plan-places plan e = rw e at right
+
+  pub plan-refused : (v : Verdict) → x ≡ Refused v → (causeOf v ≡ cause w) × (cause w ≡ 0 → ⊥)
+  plan-refused v e = rw e at right
+
+  pub plan-short : x ≡ Short → 256 ≤ length owners → 256 ≤ length homes → 256 ≤ length defs → 64 ≤ length rows → 256 ≤ length spots → ⊥
+  plan-short e = rw e at right

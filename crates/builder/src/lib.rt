@@ -1,4 +1,7 @@
 // The net of a table, as an image.
+ghost use mathlib.Core.Path.{_≡_};
+ghost use Rattle.builder.specs.Answer.{builtOutcome, laidOutcome, buildOutcome};
+ghost use Rattle.builder.specs.Inner.Plan.{Known, Defined, Laid};
 ghost use Rattle.builder.specs.Inner.Planning.{PlanRight};
 
 mod chain;
@@ -12,6 +15,7 @@ mod write;
 
 use layout::Layout;
 use table::Verdict;
+use write::Heads;
 
 // What `plan` finds: where places stand, the table's cause, or that the lent words are too few.
 pub enum Planned {
@@ -61,4 +65,68 @@ pub fn plan(
     table::index::homes(table, homes);
     table::index::definitions(owners, homes, definitions);
     Planned::Places(layout::lay_out(table, owners, homes, rows, spots))
+}
+
+// Writes the image of a table that is laid out.
+fn write_image(
+    table: &[u16],
+    owners: &[u32],
+    homes: &[u32],
+    definitions: &[u16],
+    rows: &[u32],
+    spots: &[u32],
+    plan: Layout,
+    out: &mut [u32],
+) -> Built
+    requires { ⌜ Known (now table) (now owners) (now homes) × Defined (now table) (now homes) (now definitions)
+        × Laid (now table) (now rows) (now spots) plan ⌝ }
+    ensures { λ r. ⌜ builtOutcome r (now (out .exit)) ≡ laidOutcome (now (table .entry)) (now (out .entry)) ⌝ }
+{
+    let totals = count::totals_of(table, owners, homes, definitions, plan);
+    let words = count::words(plan, totals);
+    if out.len() < words {
+        return Built::Room;
+    }
+    write::header(out, plan, totals);
+    marking::initial(table, out, plan, rows, spots);
+    let base = 8 + plan.tokens;
+    let heads = Heads {
+        place: base,
+        arc: base + 6 * totals.transitions,
+    };
+    let next = nodes::nodes(table, owners, homes, rows, spots, plan, out, heads);
+    communications::communications(table, homes, definitions, rows, spots, plan, out, next);
+    Built::Words(words)
+}
+
+// Writes the image of the table's net to the start of `out`.
+pub fn build(table: &[u16], out: &mut [u32]) -> Built
+    ensures { λ r. ⌜ builtOutcome r (now (out .exit)) ≡ buildOutcome (now (table .entry)) (now (out .entry)) ⌝ }
+{
+    let mut owners = [0u32; 256];
+    let mut homes = [0u32; 256];
+    let mut definitions = [0u16; 256];
+    let mut rows = [0u32; 64];
+    let mut spots = [0u32; 256];
+    match plan(
+        table,
+        &mut owners,
+        &mut homes,
+        &mut definitions,
+        &mut rows,
+        &mut spots,
+    ) {
+        Planned::Places(places) => write_image(
+            table,
+            &owners,
+            &homes,
+            &definitions,
+            &rows,
+            &spots,
+            places,
+            out,
+        ),
+        Planned::Refused(verdict) => Built::Refused(verdict),
+        Planned::Short => Built::Room,
+    }
 }
