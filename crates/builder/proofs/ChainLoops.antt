@@ -1,21 +1,21 @@
 -- Loops over the names of a chain: what is left to write after i of them, and one turn.
-use mathlib.Core.Path.{_≡_, refl, sym, ap, subst, _∙_}
+use mathlib.Core.Path.{_≡_, sym, ap, subst, _∙_}
 use mathlib.Core.Bool.{true}
-use mathlib.Core.List.{List, [], _∷_, _++_, map}
+use mathlib.Core.List.{List, [], _++_, map}
 use Prim.Native.Nat.{ℕ, suc, _+_, _-_, _≤_, _<_}
 use native.Mathlib.Omega.{arith}
-use lib.ListN.{length, getD, take, drop}
+use lib.ListN.{length, take, drop}
 use lib.Seq.{getD-take, length-take-le}
 use Rattle.lists.specs.Lists.{word, from, member}
 use Rattle.lists.proofs.Slices.{drop-step, drop-none}
 use Rattle.lists.proofs.Members.{member-getD, member-map}
-use Rattle.lists.proofs.Ranges.{from-done, member-from}
+use Rattle.lists.proofs.Ranges.{member-from}
 use Rattle.table.specs.Scheme.{Scheme}
 use Rattle.net.specs.Net.{Transition}
 use Rattle.builder.specs.Values.{Values, valuesOf}
-use Rattle.builder.specs.Transitions.{Description, releasing, releases, copying, copies}
+use Rattle.builder.specs.Transitions.{releasing, releases, copying, copies}
 use Rattle.builder.specs.Inner.Writing.{Heads, putAll, Inside}
-use Rattle.builder.proofs.Writing.{put-none, put-append, inside-first}
+use Rattle.builder.proofs.Writing.{put-append, inside-first}
 
 -- what is left is a first part and a rest
 module _ {A : Type 0} (f : A → Transition) (all s : Heads) (xs ys : List A) (left : all ≡ putAll f s (xs ++ ys)) where

@@ -1,6 +1,6 @@
 -- Chains of control places: where each place leads, and the arrows of releases as the code makes them.
-use mathlib.Core.Path.{_≡_, refl, sym, ap, subst, _∙_}
-use mathlib.Core.Bool.{Bool, true, false}
+use mathlib.Core.Path.{_≡_, ap, subst, _∙_}
+use mathlib.Core.Bool.{true}
 use mathlib.Core.List.{List, [], _∷_}
 use Prim.Native.Nat.{ℕ, suc, _+_, _≤_, _<_}
 use native.Mathlib.Decide.{decLt}
@@ -8,19 +8,19 @@ use native.Mathlib.Omega.{arith}
 use lib.Dec.{ltb}
 use lib.ListN.{length}
 use borrow.Author.Tests.{lt-ltb, le-ltb}
-use Rattle.lists.specs.Lists.{pick, member}
+use Rattle.lists.specs.Lists.{pick}
 use Rattle.table.specs.Words.{publics, names, nodes}
 use Rattle.table.specs.Scheme.{Scheme, Node, stop, choice, new, call, scheme}
 use Rattle.table.specs.Causes.{cause}
 use Rattle.net.specs.Net.{Transition}
 use Rattle.builder.specs.Values.{Values}
 use Rattle.builder.specs.Places.{Place, equals, differs, free, control, controlsAt, controls}
-use Rattle.builder.specs.Rows.{numberOf, IsBound, IsPrivate, Exists, has-equals, has-differs, has-free, has-control}
+use Rattle.builder.specs.Rows.{numberOf, IsBound, IsPrivate, Exists, has-differs, has-free, has-control}
 use Rattle.builder.specs.Transitions.{Description, on, releasing}
 use Rattle.builder.specs.Inner.Arcs.{reachedPlaces}
 use Rattle.builder.specs.Inner.Writing
 use Rattle.builder.specs.Inner.Writing.{putOne, Inside}
-use Rattle.builder.specs.Inner.Plan.{today, controlOf, Chained, Holds, Differs, ofTable, put, state, arrow}
+use Rattle.builder.specs.Inner.Plan.{today, Chained, Holds, Differs, ofTable, put, state, arrow}
 use Rattle.builder.specs.declared.chain.Chain.{Chain}
 use Rattle.builder.specs.declared.write.Heads.{Heads}
 use Rattle.builder.proofs.Today.{private-reached}
@@ -135,8 +135,11 @@ module _ (w : List ℕ) where
 
   module _ (h : cause w ≡ 0) (c : Chain) (k : Chained w c) where
     pub chain-few : (c .first + c .controls ≤ 65535) × (c .last < 65536)
-    chain-few =
-        (omega (arith, control-last w h (c .node) (k .node-inside), k .first-is, k .controls-are), omega (arith, control-few w h (c .to) (omega (arith, k .to-inside)), k .last-is))
+    chain-few = (
+      omega (arith, control-last w h (c .node) (k .node-inside), k .first-is, k .controls-are),
+      omega
+          (arith, control-few w h (c .to) (omega (arith, k .to-inside)), k .last-is),
+    )
 
 -- ---- a transition that is known as an arrow
 

@@ -1,18 +1,17 @@
 -- The arcs of a copy, place by place as the code puts them in.
-use mathlib.Core.Path.{_≡_, refl, sym, ap, _∙_}
-use mathlib.Core.Bool.{Bool, true, false}
+use mathlib.Core.Path.{_≡_, refl, ap, _∙_}
+use mathlib.Core.Bool.{false}
 use mathlib.Core.List.{List, [], _∷_, _++_}
-use Prim.Native.Nat.{ℕ, suc, _+_, _≤_, _<_}
+use Prim.Native.Nat.{ℕ, _+_, _≤_, _<_}
 use native.Mathlib.Decide.{decLt}
 use native.Mathlib.Omega.{arith}
 use lib.Dec.{ltb}
 use lib.ListN
 use lib.ListN.{length}
 use borrow.Author.Tests.{lt-ltb, le-ltb}
-use Rattle.lists.specs.Lists.{pick, member}
-use Rattle.table.specs.Words.{publics, names, nodes}
+use Rattle.lists.specs.Lists.{pick}
+use Rattle.table.specs.Words.{publics, names}
 use Rattle.table.specs.Scheme.{Scheme, scheme}
-use Rattle.table.specs.Causes.{cause}
 use Rattle.builder.specs.Values.{Values}
 use Rattle.builder.specs.Places.{Place, equals, differs, control}
 use Rattle.builder.specs.Rows.{numberOf, Exists}
@@ -26,7 +25,7 @@ use Rattle.builder.proofs.Spans.{value-member, member-value}
 use Rattle.builder.proofs.Split.{numbers-tail, numbers-swap}
 use Rattle.builder.proofs.ByKind.{on-left, equals-public, differs-public}
 use Rattle.builder.proofs.Controls.{publics-are, bounds-are}
-use Rattle.builder.proofs.Chains.{Next, next-place}
+use Rattle.builder.proofs.Chains.{next-place}
 use Rattle.builder.proofs.Filling.{Filled, fill-none, fill-with, fill-without}
 
 module _ (w : List ℕ) where
@@ -85,7 +84,8 @@ module _ (w : List ℕ) where
         inputs-named S U (copying S U (c .node) (c .to) k f a v)
         ∙ ap (λ (l : List Place). numbersOf S U (l ++ (equals a v ∷ takenPlaces S (take f v)))) (on-left S U (c .node) k (c .to))
         ∙ rw r
-        (numbers-tail S U (control (c .node) k) (equals a v ∷ differs f v ∷ []) (differs f v ∷ equals a v ∷ []) (numbers-swap S U (equals a v) (differs f v) []))
+        (numbers-tail S U (control (c .node) k) (equals a v ∷ differs f v ∷ []) (differs f v ∷ equals a v ∷ [])
+        (numbers-swap S U (equals a v) (differs f v) []))
 
     pub copy-outputs : ofTable w (copying S U (c .node) (c .to) k f a v) .outputs
         ≡ numbersOf S U (next-place w c h k inside .place ∷ equals f v ∷ equals a v ∷ [])
@@ -113,7 +113,8 @@ module _ (w : List ℕ) (p : Place) where
   abbrev zeros : List ℕ
   zeros = 0 ∷ 0 ∷ 0 ∷ 0 ∷ []
 
-  pub begun-with : (ins outs : List ℕ) (i o x y : ℕ) → Exists (scheme w) (today w) p → x ≡ numberOf (scheme w) (today w) p → y ≡ numberOf (scheme w) (today w) p
+  pub begun-with : (ins outs : List ℕ) (i o x y : ℕ) → Exists (scheme w) (today w) p → x ≡ numberOf (scheme w) (today w) p → y
+      ≡ numberOf (scheme w) (today w) p
       → Inserted x 0 zeros i ins → Inserted y 0 zeros o outs → length ins ≡ 4 → length outs ≡ 4 → Begun w p ins outs i o
   begun-with ins outs i o x y e a b f g l m = record {
     ins-are = fill-with w zeros ins 0 i x p [] e a f (fill-none w zeros);

@@ -1,16 +1,15 @@
 -- Lists of words that are filled with the numbers of places, one after the other, by insertion.
 use mathlib.Core.Path.{_≡_, refl, sym, ap, _∙_}
-use mathlib.Core.Bool.{true, false}
+use mathlib.Core.Bool.{false}
 use mathlib.Core.List.{List, [], _∷_, _++_}
-use Prim.Native.Nat.{ℕ, _+_, _≤_, _<_}
+use Prim.Native.Nat.{ℕ, _≤_, _<_}
 use native.Mathlib.Omega.{arith}
 use lib.ListN.{length, take}
-use Rattle.lists.specs.Lists.{ascends}
 use Rattle.table.specs.Words.{nodes}
 use Rattle.table.specs.Scheme.{Scheme, scheme}
 use Rattle.table.specs.Causes.{cause}
 use Rattle.builder.specs.Values.{Values}
-use Rattle.builder.specs.Places.{Place, free, places}
+use Rattle.builder.specs.Places.{Place, free}
 use Rattle.builder.specs.Rows.{controlStart, numberOf, Exists}
 use Rattle.builder.specs.Inner.Arcs.{insert, exists, numbersOf}
 use Rattle.builder.specs.Inner.Plan.{today, Rising, Inserted}
@@ -58,7 +57,8 @@ module _ (w : List ℕ) where
 
   module _ (h : cause w ≡ 0) where
     number-small : (p : Place) → Exists S U p → numberOf S U p < 4294967296
-    number-small p e = omega (arith, number-below S U (free 0) p e, places-length S U, control-few w h (nodes w) (omega arith), ap (controlStart S U) (nodes-are w))
+    number-small p e =
+        omega (arith, number-below S U (free 0) p e, places-length S U, control-few w h (nodes w) (omega arith), ap (controlStart S U) (nodes-are w))
 
     pub fill-rising : (list : List ℕ) (count : ℕ) (ps : List Place) → length ps < length list → Filled w list count ps → Rising list count
     fill-rising list count ps l f = record {

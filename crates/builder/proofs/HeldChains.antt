@@ -1,6 +1,6 @@
 -- The chains of Stops and Calls as the code makes them: their held names, formals and arguments, and what a Call writes in turn.
-use mathlib.Core.Path.{_≡_, refl, sym, ap, subst, _∙_}
-use mathlib.Core.Bool.{true, false}
+use mathlib.Core.Path.{_≡_, refl, sym, ap, _∙_}
+use mathlib.Core.Bool.{true}
 use mathlib.Core.List.{List, [], _∷_, _++_, map}
 use Prim.Native.Nat.{ℕ, suc, _+_, _≤_, _<_}
 use native.Mathlib.Omega.{arith}
@@ -10,19 +10,18 @@ use Rattle.lists.specs.Lists.{word, from, member}
 use Rattle.lists.proofs.Tests.{same-true}
 use Rattle.lists.proofs.Ranges.{from-length, from-member}
 use Rattle.lists.proofs.Members.{map-member}
-use Rattle.table.specs.Words.{publics, names, nodes, definitions, root, firstFormal, formalCount, formals, nodeKind, nodeFirst, nodeSecond, isStop, isCall, argumentsOf}
+use Rattle.table.specs.Words.{nodes, definitions, root, firstFormal, formalCount, formals, nodeKind, nodeFirst, nodeSecond, isStop, isCall, argumentsOf}
 use Rattle.table.specs.Owners.{held}
 use Rattle.table.specs.Index.{heldIn, HeldNames}
 use Rattle.table.specs.Scheme.{Scheme, call, scheme}
 use Rattle.table.specs.Causes.{cause}
 use Rattle.table.proofs.Accepted.{accepted}
-use Rattle.builder.specs.Values.{Values}
 use Rattle.builder.specs.Places.{controls}
-use Rattle.builder.specs.Transitions.{Description, releases, copies, calling, ofNode}
-use Rattle.builder.specs.Inner.Plan.{today, controlOf, Known, Spotted, Chained, Named, Bounded, Frees, argumentName}
-use Rattle.builder.specs.declared.chain.Chain.{Chain}
+use Rattle.builder.specs.Transitions.{releases, copies, calling, ofNode}
+use Rattle.builder.specs.Inner.Plan.{today, Known, Spotted, Chained, Named, Bounded, Frees, argumentName}
 use Rattle.builder.proofs.Controls.{nodes-are, publics-are, bounds-are}
-use Rattle.builder.proofs.ByWords.{called-inside, arguments-inside, argument-inside, formals-of, arguments-of, held-of, held-known, count-stop, count-call}
+use Rattle.builder.proofs.ByWords.{called-inside, arguments-inside, argument-inside, formals-of, arguments-of, held-of, held-known}
+use Rattle.builder.proofs.ByWords.{count-stop, count-call}
 
 -- ---- the held names in the lent words
 

@@ -1,6 +1,6 @@
 -- The arcs of a New, place by place as the code puts them in.
-use mathlib.Core.Path.{_≡_, refl, sym, ap, subst, _∙_}
-use mathlib.Core.Bool.{true, false}
+use mathlib.Core.Path.{_≡_, refl, sym, ap, _∙_}
+use mathlib.Core.Bool.{true}
 use mathlib.Core.List.{List, [], _∷_, _++_, map}
 use Prim.Native.Nat.{ℕ, suc, _+_, _-_, _≤_, _<_}
 use native.Mathlib.Omega.{arith}
@@ -16,9 +16,9 @@ use Rattle.table.specs.Causes.{cause}
 use Rattle.table.proofs.Accepted.{accepted}
 use Rattle.builder.specs.Values.{Values}
 use Rattle.builder.specs.Places.{Place, equals, differs, free, control}
-use Rattle.builder.specs.Rows.{numberOf, Exists}
+use Rattle.builder.specs.Rows.{numberOf}
 use Rattle.builder.specs.Inner.Arcs.{allDiffer, numbersOf}
-use Rattle.builder.specs.Inner.Plan.{today, values, Holds, Differs, Inserted, ofTable, made, arrow}
+use Rattle.builder.specs.Inner.Plan.{today, Holds, Differs, Inserted, ofTable, made, arrow}
 use Rattle.builder.proofs.Names.{values-restricted}
 use Rattle.builder.proofs.Arcs.{inputs-named, outputs-named}
 use Rattle.builder.proofs.ByKind.{differs-restricted}

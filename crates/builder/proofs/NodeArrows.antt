@@ -1,15 +1,15 @@
 -- The arrows of silent branches and calls as the code makes them, and what each kind of node writes.
-use mathlib.Core.Path.{_≡_, refl, sym, ap, subst, _∙_}
+use mathlib.Core.Path.{_≡_, refl, sym}
 use mathlib.Core.Bool.{Bool, true, false}
 use mathlib.Core.List.{List, [], _∷_, map}
-use Prim.Native.Nat.{ℕ, _+_, _-_, _≤_, _<_}
+use Prim.Native.Nat.{ℕ, _+_, _-_, _<_}
 use native.Mathlib.Omega.{arith}
 use lib.Dec.{ltb}
 use Rattle.lists.specs.Lists.{pick, from, flat}
 use Rattle.lists.proofs.Tests.{same-no}
 use Rattle.table.specs.Words.{publics, bounds, nodes, branches, nodeKind, nodeFirst, nodeSecond, branchKind, next, channel, branchName, isSend, isReceive}
 use Rattle.table.specs.Owners.{held}
-use Rattle.table.specs.Scheme.{Scheme, call, Branch, absent, silent, send, receive, nextNode, present, branchAt, scheme}
+use Rattle.table.specs.Scheme.{Scheme, call, absent, send, receive, nextNode, branchAt, scheme}
 use Rattle.table.specs.Causes.{cause}
 use Rattle.table.proofs.Accepted.{accepted}
 use Rattle.builder.specs.Values.{Values}
@@ -20,7 +20,7 @@ use Rattle.builder.specs.Inner.Plan.{today, controlOf, Chained, ofTable,
 use Rattle.builder.specs.declared.chain.Chain.{Chain}
 use Rattle.builder.proofs.Explicit.{going-inputs, going-outputs, calling-inputs, calling-outputs}
 use Rattle.builder.proofs.Controls.{nodes-are, publics-are, bounds-are, privates-are}
-use Rattle.builder.proofs.Chains.{controls-some, has-place, Next, next-place, own-number}
+use Rattle.builder.proofs.Chains.{controls-some, has-place, next-place, own-number}
 use Rattle.builder.proofs.ByWords.{stop-node, choice-node, new-node, call-node, held-of, silent-branch}
 
 -- the transitions of a branch if it is silent, and those of a node
@@ -55,7 +55,8 @@ module _ (w : List ℕ) where
   silent-none n b d = rw (same-no (branchKind w b) 0 d) (go (ltb b (branches w)) (isSend w b) (isReceive w b))
     where
       go : (p q r : Bool)
-          → silents S U n b (pick p (pick q (send (channel w b) (branchName w b) (next w b)) (pick r (receive (channel w b) (branchName w b) (next w b)) absent)) absent)
+          → silents S U n b
+          (pick p (pick q (send (channel w b) (branchName w b) (next w b)) (pick r (receive (channel w b) (branchName w b) (next w b)) absent)) absent)
           ≡ []
       go true true r = refl
       go true false true = refl

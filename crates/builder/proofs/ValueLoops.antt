@@ -1,10 +1,10 @@
 -- Loops over the values of a name by their index: what is left to write after i of them, one turn, and the end.
 -- `all` is what the whole loop writes, s are the heads where value i is due, t those behind its turn.
-use mathlib.Core.Path.{_≡_, refl, sym, ap, subst, _∙_}
+use mathlib.Core.Path.{_≡_, sym, ap, subst, _∙_}
 use mathlib.Core.Bool.{true}
 use mathlib.Core.List.{List, [], _∷_, _++_, map}
 use Prim.Native.Nat.{ℕ, _+_, _≤_, _<_}
-use lib.ListN.{length, getD, drop}
+use lib.ListN.{length, drop}
 use Rattle.lists.specs.Lists.{word, flat, member}
 use Rattle.lists.proofs.Slices.{drop-step, drop-none}
 use Rattle.lists.proofs.Members.{member-getD}

@@ -1,12 +1,11 @@
 -- `builder::chain::copy` meets its contract. Inputs and outputs are put in place by place; where two ways meet, the places so far are told.
-use mathlib.Core.Path.{_≡_, refl, sym, ap, subst, _∙_}
+use mathlib.Core.Path.{_≡_, sym, _∙_}
 use mathlib.Core.List.{[], _∷_}
 use mathlib.Core.Logic.{⊎-elim}
 use Prim.Native.Nat.{_+_}
 use native.Mathlib.Omega.{arith}
 use lib.ListN.{length}
 use Rattle.builder.specs.Places.{equals, differs, control}
-use Rattle.builder.specs.Inner.Plan.{Rising}
 use Rattle.builder.proofs.Controls.{few-nodes}
 use Rattle.builder.proofs.Chains.{chain-few, has-value, has-difference, next-place, own-place, own-number, put-as, inside-as}
 use Rattle.builder.proofs.Filling.{Filled, fill-none, fill-with, fill-without, fill-few, fill-rising}
@@ -14,8 +13,6 @@ use Rattle.builder.proofs.Copying.{read-few, read-holds, free-holds, no
 use borrow.Author.Needs.{needs}
 use Rattle.builder.proofs.chain.copy.Statement.{statement}
 use Rattle.builder.proofs.chain.copy.Tie as tie
-use Rattle.builder.proofs.chain.copy.Reads as reads
-use Rattle.builder.proofs.chain.copy.Lts as lts
 use Rattle.builder.proofs.chain.on.Reads as on-reads
 use Rattle.builder.proofs.insertion.insert.Reads as insert-reads
 use Rattle.builder.proofs.layout.differs.Reads as differs-reads
@@ -24,7 +21,8 @@ use Rattle.builder.proofs.write.transition.Reads as transition-reads
 
 -- after the first test
 first : (c : tie.Joined1)
-    → Begun (c .before .before .before .before .before .args .table .now) (equals (c .before .before .before .before .before .args .a) (c .before .before .before .before .before .args .v)) (c .if1 .ins) (c .if1 .outs) (c .if1 .i) (c .if1 .o)
+    → let a = c .before .before .before .before .before .args in
+    Begun (a .table .now) (equals (a .a) (a .v)) (c .if1 .ins) (c .if1 .outs) (c .if1 .i) (c .if1 .o)
 first c =
     let a = c .before .before .before .before .before .args in
     let p = c .before .before .before .before .before .pre in
@@ -39,7 +37,8 @@ first c =
 
 -- after the second test
 second : (c : tie.Joined2)
-    → Filled (c .before .before .before .before .before .before .before .args .table .now) (c .if2 .ins) (c .if2 .i) (differs (c .before .before .before .before .before .before .before .args .f) (c .before .before .before .before .before .before .before .args .v) ∷ equals (c .before .before .before .before .before .before .before .args .a) (c .before .before .before .before .before .before .before .args .v) ∷ [])
+    → let a = c .before .before .before .before .before .before .before .args in
+    Filled (a .table .now) (c .if2 .ins) (c .if2 .i) (differs (a .f) (a .v) ∷ equals (a .a) (a .v) ∷ [])
     × (length (c .if2 .ins) ≡ 4)
 second c =
     let a = c .before .before .before .before .before .before .before .args in
@@ -64,8 +63,9 @@ second c =
 
 -- all inputs
 inputs : (c : tie.After-insert4)
-    → Filled (c .before .before .before .before .before .before .before .before .before .before .args .table .now) (c .insert4 .last .0) (c .insert4 .result)
-    (control (c .before .before .before .before .before .before .before .before .before .before .args .c .node) (c .before .before .before .before .before .before .before .before .before .before .args .k) ∷ differs (c .before .before .before .before .before .before .before .before .before .before .args .f) (c .before .before .before .before .before .before .before .before .before .before .args .v) ∷ equals (c .before .before .before .before .before .before .before .before .before .before .args .a) (c .before .before .before .before .before .before .before .before .before .before .args .v) ∷ [])
+    → let a = c .before .before .before .before .before .before .before .before .before .before .args in
+    Filled (a .table .now) (c .insert4 .last .0) (c .insert4 .result)
+    (control (a .c .node) (a .k) ∷ differs (a .f) (a .v) ∷ equals (a .a) (a .v) ∷ [])
 inputs c =
     let a = c .before .before .before .before .before .before .before .before .before .before .args in
     let p = c .before .before .before .before .before .before .before .before .before .before .pre in
@@ -76,7 +76,8 @@ inputs c =
 
 -- the outputs but the last
 most : (c : tie.After-insert5)
-    → Filled (c .before .before .before .before .before .before .before .before .before .before .before .before .before .before .args .table .now) (c .insert5 .last .0) (c .insert5 .result) (equals (c .before .before .before .before .before .before .before .before .before .before .before .before .before .before .args .f) (c .before .before .before .before .before .before .before .before .before .before .before .before .before .before .args .v) ∷ equals (c .before .before .before .before .before .before .before .before .before .before .before .before .before .before .args .a) (c .before .before .before .before .before .before .before .before .before .before .before .before .before .before .args .v) ∷ [])
+    → let a = c .before .before .before .before .before .before .before .before .before .before .before .before .before .before .args in
+    Filled (a .table .now) (c .insert5 .last .0) (c .insert5 .result) (equals (a .f) (a .v) ∷ equals (a .a) (a .v) ∷ [])
 most c =
     let a = c .before .before .before .before .before .before .before .before .before .before .before .before .before .before .args in
     let p = c .before .before .before .before .before .before .before .before .before .before .before .before .before .before .pre in
@@ -88,12 +89,20 @@ most c =
 
 -- all outputs
 outputs : (c : tie.After-insert6)
-    → Filled (c .before .before .before .before .before .before .before .before .before .before .before .before .before .before .before .before .before .before .args .table .now) (c .insert6 .last .0) (c .insert6 .result)
-    (next-place (c .before .before .before .before .before .before .before .before .before .before .before .before .before .before .before .before .before .before .args .table .now) (c .before .before .before .before .before .before .before .before .before .before .before .before .before .before .before .before .before .before .args .c) (c .before .before .before .before .before .before .before .before .before .before .before .before .before .before .before .before .before .before .pre .1) (c .before .before .before .before .before .before .before .before .before .before .before .before .before .before .before .before .before .before .args .k) (c .before .before .before .before .before .before .before .before .before .before .before .before .before .before .before .before .before .before .pre .2) .place ∷
-    equals (c .before .before .before .before .before .before .before .before .before .before .before .before .before .before .before .before .before .before .args .f) (c .before .before .before .before .before .before .before .before .before .before .before .before .before .before .before .before .before .before .args .v) ∷ equals (c .before .before .before .before .before .before .before .before .before .before .before .before .before .before .before .before .before .before .args .a) (c .before .before .before .before .before .before .before .before .before .before .before .before .before .before .before .before .before .before .args .v) ∷ [])
+    → let a =
+    c .before .before .before .before .before .before .before .before .before .before .before .before .before .before .before .before .before .before .args in
+    Filled (a .table .now) (c .insert6 .last .0) (c .insert6 .result)
+    (next-place (a .table .now) (a .c)
+    (c .before .before .before .before .before .before .before .before .before .before .before .before .before .before .before .before .before .before .pre
+    .1) (a .k)
+    (c .before .before .before .before .before .before .before .before .before .before .before .before .before .before .before .before .before .before .pre
+    .2) .place ∷
+    equals (a .f) (a .v) ∷ equals (a .a) (a .v) ∷ [])
 outputs c =
-    let a = c .before .before .before .before .before .before .before .before .before .before .before .before .before .before .before .before .before .before .args in
-    let p = c .before .before .before .before .before .before .before .before .before .before .before .before .before .before .before .before .before .before .pre in
+    let a =
+    c .before .before .before .before .before .before .before .before .before .before .before .before .before .before .before .before .before .before .args in
+    let p =
+    c .before .before .before .before .before .before .before .before .before .before .before .before .before .before .before .before .before .before .pre in
     let w = a .table .now in
     let j = c .before .before .before .before .insert5 in
     let n = next-place w (a .c) (p .1) (a .k) (p .2) in
@@ -134,8 +143,17 @@ slice-aggregate-insert-3 c = sym (first (c .before .before .before) .ins-room)
 differs-requires : tie.Need-differs-requires
 differs-requires c κs =
     let a = c .before .before .before .before .before .before .before .before .args in
-    let p = c .before .before .before .before .before .before .before .before .pre in
-    (p .0, record { low = p .3; high = p .4; free = p .5; private = omega (arith, p .0 .publics-are, c .before .if2 .taken); value = read-few (a .table .now) (a .a) (a .v) (p .6) })
+    let p = c .before .before .before .before .before .before .before .before .pre in (
+      p .0,
+      record {
+        low = p .3;
+        high = p .4;
+        free = p .5;
+        private = omega (arith, p .0 .publics-are, c .before .if2 .taken);
+        value = read-few (a .table .now)
+            (a .a) (a .v) (p .6);
+      },
+    )
 
 insert-requires-3 : tie.Need-insert-requires-3
 insert-requires-3 c κs =
@@ -160,7 +178,8 @@ insert-requires-4 : tie.Need-insert-requires-4
 insert-requires-4 c κs =
     let s = c .before .before .before .before .before .before .before .before .before in
     let b = second (c .before .before) in
-    fill-rising (s .args .table .now) (s .pre .0 .accepted) _ _ (differs (s .args .f) (s .args .v) ∷ equals (s .args .a) (s .args .v) ∷ []) (omega (arith, b .1)) (b .0)
+    fill-rising (s .args .table .now) (s .pre .0 .accepted) _ _ (differs (s .args .f) (s .args .v) ∷ equals (s .args .a) (s .args .v) ∷ [])
+    (omega (arith, b .1)) (b .0)
 
 slice-aggregate-insert-5 : tie.Need-slice-aggregate-insert-5
 slice-aggregate-insert-5 c = sym (first (c .before .before .before .before .before .before .before) .outs-room)
@@ -191,8 +210,10 @@ on-requires c κs =
 insert-requires-6 : tie.Need-insert-requires-6
 insert-requires-6 c κs =
     let s = c .before .before .before .before .before .before .before .before .before .before .before .before .before .before .before .before .before in
-    let l : length (c .before .before .before .insert5 .last .0) ≡ 4 = c .before .before .before .insert5 .kept .0 ∙ first (c .before .before .before .before .before .before .before .before .before .before .before .before) .outs-room in
-    fill-rising (s .args .table .now) (s .pre .0 .accepted) _ _ (equals (s .args .f) (s .args .v) ∷ equals (s .args .a) (s .args .v) ∷ []) (omega (arith, l)) (most (c .before .before .before))
+    let l : length (c .before .before .before .insert5 .last .0) ≡ 4 = c .before .before .before .insert5 .kept .0
+    ∙ first (c .before .before .before .before .before .before .before .before .before .before .before .before) .outs-room in
+    fill-rising (s .args .table .now) (s .pre .0 .accepted) _ _ (equals (s .args .f) (s .args .v) ∷ equals (s .args .a) (s .args .v) ∷ []) (omega (arith, l))
+    (most (c .before .before .before))
 
 slice-aggregate-transition : tie.Need-slice-aggregate-transition
 slice-aggregate-transition c = search needs
@@ -202,13 +223,22 @@ slice-aggregate-transition-2 c = search needs
 
 transition-requires : tie.Need-transition-requires
 transition-requires c κs =
-    let a = c .before .before .before .before .before .before .before .before .before .before .before .before .before .before .before .before .before .before .before .before .before .before .args in
-    let p = c .before .before .before .before .before .before .before .before .before .before .before .before .before .before .before .before .before .before .before .before .before .before .pre in
+    let a =
+    c .before .before .before .before .before .before .before .before .before .before .before .before .before .before .before .before .before .before .before
+    .before .before .before .args in
+    let p =
+    c .before .before .before .before .before .before .before .before .before .before .before .before .before .before .before .before .before .before .before
+    .before .before .before .pre in
     let w = a .table .now in
     let x = inputs (c .before .before .before .before .before .before .before .before .before .before .before .before) in
     let y = outputs (c .before .before .before .before) in
-    let l : length (c .before .before .before .before .before .before .before .before .before .before .before .before .insert4 .last .0) ≡ 4 = c .before .before .before .before .before .before .before .before .before .before .before .before .insert4 .kept .0 ∙ second (c .before .before .before .before .before .before .before .before .before .before .before .before .before .before .before) .1 in
-    let m : length (c .before .before .before .before .insert6 .last .0) ≡ 4 = c .before .before .before .before .insert6 .kept .0 ∙ c .before .before .before .before .before .before .before .before .insert5 .kept .0 ∙ first (c .before .before .before .before .before .before .before .before .before .before .before .before .before .before .before .before .before) .outs-room in (
+    let l : length (c .before .before .before .before .before .before .before .before .before .before .before .before .insert4 .last .0)
+    ≡ 4 = c .before .before .before .before .before .before .before .before .before .before .before .before .insert4 .kept .0
+    ∙ second (c .before .before .before .before .before .before .before .before .before .before .before .before .before .before .before) .1 in
+    let m : length (c .before .before .before .before .insert6 .last .0) ≡ 4 = c .before .before .before .before .insert6 .kept .0
+    ∙ c .before .before .before .before .before .before .before .before .insert5 .kept .0
+    ∙ first
+    (c .before .before .before .before .before .before .before .before .before .before .before .before .before .before .before .before .before) .outs-room in (
       omega (arith, few-nodes w (p .0 .accepted), p .1 .node-inside),
       omega (arith, p .4, p .0 .few-publics, p .0 .few-bounds),
       omega (arith, l, fill-few w _ _ _ x),
@@ -221,11 +251,18 @@ same-length c = search needs
 
 returns : tie.Need-returns
 returns c =
-    let a = c .before .before .before .before .before .before .before .before .before .before .before .before .before .before .before .before .before .before .before .before .before .before .before .before .before .args in
-    let p = c .before .before .before .before .before .before .before .before .before .before .before .before .before .before .before .before .before .before .before .before .before .before .before .before .before .pre in
+    let a =
+    c .before .before .before .before .before .before .before .before .before .before .before .before .before .before .before .before .before .before .before
+    .before .before .before .before .before .before .args in
+    let p =
+    c .before .before .before .before .before .before .before .before .before .before .before .before .before .before .before .before .before .before .before
+    .before .before .before .before .before .before .pre in
     let w = a .table .now in
     c .before .before .transition .ensures
-    ∙ sym (put-as w (a .out .now) (a .h) _ _ (copy-arrow w (a .c) (p .1) (a .k) (p .2) (a .f) (a .a) (a .v) (p .5) _ _ _ _ (inputs (c .before .before .before .before .before .before .before .before .before .before .before .before .before .before .before)) (outputs (c .before .before .before .before .before .before .before))))
+    ∙ sym
+    (put-as w (a .out .now) (a .h) _ _ (copy-arrow w (a .c) (p .1) (a .k) (p .2) (a .f) (a .a) (a .v) (p .5) _ _ _ _
+    (inputs (c .before .before .before .before .before .before .before .before .before .before .before .before .before .before .before))
+    (outputs (c .before .before .before .before .before .before .before))))
 
 pub copy-spec : {M : Type 1} → statement M
 copy-spec =

@@ -1,23 +1,20 @@
 -- `builder::chain::copy_all` meets its contract. Loop: the copies of the formals behind the first i are left. Measure: formals left.
-use mathlib.Core.Path.{_≡_, refl, sym, ap, subst, _∙_}
+use mathlib.Core.Path.{_≡_, refl, sym, ap, _∙_}
 use mathlib.Core.List.{map}
-use Prim.Native.Nat.{ℕ, _+_, _-_, _≤_, _<_}
+use Prim.Native.Nat.{_+_, _-_, _≤_}
 use native.Mathlib.Omega.{arith}
 use lib.ListN.{length}
 use Rattle.lists.specs.Lists.{from}
 use Rattle.lists.proofs.Ranges.{member-from}
 use Rattle.table.specs.Scheme.{scheme}
-use Rattle.builder.specs.Transitions.{copying, copies}
-use Rattle.builder.specs.Inner.Writing.{Inside}
-use Rattle.builder.specs.Inner.Plan.{today, values, put, state, ofTable, argumentName}
+use Rattle.builder.specs.Transitions.{copies}
+use Rattle.builder.specs.Inner.Plan.{today, put, state, ofTable, argumentName}
 use Rattle.builder.proofs.Writing.{put-none}
 use Rattle.builder.proofs.Chains.{chain-few, state-length}
 use Rattle.builder.proofs.ChainLoops.{part-inside, part-more, argument-member, copies-start, copies-more, copies-done}
 use borrow.Author.Needs.{needs}
 use Rattle.builder.proofs.chain.copy_all.Statement.{statement}
 use Rattle.builder.proofs.chain.copy_all.Tie as tie
-use Rattle.builder.proofs.chain.copy_all.Reads as reads
-use Rattle.builder.proofs.chain.copy_all.Lts as lts
 use Rattle.builder.proofs.chain.copy_formal.Reads as copy-formal-reads
 use Rattle.table.proofs.fields.field1.Reads as field1-reads
 
@@ -34,8 +31,11 @@ abbrev μ-loop : tie.MeasureT-loop
 loop-holds : tie.Need-loop-holds Inv-loop μ-loop
 loop-holds c =
     let a = c .before .before .before .args in
-    let w = a .table .now in
-    (ap (put w (a .out .now) (a .h)) (copies-start (scheme w) (today w) (a .c .node) (a .c .to) (argumentName w) 1 (a .formal) (a .argument) (a .count)), refl, omega arith)
+    let w = a .table .now in (
+      ap (put w (a .out .now) (a .h)) (copies-start (scheme w) (today w) (a .c .node) (a .c .to) (argumentName w) 1 (a .formal) (a .argument) (a .count)),
+      refl,
+      omega arith,
+    )
 
 add-copy-formal : tie.Need-add-copy-formal Inv-loop μ-loop
 add-copy-formal c =
@@ -48,7 +48,12 @@ add-copy-formal-2 c =
     let a = s .args in
     let p = s .pre in
     let i = c .before .before .loop .i in
-    omega (arith, p .4 (a .formal + i) (member-from (a .formal + i) (a .formal) (a .count) (omega arith) (omega (arith, c .before .loop-test .taken))) .1, p .0 .few-publics, p .0 .few-bounds)
+    omega (
+      arith,
+      p .4 (a .formal + i) (member-from (a .formal + i) (a .formal) (a .count) (omega arith) (omega (arith, c .before .loop-test .taken))) .1,
+      p .0 .few-publics,
+      p .0 .few-bounds,
+    )
 
 add-field1 : tie.Need-add-field1 Inv-loop μ-loop
 add-field1 c =
@@ -68,7 +73,8 @@ copy-formal-requires c κs =
     let u = c .before .before .loop-test .taken in
     let f = p .4 (a .formal + l .i) (member-from (a .formal + l .i) (a .formal) (a .count) (omega arith) (omega (arith, u))) in
     let n = p .5 (x .result) (argument-member (argumentName w) (a .argument) (a .count) (l .i) (x .result) u (x .ensures .is)) in
-    let e = copies-more (scheme w) (today w) (a .c .node) (a .c .to) (argumentName w) 1 (a .formal) (a .argument) (a .count) (l .i) (x .result) u (x .ensures .is) in (
+    let e = copies-more (scheme w) (today w) (a .c .node) (a .c .to) (argumentName w) 1 (a .formal) (a .argument) (a .count) (l .i) (x .result) u
+    (x .ensures .is) in (
       p .0,
       p .1,
       omega (arith, p .2, u),
@@ -92,7 +98,8 @@ loop-again c =
     let l = c .before .before .before .before .before .before .loop in
     let x = c .before .before .before .field1 in
     let u = c .before .before .before .before .before .loop-test .taken in
-    let e = copies-more (scheme w) (today w) (a .c .node) (a .c .to) (argumentName w) 1 (a .formal) (a .argument) (a .count) (l .i) (x .result) u (x .ensures .is) in (
+    let e = copies-more (scheme w) (today w) (a .c .node) (a .c .to) (argumentName w) 1 (a .formal) (a .argument) (a .count) (l .i) (x .result) u
+    (x .ensures .is) in (
       part-more (ofTable w) _ (state (l .out) (l .q)) _ _ (l .inv .0 ∙ ap (put w (l .out) (l .q)) e) _ (c .before .before .copy-formal .ensures),
       state-length w (l .out) _ (l .q) _ _ (c .before .before .copy-formal .ensures) ∙ l .inv .1,
       omega (arith, u),
@@ -106,7 +113,8 @@ returns c =
     let a = c .before .before .before .before .before .args in
     let w = a .table .now in
     let l = c .before .loop in
-    let e = copies-done (scheme w) (today w) (a .c .node) (a .c .to) (argumentName w) 1 (a .formal) (a .argument) (a .count) (l .i) (omega (arith, c .loop-test .left)) in
+    let e = copies-done (scheme w) (today w) (a .c .node) (a .c .to) (argumentName w) 1 (a .formal) (a .argument) (a .count) (l .i)
+    (omega (arith, c .loop-test .left)) in
     sym (l .inv .0 ∙ ap (put w (l .out) (l .q)) e ∙ put-none (ofTable w) (state (l .out) (l .q)))
 
 pub copy-all-spec : {M : Type 1} → statement M

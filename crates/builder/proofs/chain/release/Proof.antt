@@ -1,5 +1,5 @@
 -- `builder::chain::release` meets its contract.
-use mathlib.Core.Path.{_≡_, sym, _∙_}
+use mathlib.Core.Path.{sym, _∙_}
 use native.Mathlib.Omega.{arith}
 use Rattle.builder.proofs.Names.{restricted-private, free-value}
 use Rattle.builder.proofs.Controls.{few-nodes}
@@ -7,8 +7,6 @@ use Rattle.builder.proofs.Chains.{chain-few, release-frees, release-pub
 use borrow.Author.Needs.{needs}
 use Rattle.builder.proofs.chain.release.Statement.{statement}
 use Rattle.builder.proofs.chain.release.Tie as tie
-use Rattle.builder.proofs.chain.release.Reads as reads
-use Rattle.builder.proofs.chain.release.Lts as lts
 use Rattle.builder.proofs.chain.on.Reads as on-reads
 use Rattle.builder.proofs.layout.differs.Reads as differs-reads
 use Rattle.builder.proofs.layout.equals.Reads as equals-reads
@@ -25,12 +23,22 @@ array-write-ins c = search needs
 add-ins : tie.Need-add-ins
 add-ins c =
     let p = c .before .before .before .before .before .pre in
-    omega (arith, chain-few (c .before .before .before .before .before .args .table .now) (p .0 .accepted) (c .before .before .before .before .before .args .c) (p .1) .0, p .2)
+    omega (
+      arith,
+      chain-few (c .before .before .before .before .before .args .table .now) (p .0 .accepted)
+          (c .before .before .before .before .before .args .c) (p .1) .0,
+      p .2,
+    )
 
 cast-ins : tie.Need-cast-ins
 cast-ins c =
     let p = c .before .before .before .before .before .pre in
-    omega (arith, chain-few (c .before .before .before .before .before .args .table .now) (p .0 .accepted) (c .before .before .before .before .before .args .c) (p .1) .0, p .2)
+    omega (
+      arith,
+      chain-few (c .before .before .before .before .before .args .table .now) (p .0 .accepted)
+          (c .before .before .before .before .before .args .c) (p .1) .0,
+      p .2,
+    )
 
 array-write-ins-2 : tie.Need-array-write-ins-2
 array-write-ins-2 c = search needs
@@ -42,7 +50,8 @@ free-place-requires : tie.Need-free-place-requires
 free-place-requires c κs =
     let a = c .before .before .before .before .before .before .before .args in
     let p = c .before .before .before .before .before .before .before .pre in
-    let v = restricted-private (a .table .now) (a .rows .now) (a .plan) (p .0) (a .z) (a .v) (p .3) (sym (c .before .is-restricted .ensures) ∙ c .if1 .taken) in
+    let v = restricted-private (a .table .now) (a .rows .now) (a .plan) (p .0) (a .z) (a .v) (p .3) (sym (c .before .is-restricted .ensures)
+    ∙ c .if1 .taken) in
     (p .0, v .0, v .1)
 
 array-write-outs : tie.Need-array-write-outs
@@ -51,7 +60,8 @@ array-write-outs c = search needs
 on-requires : tie.Need-on-requires
 on-requires c κs =
     let p = c .before .before .before .before .before .before .before .before .pre in
-    let f = chain-few (c .before .before .before .before .before .before .before .before .args .table .now) (p .0 .accepted) (c .before .before .before .before .before .before .before .before .args .c) (p .1) in
+    let f = chain-few (c .before .before .before .before .before .before .before .before .args .table .now) (p .0 .accepted)
+    (c .before .before .before .before .before .before .before .before .args .c) (p .1) in
     (p .2, omega (arith, f .0), omega (arith, f .1))
 
 array-write-outs-2 : tie.Need-array-write-outs-2
@@ -70,8 +80,11 @@ transition-requires c κs =
     let w = a .table .now in
     let r = sym (c .before .before .before .before .before .before .is-restricted .ensures) ∙ c .before .before .before .before .before .if1 .taken in
     let v = restricted-private w (a .rows .now) (a .plan) (p .0) (a .z) (a .v) (p .3) r in
-    let e = release-frees w (a .c) (p .1) (a .k) (p .2) (a .z) (a .v) (p .3) (c .before .before .before .before .before .before .before .before .equals .result) (c .before .before .before .on .result) (c .before .before .before .before .before .before .before .before .equals .ensures)
-    (c .before .before .before .on .ensures) (c .before .before .before .before .free-place .result) r (v .0) (v .1) (c .before .before .before .before .free-place .ensures) in (
+    let e = release-frees w (a .c) (p .1) (a .k) (p .2) (a .z) (a .v) (p .3)
+    (c .before .before .before .before .before .before .before .before .equals .result) (c .before .before .before .on .result)
+    (c .before .before .before .before .before .before .before .before .equals .ensures)
+    (c .before .before .before .on .ensures) (c .before .before .before .before .free-place .result) r (v .0) (v .1)
+    (c .before .before .before .before .free-place .ensures) in (
       omega (arith, few-nodes w (p .0 .accepted), p .1 .node-inside),
       omega (arith, p .3 .high, p .0 .few-publics, p .0 .few-bounds),
       omega arith,
@@ -87,16 +100,22 @@ returns c =
     let a = c .before .before .before .before .before .before .before .before .before .before .before .before .before .before .before .args in
     let p = c .before .before .before .before .before .before .before .before .before .before .before .before .before .before .before .pre in
     let w = a .table .now in
-    let r = sym (c .before .before .before .before .before .before .before .before .before .is-restricted .ensures) ∙ c .before .before .before .before .before .before .before .before .if1 .taken in
+    let r = sym (c .before .before .before .before .before .before .before .before .before .is-restricted .ensures)
+    ∙ c .before .before .before .before .before .before .before .before .if1 .taken in
     let v = restricted-private w (a .rows .now) (a .plan) (p .0) (a .z) (a .v) (p .3) r in
-    let e = release-frees w (a .c) (p .1) (a .k) (p .2) (a .z) (a .v) (p .3) (c .before .before .before .before .before .before .before .before .before .before .before .equals .result) (c .before .before .before .before .before .before .on .result) (c .before .before .before .before .before .before .before .before .before .before .before .equals .ensures)
-    (c .before .before .before .before .before .before .on .ensures) (c .before .before .before .before .before .before .before .free-place .result) r (v .0) (v .1) (c .before .before .before .before .before .before .before .free-place .ensures) in
+    let e = release-frees w (a .c) (p .1) (a .k) (p .2) (a .z) (a .v) (p .3)
+    (c .before .before .before .before .before .before .before .before .before .before .before .equals .result)
+    (c .before .before .before .before .before .before .on .result)
+    (c .before .before .before .before .before .before .before .before .before .before .before .equals .ensures)
+    (c .before .before .before .before .before .before .on .ensures) (c .before .before .before .before .before .before .before .free-place .result) r (v .0)
+    (v .1) (c .before .before .before .before .before .before .before .free-place .ensures) in
     c .before .before .transition .ensures ∙ sym (put-as w (a .out .now) (a .h) _ _ e)
 
 on-requires-2 : tie.Need-on-requires-2
 on-requires-2 c κs =
     let p = c .before .before .before .before .before .before .before .before .before .pre in
-    let f = chain-few (c .before .before .before .before .before .before .before .before .before .args .table .now) (p .0 .accepted) (c .before .before .before .before .before .before .before .before .before .args .c) (p .1) in
+    let f = chain-few (c .before .before .before .before .before .before .before .before .before .args .table .now) (p .0 .accepted)
+    (c .before .before .before .before .before .before .before .before .before .args .c) (p .1) in
     (p .2, omega (arith, f .0), omega (arith, f .1))
 
 array-write-outs-3 : tie.Need-array-write-outs-3
@@ -113,7 +132,9 @@ transition-requires-2 c κs =
     let a = c .before .before .before .before .before .before .before .before .before .before .before .before .before .args in
     let p = c .before .before .before .before .before .before .before .before .before .before .before .before .before .pre in
     let w = a .table .now in
-    let e = release-public w (a .c) (p .1) (a .k) (p .2) (a .z) (a .v) (p .3) (c .before .before .before .before .before .before .before .before .before .equals .result) (c .before .before .before .on2 .result) (c .before .before .before .before .before .before .before .before .before .equals .ensures)
+    let e = release-public w (a .c) (p .1) (a .k) (p .2) (a .z) (a .v) (p .3)
+    (c .before .before .before .before .before .before .before .before .before .equals .result) (c .before .before .before .on2 .result)
+    (c .before .before .before .before .before .before .before .before .before .equals .ensures)
     (c .before .before .before .on2 .ensures) (omega (arith, p .0 .publics-are, c .before .before .before .before .if2 .taken)) in (
       omega (arith, few-nodes w (p .0 .accepted), p .1 .node-inside),
       omega (arith, p .3 .high, p .0 .few-publics, p .0 .few-bounds),
@@ -130,8 +151,12 @@ returns-2 c =
     let a = c .before .before .before .before .before .before .before .before .before .before .before .before .before .before .before .before .args in
     let p = c .before .before .before .before .before .before .before .before .before .before .before .before .before .before .before .before .pre in
     let w = a .table .now in
-    let e = release-public w (a .c) (p .1) (a .k) (p .2) (a .z) (a .v) (p .3) (c .before .before .before .before .before .before .before .before .before .before .before .before .equals .result) (c .before .before .before .before .before .before .on2 .result) (c .before .before .before .before .before .before .before .before .before .before .before .before .equals .ensures)
-    (c .before .before .before .before .before .before .on2 .ensures) (omega (arith, p .0 .publics-are, c .before .before .before .before .before .before .before .if2 .taken)) in
+    let e = release-public w (a .c) (p .1) (a .k) (p .2) (a .z) (a .v) (p .3)
+    (c .before .before .before .before .before .before .before .before .before .before .before .before .equals .result)
+    (c .before .before .before .before .before .before .on2 .result)
+    (c .before .before .before .before .before .before .before .before .before .before .before .before .equals .ensures)
+    (c .before .before .before .before .before .before .on2 .ensures)
+    (omega (arith, p .0 .publics-are, c .before .before .before .before .before .before .before .if2 .taken)) in
     c .before .before .transition2 .ensures ∙ sym (put-as w (a .out .now) (a .h) _ _ e)
 
 differs-requires : tie.Need-differs-requires
@@ -148,7 +173,8 @@ array-write-outs-4 c = search needs
 on-requires-3 : tie.Need-on-requires-3
 on-requires-3 c κs =
     let p = c .before .before .before .before .before .before .before .before .before .before .pre in
-    let f = chain-few (c .before .before .before .before .before .before .before .before .before .before .args .table .now) (p .0 .accepted) (c .before .before .before .before .before .before .before .before .before .before .args .c) (p .1) in
+    let f = chain-few (c .before .before .before .before .before .before .before .before .before .before .args .table .now) (p .0 .accepted)
+    (c .before .before .before .before .before .before .before .before .before .before .args .c) (p .1) in
     (p .2, omega (arith, f .0), omega (arith, f .1))
 
 array-write-outs-5 : tie.Need-array-write-outs-5
@@ -165,11 +191,20 @@ transition-requires-3 c κs =
     let a = c .before .before .before .before .before .before .before .before .before .before .before .before .before .before .args in
     let p = c .before .before .before .before .before .before .before .before .before .before .before .before .before .before .pre in
     let w = a .table .now in
-    let r = sym (c .before .before .before .before .before .before .before .before .is-restricted .ensures) ∙ c .before .before .before .before .before .before .before .if1 .left in
+    let r = sym (c .before .before .before .before .before .before .before .before .is-restricted .ensures)
+    ∙ c .before .before .before .before .before .before .before .if1 .left in
     let v = free-value w (a .rows .now) (a .plan) (p .0) (a .z) (a .v) (p .3) r in
-    let e = release-gives w (a .c) (p .1) (a .k) (p .2) (a .z) (a .v) (p .3) (c .before .before .before .before .before .before .before .before .before .before .equals .result) (c .before .before .before .on3 .result) (c .before .before .before .before .before .before .before .before .before .before .equals .ensures)
+    let e = release-gives w (a .c) (p .1) (a .k) (p .2) (a .z) (a .v) (p .3)
+    (c .before .before .before .before .before .before .before .before .before .before .equals .result) (c .before .before .before .on3 .result)
+    (c .before .before .before .before .before .before .before .before .before .before .equals .ensures)
     (c .before .before .before .on3 .ensures) (c .before .before .before .before .differs .result)
-    (record { low = p .3 .low; high = p .3 .high; free = r; private = omega (arith, p .0 .publics-are, c .before .before .before .before .before .if2 .left); value = v }) (c .before .before .before .before .differs .ensures) in (
+    (record {
+      low = p .3 .low;
+      high = p .3 .high;
+      free = r;
+      private = omega (arith, p .0 .publics-are, c .before .before .before .before .before .if2 .left);
+      value = v;
+    }) (c .before .before .before .before .differs .ensures) in (
       omega (arith, few-nodes w (p .0 .accepted), p .1 .node-inside),
       omega (arith, p .3 .high, p .0 .few-publics, p .0 .few-bounds),
       omega arith,
@@ -185,11 +220,23 @@ returns-3 c =
     let a = c .before .before .before .before .before .before .before .before .before .before .before .before .before .before .before .before .before .args in
     let p = c .before .before .before .before .before .before .before .before .before .before .before .before .before .before .before .before .before .pre in
     let w = a .table .now in
-    let r = sym (c .before .before .before .before .before .before .before .before .before .before .before .is-restricted .ensures) ∙ c .before .before .before .before .before .before .before .before .before .before .if1 .left in
+    let r = sym (c .before .before .before .before .before .before .before .before .before .before .before .is-restricted .ensures)
+    ∙ c .before .before .before .before .before .before .before .before .before .before .if1 .left in
     let v = free-value w (a .rows .now) (a .plan) (p .0) (a .z) (a .v) (p .3) r in
-    let e = release-gives w (a .c) (p .1) (a .k) (p .2) (a .z) (a .v) (p .3) (c .before .before .before .before .before .before .before .before .before .before .before .before .before .equals .result) (c .before .before .before .before .before .before .on3 .result) (c .before .before .before .before .before .before .before .before .before .before .before .before .before .equals .ensures)
+    let e = release-gives w (a .c) (p .1) (a .k) (p .2) (a .z) (a .v) (p .3)
+    (c .before .before .before .before .before .before .before .before .before .before .before .before .before .equals .result)
+    (c .before .before .before .before .before .before .on3 .result)
+    (c .before .before .before .before .before .before .before .before .before .before .before .before .before .equals .ensures)
     (c .before .before .before .before .before .before .on3 .ensures) (c .before .before .before .before .before .before .before .differs .result)
-    (record { low = p .3 .low; high = p .3 .high; free = r; private = omega (arith, p .0 .publics-are, c .before .before .before .before .before .before .before .before .if2 .left); value = v }) (c .before .before .before .before .before .before .before .differs .ensures) in
+    (record {
+      low = p .3 .low;
+      high = p .3 .high;
+      free = r;
+      private =
+          omega (arith, p .0 .publics-are, c .before .before .before .before .before .before .before .before .if2 .left);
+      value = v;
+    })
+    (c .before .before .before .before .before .before .before .differs .ensures) in
     c .before .before .transition3 .ensures ∙ sym (put-as w (a .out .now) (a .h) _ _ e)
 
 pub release-spec : {M : Type 1} → statement M

@@ -1,22 +1,17 @@
 -- `builder::chain::release_all` meets its contract. Loop: the releases of the names behind the first i are left. Measure: names left.
-use mathlib.Core.Path.{_≡_, refl, sym, ap, subst, _∙_}
-use mathlib.Core.List.{map}
-use Prim.Native.Nat.{ℕ, _+_, _-_, _≤_, _<_}
+use mathlib.Core.Path.{_≡_, refl, sym, ap, _∙_}
+use Prim.Native.Nat.{_+_, _-_, _≤_}
 use native.Mathlib.Omega.{arith}
 use lib.ListN.{length, take, drop}
 use Rattle.table.specs.Scheme.{scheme}
-use Rattle.builder.specs.Transitions.{releasing, releases}
-use Rattle.builder.specs.Inner.Writing.{Inside}
-use Rattle.builder.specs.Inner.Plan.{today, values, put, state, ofTable}
+use Rattle.builder.specs.Transitions.{releases}
+use Rattle.builder.specs.Inner.Plan.{today, put, state, ofTable}
 use Rattle.builder.proofs.Writing.{put-none}
-use Rattle.builder.proofs.Controls.{few-nodes}
 use Rattle.builder.proofs.Chains.{chain-few, state-length}
 use Rattle.builder.proofs.ChainLoops.{part-inside, part-more, taken-member, releases-start, releases-more, releases-done}
 use borrow.Author.Needs.{needs}
 use Rattle.builder.proofs.chain.release_all.Statement.{statement}
 use Rattle.builder.proofs.chain.release_all.Tie as tie
-use Rattle.builder.proofs.chain.release_all.Reads as reads
-use Rattle.builder.proofs.chain.release_all.Lts as lts
 use Rattle.builder.proofs.chain.release_name.Reads as release-name-reads
 use Rattle.lists.proofs.word32.Reads as word32-reads
 
@@ -32,13 +27,23 @@ abbrev μ-loop : tie.MeasureT-loop
 loop-holds : tie.Need-loop-holds Inv-loop μ-loop
 loop-holds c =
     let a = c .before .before .before .before .args in
-    let w = a .table .now in
-    (ap (put w (a .out .now) (a .h)) (releases-start (scheme w) (today w) (a .c .node) (a .c .to) (a .k) (take (a .count) (a .names .now))), refl, omega arith)
+    let w = a .table .now in (
+      ap (put w (a .out .now) (a .h)) (releases-start (scheme w) (today w) (a .c .node) (a .c .to) (a .k) (take (a .count) (a .names .now))),
+      refl,
+      omega
+          arith,
+    )
 
 add-release-name : tie.Need-add-release-name Inv-loop μ-loop
 add-release-name c =
     let p = c .before .before .before .before .before .before .before .pre in
-    omega (arith, chain-few (c .before .before .before .before .before .before .before .args .table .now) (p .0 .accepted) (c .before .before .before .before .before .before .before .args .c) (p .1) .0, p .3, c .before .loop-test .taken)
+    omega (
+      arith,
+      chain-few (c .before .before .before .before .before .before .before .args .table .now) (p .0 .accepted)
+          (c .before .before .before .before .before .before .before .args .c) (p .1) .0,
+      p .3,
+      c .before .loop-test .taken,
+    )
 
 word32-requires : tie.Need-word32-requires Inv-loop μ-loop
 word32-requires c κs = search needs
@@ -89,7 +94,8 @@ returns c =
     let a = c .before .before .before .before .before .before .args in
     let w = a .table .now in
     let l = c .before .loop in
-    let e = releases-done (scheme w) (today w) (a .c .node) (a .c .to) (a .k) (a .names .now) (a .count) (l .i) (omega (arith, c .loop-test .left)) (c .before .before .before .before .before .before .pre .2) in
+    let e = releases-done (scheme w) (today w) (a .c .node) (a .c .to) (a .k) (a .names .now) (a .count) (l .i) (omega (arith, c .loop-test .left))
+    (c .before .before .before .before .before .before .pre .2) in
     sym (l .inv .0 ∙ ap (put w (l .out) (l .q)) e ∙ put-none (ofTable w) (state (l .out) (l .q)))
 
 pub release-all-spec : {M : Type 1} → statement M

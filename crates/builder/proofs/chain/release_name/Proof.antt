@@ -1,20 +1,17 @@
 -- `builder::chain::release_name` meets its contract. Loop: the releases of the values behind the first i are left. Measure: values left.
-use mathlib.Core.Path.{_≡_, refl, sym, ap, subst, _∙_}
+use mathlib.Core.Path.{_≡_, refl, _∙_}
 use mathlib.Core.List.{map}
-use Prim.Native.Nat.{ℕ, _+_, _-_, _≤_, _<_}
+use Prim.Native.Nat.{_-_, _≤_, _<_}
 use native.Mathlib.Omega.{arith}
 use lib.ListN.{length, drop}
 use Rattle.table.specs.Scheme.{scheme}
 use Rattle.builder.specs.Transitions.{releasing}
-use Rattle.builder.specs.Inner.Writing.{Inside}
 use Rattle.builder.specs.Inner.Plan.{today, values, put, state, ofTable}
 use Rattle.builder.proofs.Chains.{state-length}
 use Rattle.builder.proofs.ValueLoops.{map-done, map-inside, map-more, reach-count, reach-at, reach-member}
 use borrow.Author.Needs.{needs}
 use Rattle.builder.proofs.chain.release_name.Statement.{statement}
 use Rattle.builder.proofs.chain.release_name.Tie as tie
-use Rattle.builder.proofs.chain.release_name.Reads as reads
-use Rattle.builder.proofs.chain.release_name.Lts as lts
 use Rattle.builder.proofs.chain.release.Reads as release-reads
 use Rattle.builder.proofs.layout.reach_of.Reads as reach-of-reads
 use Rattle.builder.proofs.layout.value_at.Reads as value-at-reads
@@ -70,7 +67,8 @@ release-requires c κs =
       p .1,
       p .2,
       record { low = p .3; high = p .4; value = m },
-      map-inside (ofTable w) _ (state (l .out) (l .q)) vs (l .i) (releasing (scheme w) (today w) (a .c .node) (a .c .to) (a .k) (a .z)) (l .inv .0) (v .result) u e (p .5),
+      map-inside (ofTable w) _ (state (l .out) (l .q)) vs (l .i) (releasing (scheme w) (today w) (a .c .node) (a .c .to) (a .k) (a .z)) (l .inv .0)
+          (v .result) u e (p .5),
     )
 
 add-i : tie.Need-add-i Inv-loop μ-loop
@@ -92,7 +90,8 @@ loop-again c =
     let k = reach-count w (a .plan) (r .result) vs (p .0 .publics-are) (p .0 .privates-are) (r .ensures) (n .result) (n .ensures) in
     let u : l .i < length vs = omega (arith, k, c .before .before .before .before .before .loop-test .taken) in
     let e = reach-at w (a .plan) (r .result) vs (p .0 .publics-are) (p .0 .privates-are) (r .ensures) (l .i) (v .result) (v .ensures) in (
-      map-more (ofTable w) _ (state (l .out) (l .q)) vs (l .i) (releasing (scheme w) (today w) (a .c .node) (a .c .to) (a .k) (a .z)) (l .inv .0) (v .result) u e _ (c .before .before .release .ensures),
+      map-more (ofTable w) _ (state (l .out) (l .q)) vs (l .i) (releasing (scheme w) (today w) (a .c .node) (a .c .to) (a .k) (a .z)) (l .inv .0) (v .result)
+          u e _ (c .before .before .release .ensures),
       state-length w (l .out) _ (l .q) _ _ (c .before .before .release .ensures) ∙ l .inv .1,
       omega (arith, c .before .before .before .before .before .loop-test .taken),
     )
@@ -110,7 +109,8 @@ returns c =
     let r = c .before .before .before .reach-of in
     let vs = values w (a .z) in
     let k = reach-count w (a .plan) (r .result) vs (p .0 .publics-are) (p .0 .privates-are) (r .ensures) (n .result) (n .ensures) in
-    map-done (ofTable w) _ (state (l .out) (l .q)) vs (l .i) (releasing (scheme w) (today w) (a .c .node) (a .c .to) (a .k) (a .z)) (l .inv .0) (omega (arith, k, c .loop-test .left))
+    map-done (ofTable w) _ (state (l .out) (l .q)) vs (l .i) (releasing (scheme w) (today w) (a .c .node) (a .c .to) (a .k) (a .z)) (l .inv .0)
+    (omega (arith, k, c .loop-test .left))
 
 pub release-name-spec : {M : Type 1} → statement M
 release-name-spec =

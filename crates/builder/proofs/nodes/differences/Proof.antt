@@ -1,7 +1,7 @@
 -- `builder::nodes::differences` meets its contract. Loop: [y≠v] of the bound names below x are in the list. Measure: names left.
-use mathlib.Core.Path.{_≡_, refl, sym, ap, subst, _∙_}
+use mathlib.Core.Path.{_≡_, refl, ap, _∙_}
 use mathlib.Core.Logic.{⊎-elim}
-use Prim.Native.Nat.{ℕ, _+_, _-_, _≤_, _<_}
+use Prim.Native.Nat.{_+_, _-_, _≤_, _<_}
 use native.Mathlib.Omega.{arith}
 use lib.ListN.{length}
 use Rattle.table.specs.Words.{publics, names}
@@ -14,8 +14,6 @@ use Rattle.builder.proofs.Making.{differsBelow, below-length, below-all
 use borrow.Author.Needs.{needs}
 use Rattle.builder.proofs.nodes.differences.Statement.{statement}
 use Rattle.builder.proofs.nodes.differences.Tie as tie
-use Rattle.builder.proofs.nodes.differences.Reads as reads
-use Rattle.builder.proofs.nodes.differences.Lts as lts
 use Rattle.builder.proofs.insertion.insert.Reads as insert-reads
 use Rattle.builder.proofs.layout.differs.Reads as differs-reads
 use Rattle.table.proofs.fields.name_kind.Reads as name-kind-reads
@@ -28,7 +26,9 @@ abbrev μ-loop : tie.MeasureT-loop
 μ-loop table rows plan list₀ v end count₀ x₀ list count x = end - x
 
 -- [x≠v] of one name
-differs-here : (c : tie.Then1 Inv-loop μ-loop) → Differs (c .before .before .before .before .before .before .before .before .args .table .now) (c .before .before .before .loop .x) (c .before .before .before .before .before .before .before .before .args .v)
+differs-here : (c : tie.Then1 Inv-loop μ-loop)
+    → let a = c .before .before .before .before .before .before .before .before .args in
+    Differs (a .table .now) (c .before .before .before .loop .x) (a .v)
 differs-here c =
     let w = c .before .before .before .before .before .before .before .before .args .table .now in
     let p = c .before .before .before .before .before .before .before .before .pre in
@@ -40,8 +40,9 @@ differs-here c =
 
 -- what a turn puts in
 turn : (c : tie.Joined1 Inv-loop μ-loop)
-    → Filled (c .before .before .before .before .before .before .before .before .args .table .now) (c .if1 .list) (c .if1 .count) (differsBelow (c .before .before .before .before .before .before .before .before .args .table .now) (c .before .before .before .before .before .before .before .before .args .v) (c .before .before .before .loop .x + 1))
-    × (length (c .if1 .list) ≡ length (c .before .before .before .before .before .before .before .before .args .list .now))
+    → let a = c .before .before .before .before .before .before .before .before .args in
+    Filled (a .table .now) (c .if1 .list) (c .if1 .count) (differsBelow (a .table .now) (a .v) (c .before .before .before .loop .x + 1))
+    × (length (c .if1 .list) ≡ length (a .list .now))
 turn c =
     let a = c .before .before .before .before .before .before .before .before .args in
     let p = c .before .before .before .before .before .before .before .before .pre in
@@ -51,17 +52,25 @@ turn c =
     let u : l .x < names w = omega (arith, c .before .before .loop-test .taken, p .0 .publics-are, p .0 .bounds-are) in
     ⊎-elim
     (λ y. rw (y .6, y .7) (
-      below-with w (a .v) (l .list) _ (l .count) _ (y .2 .result) (l .x) (differs-here (record { before = c .before; if1 = y .0 })) (y .2 .ensures) (y .3 .ensures) (l .inv .0),
+      below-with w (a .v) (l .list) _ (l .count) _ (y .2 .result) (l .x) (differs-here (record { before = c .before; if1 = y .0 })) (y .2 .ensures)
+          (y .3 .ensures) (l .inv .0),
       y .3 .kept .0 ∙ l .inv .1,
     ))
     (λ y. rw (y .1, y .2) (
-      below-without w (a .v) (l .list) (l .count) (l .x) (l .inv .2) (kind-restricted w (l .x) (k .result) (l .inv .2) u (k .ensures .is) (y .0 .left)) (l .inv .0),
+      below-without w (a .v) (l .list) (l .count) (l .x) (l .inv .2) (kind-restricted w (l .x) (k .result) (l .inv .2) u (k .ensures .is) (y .0 .left))
+          (l .inv .0),
       l .inv .1,
     ))
     (c .if1 .came)
 
 add-end : tie.Need-add-end Inv-loop μ-loop
-add-end c = omega (arith, c .before .before .before .before .pre .0 .publics-are, c .before .before .before .before .pre .0 .bounds-are, c .before .before .before .before .pre .0 .few-publics, c .before .before .before .before .pre .0 .few-bounds)
+add-end c = omega (
+  arith,
+  c .before .before .before .before .pre .0 .publics-are,
+  c .before .before .before .before .pre .0 .bounds-are,
+  c .before .before .before .before .pre .0 .few-publics,
+  c .before .before .before .before .pre .0 .few-bounds,
+)
 
 loop-holds : tie.Need-loop-holds Inv-loop μ-loop
 loop-holds c =
@@ -81,10 +90,27 @@ insert-requires c κs =
     let p = c .before .before .before .before .before .before .before .before .before .before .pre in
     let l = c .before .before .before .before .before .loop in
     fill-rising (a .table .now) (p .0 .accepted) (l .list) (l .count) (differsBelow (a .table .now) (a .v) (l .x))
-    (omega (arith, below-length (a .table .now) (a .v) (l .x), c .before .before .before .before .loop-test .taken, p .0 .publics-are, p .0 .bounds-are, p .0 .few-bounds, p .3, l .inv .1, l .inv .2)) (l .inv .0)
+    (omega (
+      arith,
+      below-length (a .table .now) (a .v) (l .x),
+      c .before .before .before .before .loop-test .taken,
+      p .0 .publics-are,
+      p .0 .bounds-are,
+      p .0 .few-bounds,
+      p .3,
+      l .inv .1,
+      l .inv .2,
+    )) (l .inv .0)
 
 add-x : tie.Need-add-x Inv-loop μ-loop
-add-x c = omega (arith, c .before .before .loop-test .taken, c .before .before .before .before .before .before .before .before .pre .0 .publics-are, c .before .before .before .before .before .before .before .before .pre .0 .bounds-are, c .before .before .before .before .before .before .before .before .pre .0 .few-publics, c .before .before .before .before .before .before .before .before .pre .0 .few-bounds)
+add-x c = omega (
+  arith,
+  c .before .before .loop-test .taken,
+  c .before .before .before .before .before .before .before .before .pre .0 .publics-are,
+  c .before .before .before .before .before .before .before .before .pre .0 .bounds-are,
+  c .before .before .before .before .before .before .before .before .pre .0 .few-publics,
+  c .before .before .before .before .before .before .before .before .pre .0 .few-bounds,
+)
 
 loop-less : tie.Need-loop-less Inv-loop μ-loop
 loop-less c = omega (arith, c .before .before .loop-test .taken)

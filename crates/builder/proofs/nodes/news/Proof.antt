@@ -1,5 +1,5 @@
 -- `builder::nodes::news` meets its contract. Loop: the values behind the first k are left. Measure: values left.
-use mathlib.Core.Path.{_≡_, refl, sym, ap, subst, _∙_}
+use mathlib.Core.Path.{_≡_, refl, sym, ap, _∙_}
 use mathlib.Core.List.{map}
 use Prim.Native.Nat.{ℕ, _+_, _-_, _≤_, _<_}
 use native.Mathlib.Omega.{arith}
@@ -8,7 +8,6 @@ use Rattle.lists.specs.Lists
 use Rattle.lists.specs.Lists.{word}
 use Rattle.lists.proofs.Ranges.{from-length, from-getD}
 use Rattle.table.specs.Words.{publics, bounds, nodeSecond}
-use Rattle.builder.specs.Inner.Writing.{Inside}
 use Rattle.builder.specs.Inner.Plan.{put, state, ofTable, made}
 use Rattle.builder.proofs.Chains.{state-length}
 use Rattle.builder.proofs.ValueLoops.{map-done, map-inside, map-more}
@@ -16,8 +15,6 @@ use Rattle.builder.proofs.Making.{made-inside}
 use borrow.Author.Needs.{needs}
 use Rattle.builder.proofs.nodes.news.Statement.{statement}
 use Rattle.builder.proofs.nodes.news.Tie as tie
-use Rattle.builder.proofs.nodes.news.Reads as reads
-use Rattle.builder.proofs.nodes.news.Lts as lts
 use Rattle.builder.proofs.nodes.make.Reads as make-reads
 use Rattle.lists.proofs.word32.Reads as word32-reads
 use Rattle.table.proofs.fields.field3.Reads as field3-reads
@@ -69,14 +66,23 @@ make-requires c κs =
       p .1,
       p .2,
       c .before .before .before .before .before .before .before .word32 .ensures .is ∙ s .spot-is (a .n) (p .1),
-      c .before .before .before .before .before .word322 .ensures .is ∙ ap (word (a .spots .now)) (c .before .before .before .before .before .before .field3 .ensures .is) ∙ s .spot-is (nodeSecond w (a .n)) (made-inside w (r .accepted) (a .n) (p .1) (p .2)),
+      c .before .before .before .before .before .word322 .ensures .is
+          ∙ ap (word (a .spots .now)) (c .before .before .before .before .before .before .field3 .ensures .is)
+          ∙ s .spot-is (nodeSecond w (a .n)) (made-inside w (r .accepted) (a .n) (p .1) (p .2)),
       omega (arith, r .publics-are),
       omega (arith, r .publics-are, u),
-      map-inside (ofTable w) _ (state (l .out) (l .q)) vs (l .k) (made w (a .n)) (l .inv .0) (a .plan .publics + l .k) (omega (arith, from-length (publics w) (bounds w), u)) e (p .3),
+      map-inside (ofTable w) _ (state (l .out) (l .q)) vs (l .k) (made w (a .n)) (l .inv .0) (a .plan .publics + l .k)
+          (omega (arith, from-length (publics w) (bounds w), u)) e (p .3),
     )
 
 add-k : tie.Need-add-k Inv-loop μ-loop
-add-k c = omega (arith, c .before .before .before .before .before .if1 .taken, c .before .before .before .before .before .before .before .before .before .before .before .before .before .before .before .pre .0 .rowed .privates-are, c .before .before .before .before .before .before .before .before .before .before .before .before .before .before .before .pre .0 .rowed .few-bounds)
+add-k c =
+    omega (
+      arith,
+      c .before .before .before .before .before .if1 .taken,
+      c .before .before .before .before .before .before .before .before .before .before .before .before .before .before .before .pre .0 .rowed .privates-are,
+      c .before .before .before .before .before .before .before .before .before .before .before .before .before .before .before .pre .0 .rowed .few-bounds,
+    )
 
 loop-less : tie.Need-loop-less Inv-loop μ-loop
 loop-less c = omega (arith, c .before .before .before .before .before .if1 .taken)
@@ -91,7 +97,8 @@ loop-again c =
     let vs = Lists.from (publics w) (bounds w) in
     let u : l .k < bounds w = omega (arith, c .before .before .before .before .before .if1 .taken, r .privates-are) in
     let e : a .plan .publics + l .k ≡ word vs (l .k) = ap (λ (x : ℕ). x + l .k) (r .publics-are) ∙ sym (from-getD (publics w) (bounds w) (l .k) u) in (
-      map-more (ofTable w) _ (state (l .out) (l .q)) vs (l .k) (made w (a .n)) (l .inv .0) (a .plan .publics + l .k) (omega (arith, from-length (publics w) (bounds w), u)) e _ (c .before .before .make .ensures),
+      map-more (ofTable w) _ (state (l .out) (l .q)) vs (l .k) (made w (a .n)) (l .inv .0) (a .plan .publics + l .k)
+          (omega (arith, from-length (publics w) (bounds w), u)) e _ (c .before .before .make .ensures),
       state-length w (l .out) _ (l .q) _ _ (c .before .before .make .ensures) ∙ l .inv .1,
       omega (arith, c .before .before .before .before .before .if1 .taken),
     )

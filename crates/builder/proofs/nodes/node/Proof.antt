@@ -1,5 +1,5 @@
 -- `builder::nodes::node` meets its contract. One return for each kind of node.
-use mathlib.Core.Path.{_≡_, refl, sym, ap, subst, _∙_}
+use mathlib.Core.Path.{sym, ap, subst, _∙_}
 use native.Mathlib.Omega.{arith}
 use Rattle.lists.proofs.Tests.{same-yes}
 use Rattle.table.specs.Words.{nodeKind}
@@ -10,8 +10,6 @@ use Rattle.builder.proofs.NodeArrows.{all-stop, all-choice, all-new, al
 use borrow.Author.Needs.{needs}
 use Rattle.builder.proofs.nodes.node.Statement.{statement}
 use Rattle.builder.proofs.nodes.node.Tie as tie
-use Rattle.builder.proofs.nodes.node.Reads as reads
-use Rattle.builder.proofs.nodes.node.Lts as lts
 use Rattle.builder.proofs.nodes.call.Reads as call-reads
 use Rattle.builder.proofs.nodes.news.Reads as news-reads
 use Rattle.builder.proofs.nodes.silents.Reads as silents-reads
@@ -60,7 +58,8 @@ silents-requires c κs =
       p .1 .spotted,
       p .2,
       omega (arith, choice-inside w (p .0 .accepted) (a .n) (p .2) e, f .ensures .is, g .ensures .is),
-      subst Inside (ap (put w (a .out .now) (a .h)) (all-choice w (p .0 .accepted) (a .n) (p .2) (f .result) (g .result) e (f .ensures .is) (g .ensures .is))) (p .3),
+      subst Inside (ap (put w (a .out .now) (a .h)) (all-choice w (p .0 .accepted) (a .n) (p .2) (f .result) (g .result) e (f .ensures .is) (g .ensures .is)))
+          (p .3),
     )
 
 same-length-2 : tie.Need-same-length-2
@@ -93,7 +92,8 @@ returns-3 c =
     let a = c .before .before .before .before .before .before .before .before .before .before .before .before .before .before .before .before .args in
     let p = c .before .before .before .before .before .before .before .before .before .before .before .before .before .before .before .before .pre in
     let w = a .table .now in
-    let e = sym (c .before .before .before .before .before .before .before .before .before .field3 .ensures .is) ∙ c .before .before .before .before .if3 .taken in
+    let e = sym (c .before .before .before .before .before .before .before .before .before .field3 .ensures .is)
+    ∙ c .before .before .before .before .if3 .taken in
     c .before .before .news .ensures ∙ sym (ap (put w (a .out .now) (a .h)) (all-new w (p .0 .accepted) (a .n) (p .2) e))
 
 call-requires : tie.Need-call-requires
@@ -101,8 +101,13 @@ call-requires c κs =
     let a = c .before .before .before .before .before .before .before .before .before .before .before .before .before .args in
     let p = c .before .before .before .before .before .before .before .before .before .before .before .before .before .pre in
     let w = a .table .now in
-    let e = other-call (c .before .before .before .before .before .before .before .before .before .before .before .before .before .args .table .now) (c .before .before .before .before .before .before .before .before .before .before .before .before .before .pre .0 .accepted) (c .before .before .before .before .before .before .before .before .before .before .before .before .before .args .n) (c .before .before .before .before .before .before .before .before .before .before .before .before .before .pre .2)
-    (λ e. c .before .before .before .if1 .left (c .before .before .before .before .before .before .field3 .ensures .is ∙ e)) (λ e. c .before .before .if2 .left (c .before .before .before .before .before .before .field3 .ensures .is ∙ e)) (λ e. c .before .if3 .left (c .before .before .before .before .before .before .field3 .ensures .is ∙ e)) in
+    let e = other-call (c .before .before .before .before .before .before .before .before .before .before .before .before .before .args .table .now)
+    (c .before .before .before .before .before .before .before .before .before .before .before .before .before .pre .0 .accepted)
+    (c .before .before .before .before .before .before .before .before .before .before .before .before .before .args .n)
+    (c .before .before .before .before .before .before .before .before .before .before .before .before .before .pre .2)
+    (λ e. c .before .before .before .if1 .left (c .before .before .before .before .before .before .field3 .ensures .is ∙ e)) (λ e.
+    c .before .before .if2 .left (c .before .before .before .before .before .before .field3 .ensures .is ∙ e))
+    (λ e. c .before .if3 .left (c .before .before .before .before .before .before .field3 .ensures .is ∙ e)) in
     (p .0, p .1, p .2, same-yes (nodeKind w (a .n)) 3 e, subst Inside (ap (put w (a .out .now) (a .h)) (all-call w (p .0 .accepted) (a .n) (p .2) e)) (p .3))
 
 same-length-4 : tie.Need-same-length-4
@@ -113,8 +118,19 @@ returns-4 c =
     let a = c .before .before .before .before .before .before .before .before .before .before .before .before .before .before .before .before .args in
     let p = c .before .before .before .before .before .before .before .before .before .before .before .before .before .before .before .before .pre in
     let w = a .table .now in
-    let e = other-call (c .before .before .before .before .before .before .before .before .before .before .before .before .before .before .before .before .args .table .now) (c .before .before .before .before .before .before .before .before .before .before .before .before .before .before .before .before .pre .0 .accepted) (c .before .before .before .before .before .before .before .before .before .before .before .before .before .before .before .before .args .n) (c .before .before .before .before .before .before .before .before .before .before .before .before .before .before .before .before .pre .2)
-    (λ e. c .before .before .before .before .before .before .if1 .left (c .before .before .before .before .before .before .before .before .before .field3 .ensures .is ∙ e)) (λ e. c .before .before .before .before .before .if2 .left (c .before .before .before .before .before .before .before .before .before .field3 .ensures .is ∙ e)) (λ e. c .before .before .before .before .if3 .left (c .before .before .before .before .before .before .before .before .before .field3 .ensures .is ∙ e)) in
+    let e =
+    other-call
+    (c .before .before .before .before .before .before .before .before .before .before .before .before .before .before .before .before .args .table .now)
+    (c .before .before .before .before .before .before .before .before .before .before .before .before .before .before .before .before .pre .0 .accepted)
+    (c .before .before .before .before .before .before .before .before .before .before .before .before .before .before .before .before .args .n)
+    (c .before .before .before .before .before .before .before .before .before .before .before .before .before .before .before .before .pre .2)
+    (λ e.
+    c .before .before .before .before .before .before .if1 .left
+    (c .before .before .before .before .before .before .before .before .before .field3 .ensures .is ∙ e))
+    (λ e.
+    c .before .before .before .before .before .if2 .left (c .before .before .before .before .before .before .before .before .before .field3 .ensures .is ∙ e))
+    (λ e.
+    c .before .before .before .before .if3 .left (c .before .before .before .before .before .before .before .before .before .field3 .ensures .is ∙ e)) in
     c .before .before .call .ensures ∙ sym (ap (put w (a .out .now) (a .h)) (all-call w (p .0 .accepted) (a .n) (p .2) e))
 
 pub node-spec : {M : Type 1} → statement M

@@ -1,12 +1,11 @@
 -- `builder::nodes::nodes` meets its contract. Loop: the nodes from n on are left. Measure: nodes left.
-use mathlib.Core.Path.{_≡_, refl, sym, ap, subst, _∙_}
-use Prim.Native.Nat.{ℕ, _+_, _-_, _≤_, _<_}
+use mathlib.Core.Path.{_≡_, refl, sym, ap, _∙_}
+use Prim.Native.Nat.{ℕ, _-_}
 use native.Mathlib.Omega.{arith}
 use lib.ListN.{length}
 use Rattle.lists.specs.Lists.{from, range, flat}
 use Rattle.lists.proofs.Ranges.{flat-start, flat-more, flat-done}
 use Rattle.table.specs.Words
-use Rattle.builder.specs.Inner.Writing.{Inside}
 use Rattle.builder.specs.Inner.Plan.{put, state, ofTable}
 use Rattle.builder.proofs.Writing.{put-none}
 use Rattle.builder.proofs.Chains.{state-length}
@@ -15,8 +14,6 @@ use Rattle.builder.proofs.NodeArrows.{nodeAll}
 use borrow.Author.Needs.{needs}
 use Rattle.builder.proofs.nodes.nodes.Statement.{statement}
 use Rattle.builder.proofs.nodes.nodes.Tie as tie
-use Rattle.builder.proofs.nodes.nodes.Reads as reads
-use Rattle.builder.proofs.nodes.nodes.Lts as lts
 use Rattle.builder.proofs.nodes.node.Reads as node-reads
 use Rattle.lists.proofs.word16.Reads as word16-reads
 
@@ -48,7 +45,8 @@ node-requires c κs =
       p .0,
       p .1,
       omega (arith, t, c .before .before .before .word16 .ensures .is),
-      part-inside (ofTable w) _ (state (l .out) (l .q)) _ _ (l .inv .0 ∙ ap (put w (l .out) (l .q)) (flat-more (nodeAll w) (l .n) (c .before .before .before .word16 .result) t)) (p .2),
+      part-inside (ofTable w) _ (state (l .out) (l .q)) _ _
+          (l .inv .0 ∙ ap (put w (l .out) (l .q)) (flat-more (nodeAll w) (l .n) (c .before .before .before .word16 .result) t)) (p .2),
     )
 
 add-n : tie.Need-add-n Inv-loop μ-loop
@@ -61,7 +59,8 @@ loop-again : tie.Need-loop-again Inv-loop μ-loop
 loop-again c =
     let w = c .before .before .before .before .before .before .before .before .before .before .before .before .before .args .table .now in
     let l = c .before .before .before .before .before .loop in
-    let e = flat-more (nodeAll w) (l .n) (c .before .before .before .before .before .before .word16 .result) (c .before .before .before .before .loop-test .taken) in (
+    let e = flat-more (nodeAll w) (l .n) (c .before .before .before .before .before .before .word16 .result)
+    (c .before .before .before .before .loop-test .taken) in (
       part-more (ofTable w) _ (state (l .out) (l .q)) _ _ (l .inv .0 ∙ ap (put w (l .out) (l .q)) e) _ (c .before .before .node .ensures),
       state-length w (l .out) _ (l .q) _ _ (c .before .before .node .ensures) ∙ l .inv .1,
     )
@@ -73,7 +72,8 @@ returns : tie.Need-returns Inv-loop μ-loop
 returns c =
     let w = c .before .before .before .before .before .before .before .before .before .args .table .now in
     let l = c .before .loop in
-    sym (l .inv .0 ∙ ap (put w (l .out) (l .q)) (flat-done (nodeAll w) (l .n) (c .before .before .word16 .result) (c .loop-test .left)) ∙ put-none (ofTable w) (state (l .out) (l .q)))
+    sym (l .inv .0 ∙ ap (put w (l .out) (l .q)) (flat-done (nodeAll w) (l .n) (c .before .before .word16 .result) (c .loop-test .left))
+    ∙ put-none (ofTable w) (state (l .out) (l .q)))
 
 pub nodes-spec : {M : Type 1} → statement M
 nodes-spec =

@@ -2,13 +2,13 @@
 use mathlib.Core.Path.{_≡_, refl, sym, ap, subst, _∙_}
 use mathlib.Core.List.{[], _∷_}
 use mathlib.Core.Logic.{⊎-elim}
-use Prim.Native.Nat.{ℕ, _+_, _-_, _≤_, _<_}
+use Prim.Native.Nat.{_-_, _<_}
 use native.Mathlib.Omega.{arith}
 use lib.ListN.{length}
 use Rattle.lists.specs.Lists
 use Rattle.lists.specs.Lists.{flat}
 use Rattle.lists.proofs.Ranges.{flat-more, flat-done}
-use Rattle.table.specs.Words.{nodes, branches, next}
+use Rattle.table.specs.Words.{branches, next}
 use Rattle.table.specs.Scheme.{scheme}
 use Rattle.builder.specs.Transitions.{silents, going}
 use Rattle.builder.specs.Inner.Writing.{Inside}
@@ -21,8 +21,6 @@ use Rattle.builder.proofs.NodeArrows.{silentsAt, going-arrow, silent-no
 use borrow.Author.Needs.{needs}
 use Rattle.builder.proofs.nodes.silents.Statement.{statement}
 use Rattle.builder.proofs.nodes.silents.Tie as tie
-use Rattle.builder.proofs.nodes.silents.Reads as reads
-use Rattle.builder.proofs.nodes.silents.Lts as lts
 use Rattle.builder.proofs.write.go.Reads as go-reads
 use Rattle.lists.proofs.word32.Reads as word32-reads
 use Rattle.table.proofs.fields.field4.Reads as field4-reads
@@ -38,9 +36,11 @@ abbrev μ-loop : tie.MeasureT-loop
 
 -- what a turn writes
 turn : (c : tie.Joined1 Inv-loop μ-loop)
-    → state (c .if1 .out) (c .if1 .q)
-    ≡ put (c .before .before .before .before .before .before .before .before .args .table .now) (c .before .before .before .loop .out) (c .before .before .before .loop .q)
-    (silents (scheme (c .before .before .before .before .before .before .before .before .args .table .now)) (today (c .before .before .before .before .before .before .before .before .args .table .now)) (c .before .before .before .before .before .before .before .before .args .n) (c .before .before .before .loop .b) (scheme (c .before .before .before .before .before .before .before .before .args .table .now) .branch (c .before .before .before .loop .b)))
+    → let a = c .before .before .before .before .before .before .before .before .args in
+    state (c .if1 .out) (c .if1 .q)
+    ≡ put (a .table .now) (c .before .before .before .loop .out) (c .before .before .before .loop .q)
+    (silents (scheme (a .table .now)) (today (a .table .now)) (a .n) (c .before .before .before .loop .b)
+    (scheme (a .table .now) .branch (c .before .before .before .loop .b)))
 turn c =
     let a = c .before .before .before .before .before .before .before .before .args in
     let p = c .before .before .before .before .before .before .before .before .pre in
@@ -97,12 +97,20 @@ go-requires c κs =
     (part-inside (ofTable w) _ (state (l .out) (l .q)) _ _ (l .inv .0 ∙ ap (put w (l .out) (l .q)) (flat-more g (l .b) (a .end) t)) (p .3)) in (
       omega (arith, few-branches w (p .0 .accepted), u),
       inside-as w (l .out) (l .q) _ _
-          (going-arrow w (a .n) (l .b) (next w (l .b)) (c .before .before .before .before .before .before .before .word32 .result) (c .word322 .result) (p .1) i (c .before .before .before .before .before .before .before .word32 .ensures .is ∙ p .0 .spot-is (a .n) (p .1))
+          (going-arrow w (a .n) (l .b) (next w (l .b)) (c .before .before .before .before .before .before .before .word32 .result) (c .word322 .result) (p .1) i
+          (c .before .before .before .before .before .before .before .word32 .ensures .is ∙ p .0 .spot-is (a .n) (p .1))
           (c .word322 .ensures .is ∙ ap (Lists.word (a .spots .now)) (c .before .field42 .ensures .is) ∙ p .0 .spot-is (next w (l .b)) i)) d,
     )
 
 add-b : tie.Need-add-b Inv-loop μ-loop
-add-b c = omega (arith, c .before .before .loop-test .taken, few-branches (c .before .before .before .before .before .before .before .before .args .table .now) (c .before .before .before .before .before .before .before .before .pre .0 .accepted), c .before .before .before .before .before .before .before .before .pre .2)
+add-b c =
+    omega (
+      arith,
+      c .before .before .loop-test .taken,
+      few-branches (c .before .before .before .before .before .before .before .before .args .table .now)
+          (c .before .before .before .before .before .before .before .before .pre .0 .accepted),
+      c .before .before .before .before .before .before .before .before .pre .2,
+    )
 
 loop-less : tie.Need-loop-less Inv-loop μ-loop
 loop-less c = omega (arith, c .before .before .loop-test .taken)
@@ -113,7 +121,8 @@ loop-again c =
     let w = a .table .now in
     let l = c .before .before .before .loop in
     let g = silentsAt w (a .n) in (
-      part-more (ofTable w) _ (state (l .out) (l .q)) _ _ (l .inv .0 ∙ ap (put w (l .out) (l .q)) (flat-more g (l .b) (a .end) (c .before .before .loop-test .taken))) _ (turn c),
+      part-more (ofTable w) _ (state (l .out) (l .q)) _ _
+          (l .inv .0 ∙ ap (put w (l .out) (l .q)) (flat-more g (l .b) (a .end) (c .before .before .loop-test .taken))) _ (turn c),
       state-length w (l .out) _ (l .q) _ _ (turn c) ∙ l .inv .1,
     )
 

@@ -1,5 +1,5 @@
 -- `builder::nodes::stop` meets its contract.
-use mathlib.Core.Path.{_≡_, refl, sym, ap, subst, _∙_}
+use mathlib.Core.Path.{sym, ap, subst, _∙_}
 use mathlib.Core.List.{List}
 use Prim.Native.Nat.{ℕ}
 use native.Mathlib.Omega.{arith}
@@ -12,14 +12,17 @@ use Rattle.builder.proofs.HeldChains.{held-taken, held-room, held-bound
 use borrow.Author.Needs.{needs}
 use Rattle.builder.proofs.nodes.stop.Statement.{statement}
 use Rattle.builder.proofs.nodes.stop.Tie as tie
-use Rattle.builder.proofs.nodes.stop.Reads as reads
-use Rattle.builder.proofs.nodes.stop.Lts as lts
 use Rattle.builder.proofs.chain.release_all.Reads as release-all-reads
 use Rattle.lists.proofs.word32.Reads as word32-reads
 use Rattle.table.proofs.index.held_names.Reads as held-names-reads
 
 cast-held-names : tie.Need-cast-held-names
-cast-held-names c = omega (arith, few-nodes (c .before .before .before .before .before .before .args .table .now) (c .before .before .before .before .before .before .pre .0 .accepted), c .before .before .before .before .before .before .pre .2)
+cast-held-names c = omega (
+  arith,
+  few-nodes (c .before .before .before .before .before .before .args .table .now)
+      (c .before .before .before .before .before .before .pre .0 .accepted),
+  c .before .before .before .before .before .before .pre .2,
+)
 
 slice-aggregate-held-names : tie.Need-slice-aggregate-held-names
 slice-aggregate-held-names c = search needs
@@ -51,7 +54,8 @@ release-all-requires c κs =
     let f = stop-few w (a .owners .now) (a .homes .now) (p .0) (a .n) (p .2) (a .spots .now) (p .1 .spotted) _ _ (r .result) (r .ensures) (p .3) in
     let t = held-taken w (a .owners .now) (a .homes .now) (p .0) (a .n) (p .2) _ _ (r .result) (r .ensures) f in (
       p .1 .rowed,
-      stop-chained w (a .owners .now) (a .homes .now) (p .0) (a .n) (p .2) (a .spots .now) (p .1 .spotted) _ _ (r .result) (r .ensures) (p .3) (c .before .before .word32 .result) (c .before .before .word32 .ensures .is),
+      stop-chained w (a .owners .now) (a .homes .now) (p .0) (a .n) (p .2) (a .spots .now) (p .1 .spotted) _ _ (r .result) (r .ensures) (p .3)
+          (c .before .before .word32 .result) (c .before .before .word32 .ensures .is),
       held-room w (a .owners .now) (a .homes .now) (p .0) (a .n) (p .2) _ _ (r .result) (r .ensures) f,
       omega arith,
       held-bounded w (a .owners .now) (a .homes .now) (p .0) (a .n) (p .2) _ _ (r .result) (r .ensures) f,
