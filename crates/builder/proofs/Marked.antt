@@ -19,7 +19,7 @@ use Rattle.table.specs.Words.{publics, bounds, names, nodes, threads, root, ent
 use Rattle.table.specs.Scheme.{Scheme, scheme}
 use Rattle.table.specs.Causes.{cause}
 use Rattle.table.proofs.Accepted.{accepted}
-use Rattle.builder.specs.Values.{allValues, valuesOf, privateValuesOf}
+use Rattle.builder.specs.Values.{allValues, privateValuesOf}
 use Rattle.builder.specs.Places.{controls}
 use Rattle.builder.specs.Rows.{freeStart}
 use Rattle.builder.specs.Inner.Arcs.{insert, startsAt, initialNumbers}

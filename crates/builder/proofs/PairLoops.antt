@@ -1,11 +1,11 @@
 -- The communications of a send and a receive: a loop over channel values, and in it one over sent values.
-use mathlib.Core.Path.{_≡_, refl, sym, ap, subst, _∙_}
-use mathlib.Core.Bool.{Bool, true, false, _&&_}
-use mathlib.Core.List.{List, [], _∷_, _++_, map}
+use mathlib.Core.Path.{_≡_, sym, subst, _∙_}
+use mathlib.Core.Bool.{true, false, _&&_}
+use mathlib.Core.List.{List, [], _∷_, map}
 use Prim.Native.Nat.{ℕ, _+_, _≤_, _<_}
 use native.Mathlib.Omega.{arith}
 use lib.ListN.{length, drop}
-use Rattle.lists.specs.Lists.{pick, same, word, keep, flat, member}
+use Rattle.lists.specs.Lists.{same, word, flat, member}
 use Rattle.lists.proofs.Tests.{same-yes, same-no, same-true, and-left, and-right}
 use Rattle.lists.proofs.Members.{member-keep}
 use Rattle.table.specs.Words.{publics, bounds, names, branchKind, channel, branchName}
@@ -13,7 +13,7 @@ use Rattle.table.specs.Scheme.{scheme}
 use Rattle.builder.specs.Transitions.{Description, common, sentOn}
 use Rattle.builder.specs.Inner.Writing
 use Rattle.builder.specs.Inner.Writing.{putAll, Inside}
-use Rattle.builder.specs.Inner.Plan.{today, values, ofTable, told, pairTold, Rowed, Paired, Reads, Lists, InBoth, reached}
+use Rattle.builder.specs.Inner.Plan.{today, values, ofTable, told, sentTold, pairTold, Rowed, Paired, Reads, Lists, InBoth, reached}
 use Rattle.builder.specs.declared.layout.Layout.{Layout}
 use Rattle.builder.specs.declared.layout.Reach.{Reach}
 use Rattle.builder.specs.declared.communications.Pair.{Pair}
@@ -34,10 +34,6 @@ module _ (w rows : List ℕ) (plan : Layout) (k : Rowed w rows plan) (r : Reach)
     omega (arith, k .privates-are, k .few-bounds),
     omega (arith, e),
   )
-
--- all sent values of a pair for channel value i
-abbrev pub pairSent : List ℕ → Pair → ℕ → List Description
-pairSent w p i = map (told w (p .send) (p .receive) i) (sentOn (scheme w) (today w) (channel w (p .send)) (branchName w (p .send)) i)
 
 module _ (w rows : List ℕ) (plan : Layout) (k : Rowed w rows plan) (p : Pair) (q : Paired w p) where
   not-silent : (b n : ℕ) → branchKind w b ≡ n → 1 ≤ n → branchKind w b ≡ 0 → ⊥
@@ -62,7 +58,7 @@ module _ (w rows : List ℕ) (plan : Layout) (k : Rowed w rows plan) (p : Pair) 
   toldAt i j = told w (p .send) (p .receive) i j
 
   abbrev sentAt : ℕ → List Description
-  sentAt = pairSent w p
+  sentAt = sentTold w (p .send) (p .receive)
 
   -- ---- the loop over sent values
 

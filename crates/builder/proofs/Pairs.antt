@@ -6,20 +6,19 @@ use Prim.Native.Nat.{ℕ, _+_, _≤_, _<_}
 use native.Mathlib.Decide.{decLe}
 use native.Mathlib.Omega.{arith}
 use lib.ListN.{length, take}
-use Rattle.lists.specs.Lists.{pick, from, range, member, ascends}
+use Rattle.lists.specs.Lists.{range, member}
 use Rattle.lists.proofs.Tests.{same-true}
 use Rattle.lists.proofs.Ranges.{from-member, member-from, from-append}
 use Rattle.lists.proofs.Members.{one-member}
-use Rattle.table.specs.Words.{publics, bounds, names, nodes, branches, branchKind, channel, branchName, next, isSend, isReceive}
+use Rattle.table.specs.Words.{publics, bounds, names, nodes, branches, branchKind, channel, branchName, next}
 use Rattle.table.specs.Owners.{home}
-use Rattle.table.specs.Scheme.{Scheme, Branch, send, receive, present, nextNode, scheme}
+use Rattle.table.specs.Scheme.{Scheme, send, receive, present, nextNode, scheme}
 use Rattle.table.specs.Causes.{cause}
 use Rattle.table.proofs.Accepted.{accepted}
 use Rattle.builder.specs.Values.{allValues}
 use Rattle.builder.specs.Places.{Place, equals, differs, control, places}
 use Rattle.builder.specs.Rows.{numberOf, IsBound, Exists, has-differs, has-control}
-use Rattle.builder.specs.Inner.Arcs.{insert, inputPlaces, outputPlaces, exists, numbersOf}
-use Rattle.builder.specs.Inner.Writing
+use Rattle.builder.specs.Inner.Arcs.{insert, exists, numbersOf}
 use Rattle.builder.specs.Inner.Writing.{putOne, putAll, Inside}
 use Rattle.builder.specs.Inner.Plan.{today, values, controlOf, Holds, Reads, Differs, ofTable, state, put, told, Paired, arrow, Rising, Inserted}
 use Rattle.builder.specs.declared.write.Heads.{Heads}

@@ -18,7 +18,7 @@ use Rattle.net.specs.Net.{Transition}
 use Rattle.builder.specs.Transitions.{Description, ofPair}
 use Rattle.builder.specs.Inner.Writing
 use Rattle.builder.specs.Inner.Writing.{putAll, Inside}
-use Rattle.builder.specs.Inner.Plan.{today, controlOf, state, put, pairTold, Spotted, Defined, Paired}
+use Rattle.builder.specs.Inner.Plan.{today, state, pairTold, withBranch, withAll, Spotted, Defined, Paired}
 use Rattle.builder.specs.declared.write.Heads.{Heads}
 use Rattle.builder.proofs.Writing.{put-none, put-append, inside-first}
 use Rattle.builder.proofs.Controls.{nodes-are}
@@ -52,12 +52,6 @@ pub same-state : (out after : List ℕ) (h q : Heads) → after ≡ out → q �
 same-state out after h q e k = rw (e, k)
 
 -- ---- the communications of a send with one branch, and with all
-
-abbrev pub withBranch : List ℕ → ℕ → ℕ → List Description
-withBranch w s r = ofPair (scheme w) (today w) s (scheme w .branch s) r (scheme w .branch r)
-
-abbrev pub withAll : List ℕ → ℕ → List Description
-withAll w s = flat (withBranch w s) (range (branches w))
 
 not-receive : (w : List ℕ) (r : ℕ) → r < branches w → (branchKind w r ≡ 2 → ⊥)
     → scheme w .branch r ≡ pick (isSilent w r) (silent (next w r)) (pick (isSend w r) (send (channel w r) (branchName w r) (next w r)) absent)

@@ -1,15 +1,11 @@
 // The communications.
 ghost use mathlib.Core.Bool.{true};
 ghost use mathlib.Core.Path.{_≡_};
-ghost use mathlib.Core.List.{[], _∷_, map};
+ghost use mathlib.Core.List.{[], _∷_};
 ghost use Prim.Native.Nat.{_+_, _-_, _<_};
-ghost use Rattle.lists.specs.Lists.{range, flat};
-ghost use Rattle.table.specs.Words.{publics, names, branches, channel, branchName};
-ghost use Rattle.table.specs.Words.{isSend};
-ghost use Rattle.table.specs.Scheme.{scheme};
-ghost use Rattle.builder.specs.Transitions.{ofPair, sentOn};
+ghost use Rattle.table.specs.Words.{branches, channel, branchName, isSend};
 ghost use Rattle.builder.specs.Inner.Writing.{Inside};
-ghost use Rattle.builder.specs.Inner.Plan.{today, values, put, state, told, pairTold};
+ghost use Rattle.builder.specs.Inner.Plan.{put, state, told, sentTold, pairTold, withAll, allTold};
 ghost use Rattle.builder.specs.Inner.Plan.{Rowed, Laid, Defined, Paired};
 ghost use Rattle.builder.specs.Inner.Plan.{Reads};
 use crate::count::common;
@@ -102,9 +98,9 @@ fn sent(
 ) -> Heads
     requires { ⌜ Rowed (now table) (now rows) plan × Paired (now table) p
         × Reads (now table) (channel (now table) (p .send)) i × Reads (now table) (channel (now table) (p .receive)) i
-        × Inside (put (now table) (now out) h (map (told (now table) (p .send) (p .receive) i) (sentOn (scheme (now table)) (today (now table)) (channel (now table) (p .send)) (branchName (now table) (p .send)) i))) ⌝ }
+        × Inside (put (now table) (now out) h (sentTold (now table) (p .send) (p .receive) i)) ⌝ }
     ensures { λ r. ⌜ state (now (out .exit)) r
-        ≡ put (now (table .entry)) (now (out .entry)) h (map (told (now (table .entry)) (p .send) (p .receive) i) (sentOn (scheme (now (table .entry))) (today (now (table .entry))) (channel (now (table .entry)) (p .send)) (branchName (now (table .entry)) (p .send)) i)) ⌝ }
+        ≡ put (now (table .entry)) (now (out .entry)) h (sentTold (now (table .entry)) (p .send) (p .receive) i) ⌝ }
 {
     if p.sent == p.channel {
         return communicate(table, rows, plan, out, h, p, i, i);
@@ -150,9 +146,9 @@ fn partners(
 ) -> Heads
     requires { ⌜ Defined (now table) (now homes) (now definitions) × Laid (now table) (now rows) (now spots) plan
         × (send < branches (now table)) × (isSend (now table) send ≡ true)
-        × Inside (put (now table) (now out) h (flat (λ r. ofPair (scheme (now table)) (today (now table)) send (scheme (now table) .branch send) r (scheme (now table) .branch r)) (range (branches (now table))))) ⌝ }
+        × Inside (put (now table) (now out) h (withAll (now table) send)) ⌝ }
     ensures { λ r. ⌜ state (now (out .exit)) r
-        ≡ put (now (table .entry)) (now (out .entry)) h (flat (λ r. ofPair (scheme (now (table .entry))) (today (now (table .entry))) send (scheme (now (table .entry)) .branch send) r (scheme (now (table .entry)) .branch r)) (range (branches (now (table .entry))))) ⌝ }
+        ≡ put (now (table .entry)) (now (out .entry)) h (withAll (now (table .entry)) send) ⌝ }
 {
     let branches = word16(table, 5);
     let own = thread_of(table, homes, definitions, send);
@@ -192,9 +188,9 @@ pub(crate) fn communications(
     h: Heads,
 ) -> Heads
     requires { ⌜ Defined (now table) (now homes) (now definitions) × Laid (now table) (now rows) (now spots) plan
-        × Inside (put (now table) (now out) h (flat (λ s. flat (λ r. ofPair (scheme (now table)) (today (now table)) s (scheme (now table) .branch s) r (scheme (now table) .branch r)) (range (branches (now table)))) (range (branches (now table))))) ⌝ }
+        × Inside (put (now table) (now out) h (allTold (now table))) ⌝ }
     ensures { λ r. ⌜ state (now (out .exit)) r
-        ≡ put (now (table .entry)) (now (out .entry)) h (flat (λ s. flat (λ r. ofPair (scheme (now (table .entry))) (today (now (table .entry))) s (scheme (now (table .entry)) .branch s) r (scheme (now (table .entry)) .branch r)) (range (branches (now (table .entry))))) (range (branches (now (table .entry))))) ⌝ }
+        ≡ put (now (table .entry)) (now (out .entry)) h (allTold (now (table .entry))) ⌝ }
 {
     let branches = word16(table, 5);
     let mut q = h;

@@ -15,7 +15,7 @@ use Rattle.net.specs.Net.{Transition}
 use Rattle.builder.specs.Values.{Values, allValues, valuesOf, privateValuesOf}
 use Rattle.builder.specs.Places.{places, controls}
 use Rattle.builder.specs.Rows.{rowStart, freeStart, controlStart}
-use Rattle.builder.specs.Transitions.{Description, making, communicating, common, sentOn}
+use Rattle.builder.specs.Transitions.{Description, making, communicating, common, sentOn, ofPair}
 use Rattle.builder.specs.Image.{transitionOf}
 use Rattle.builder.specs.Inner.Arcs.{insert, initialNumbers, startsAt}
 use Rattle.builder.specs.Inner.Writing
@@ -154,6 +154,20 @@ made w n v = making (scheme w) (today w) n (nodeFirst w n) (nodeSecond w n) v
 abbrev pub told : List ℕ → ℕ → ℕ → ℕ → ℕ → Description
 told w s r i j =
     communicating (scheme w) (today w) s (channel w s) (branchName w s) (next w s) r (channel w r) (branchName w r) (next w r) i j
+
+-- their communications at one channel value
+abbrev pub sentTold : List ℕ → ℕ → ℕ → ℕ → List Description
+sentTold w s r i = map (told w s r i) (sentOn (scheme w) (today w) (channel w s) (branchName w s) i)
+
+-- the communications of a branch with another one, with all, and of all
+abbrev pub withBranch : List ℕ → ℕ → ℕ → List Description
+withBranch w s r = ofPair (scheme w) (today w) s (scheme w .branch s) r (scheme w .branch r)
+
+abbrev pub withAll : List ℕ → ℕ → List Description
+withAll w s = flat (withBranch w s) (range (branches w))
+
+abbrev pub allTold : List ℕ → List Description
+allTold w = flat (withAll w) (range (branches w))
 
 -- a send and a receive, the names that they use, and the places before and after them
 pub record Paired (w : List ℕ) (p : Pair) : Type 0 where

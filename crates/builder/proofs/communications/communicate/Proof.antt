@@ -1,16 +1,16 @@
 -- `builder::communications::communicate` meets its contract: the numbers of the places that the pair names are put in one after the other, those that
 -- the net has not are left out, and one transition is written. No loop.
 use mathlib.Core.Logic.{⊎-elim}
-use mathlib.Core.Path.{_≡_, refl, sym, ap, _∙_}
+use mathlib.Core.Path.{refl, sym, ap, _∙_}
 use mathlib.Core.List.{List, [], _∷_}
-use Prim.Native.Nat.{ℕ, _≤_, _<_}
+use Prim.Native.Nat.{ℕ, _≤_}
 use native.Mathlib.Omega.{arith}
 use lib.ListN.{length}
-use Rattle.table.specs.Words.{publics, next}
+use Rattle.table.specs.Words.{next}
 use Rattle.table.specs.Owners.{home}
 use Rattle.builder.specs.Places.{Place, equals, differs, control}
 use Rattle.builder.specs.Inner.Plan.{Rising}
-use Rattle.builder.proofs.Pairs.{Filled, Speaks, fill-none, fill-rising, speaks, reads-holds, readOf, takesOf, givesOf, read-bound, read-public}
+use Rattle.builder.proofs.Pairs.{Filled, Speaks, fill-none, fill-rising, speaks, reads-holds, takesOf, givesOf, read-bound, read-public}
 use Rattle.builder.proofs.Pairs.{joined, take-private, take-public, give, move-at, home-inside, send-next, receive-next, told-put, told-inside}
 use borrow.Author.Needs.{needs}
 use Rattle.builder.proofs.communications.communicate.Statement.{statement}

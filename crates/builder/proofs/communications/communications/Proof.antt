@@ -1,8 +1,7 @@
 -- `builder::communications::communications` meets its contract. Loop: the communications of the sends left are still to be written. Measure: branches left.
 use mathlib.Core.Logic.{⊎-elim}
 use mathlib.Core.Path.{_≡_, refl, sym, ap, subst, _∙_}
-use mathlib.Core.List.{List}
-use Prim.Native.Nat.{ℕ, _+_, _-_, _≤_, _<_}
+use Prim.Native.Nat.{ℕ, _-_, _<_}
 use native.Mathlib.Nat.{sub-zero}
 use native.Mathlib.Omega.{arith}
 use borrow.Author.Needs.{needs}
@@ -11,8 +10,8 @@ use Rattle.lists.specs.Lists.{from, range, flat}
 use Rattle.lists.proofs.Tests.{same-yes}
 use Rattle.table.specs.Words.{branches, branchKind}
 use Rattle.builder.specs.Inner.Writing.{Inside}
-use Rattle.builder.specs.Inner.Plan.{ofTable, state, put}
-use Rattle.builder.proofs.Partners.{flat-done, flat-inside, flat-more, flat-skip, same-state, withAll, no-send}
+use Rattle.builder.specs.Inner.Plan.{ofTable, state, put, withAll}
+use Rattle.builder.proofs.Partners.{flat-done, flat-inside, flat-more, flat-skip, same-state, no-send}
 use Rattle.builder.proofs.communications.communications.Statement.{statement}
 use Rattle.builder.proofs.communications.communications.Tie as tie
 

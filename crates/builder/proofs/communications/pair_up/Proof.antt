@@ -1,7 +1,7 @@
 -- `builder::communications::pair_up` meets its contract. Loop: the communications of the channel values left are still to be written. Measure: values left.
 use mathlib.Core.Path.{_≡_, refl, sym, ap, subst, _∙_}
-use mathlib.Core.List.{List, map}
-use Prim.Native.Nat.{ℕ, _+_, _-_, _≤_, _<_}
+use mathlib.Core.List.{List}
+use Prim.Native.Nat.{ℕ, _-_}
 use native.Mathlib.Omega.{arith}
 use borrow.Author.Needs.{needs}
 use lib.ListN.{length, drop}
@@ -10,16 +10,16 @@ use Rattle.table.specs.Words.{publics, bounds}
 use Rattle.table.specs.Scheme.{scheme}
 use Rattle.builder.specs.Transitions.{Description, common}
 use Rattle.builder.specs.Inner.Writing.{Inside}
-use Rattle.builder.specs.Inner.Plan.{today, state, put, Lists}
-use Rattle.builder.proofs.PairLoops.{pairSent, values-few, value-inside, channel-high, heard-high, both-lists, pair-is, pair-done}
+use Rattle.builder.specs.Inner.Plan.{today, state, put, sentTold, Lists}
+use Rattle.builder.proofs.PairLoops.{values-few, value-inside, channel-high, heard-high, both-lists, pair-is, pair-done}
 use Rattle.builder.proofs.PairLoops.{pair-needs, pair-more}
 use Rattle.builder.proofs.communications.pair_up.Statement.{statement}
 use Rattle.builder.proofs.communications.pair_up.Tie as tie
 
 abbrev Inv-loop : tie.InvT-loop
 Inv-loop table rows plan out₀ p i count q₀ k₀ out q k =
-    (put table out₀ q₀ (flat (pairSent table p) (common (scheme table) (today table) (p .channel) (p .heard)))
-    ≡ put table out q (flat (pairSent table p) (drop k (common (scheme table) (today table) (p .channel) (p .heard)))))
+    (put table out₀ q₀ (flat (sentTold table (p .send) (p .receive)) (common (scheme table) (today table) (p .channel) (p .heard)))
+    ≡ put table out q (flat (sentTold table (p .send) (p .receive)) (drop k (common (scheme table) (today table) (p .channel) (p .heard)))))
     × (length out ≡ length out₀)
 
 abbrev μ-loop : tie.MeasureT-loop
@@ -41,7 +41,7 @@ lists c =
     (c .before .before .reach-of .ensures) (c .before .reach-of2 .ensures) (c .common .ensures)
 
 inside : (s : tie.Start Inv-loop μ-loop) → Inside (put (s .args .table .now) (s .args .out .now) (s .args .h)
-    (flat (pairSent (s .args .table .now) (s .args .p)) (both s)))
+    (flat (sentTold (s .args .table .now) (s .args .p .send) (s .args .p .receive)) (both s)))
 inside s =
     let a = s .args in
     let w = a .table .now in

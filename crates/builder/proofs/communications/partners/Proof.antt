@@ -1,8 +1,8 @@
 -- `builder::communications::partners` meets its contract. Loop: the communications with the branches left are still to be written. Measure: branches left.
 use mathlib.Core.Logic.{⊎-elim}
 use mathlib.Core.Path.{_≡_, refl, sym, ap, subst, _∙_}
-use mathlib.Core.List.{List, map}
-use Prim.Native.Nat.{ℕ, _+_, _-_, _≤_, _<_}
+use mathlib.Core.List.{List}
+use Prim.Native.Nat.{ℕ, _-_, _<_}
 use native.Mathlib.Nat.{sub-zero}
 use native.Mathlib.Omega.{arith}
 use borrow.Author.Needs.{needs}
@@ -13,8 +13,8 @@ use Rattle.table.specs.Words.{branches, branchKind}
 use Rattle.table.specs.Owners.{branchThread}
 use Rattle.builder.specs.Transitions.{Description}
 use Rattle.builder.specs.Inner.Writing.{Inside}
-use Rattle.builder.specs.Inner.Plan.{ofTable, state, put}
-use Rattle.builder.proofs.Partners.{flat-done, flat-inside, flat-more, flat-skip, same-state, withBranch, withAll, partner-told, partner-same}
+use Rattle.builder.specs.Inner.Plan.{ofTable, state, put, withBranch, withAll}
+use Rattle.builder.proofs.Partners.{flat-done, flat-inside, flat-more, flat-skip, same-state, partner-told, partner-same}
 use Rattle.builder.proofs.Partners.{partner-none, pair-known}
 use Rattle.builder.proofs.communications.partners.Statement.{statement}
 use Rattle.builder.proofs.communications.partners.Tie as tie

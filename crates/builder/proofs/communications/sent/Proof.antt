@@ -1,14 +1,12 @@
 -- `builder::communications::sent` meets its contract. Loop: the communications of the values left are still to be written. Measure: values left.
 use mathlib.Core.Path.{_≡_, refl, sym, ap, subst, _∙_}
-use mathlib.Core.List.{List, [], _∷_, map}
-use Prim.Native.Nat.{ℕ, _+_, _-_, _≤_, _<_}
+use mathlib.Core.List.{List, map}
+use Prim.Native.Nat.{_-_}
 use native.Mathlib.Omega.{arith}
-use borrow.Author.Needs.{needs}
 use lib.ListN.{length, drop}
-use Rattle.table.specs.Words.{publics, bounds}
 use Rattle.builder.specs.Transitions.{Description}
-use Rattle.builder.specs.Inner.Writing.{putAll, Inside}
-use Rattle.builder.specs.Inner.Plan.{values, told, ofTable, state, put, Lists}
+use Rattle.builder.specs.Inner.Writing.{Inside}
+use Rattle.builder.specs.Inner.Plan.{values, told, state, put}
 use Rattle.builder.proofs.PairLoops.{values-few, value-inside, sent-high, self-is, self-reads, other-is, sent-done, sent-needs, sent-more}
 use Rattle.builder.proofs.communications.sent.Statement.{statement}
 use Rattle.builder.proofs.communications.sent.Tie as tie

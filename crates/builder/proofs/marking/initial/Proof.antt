@@ -1,5 +1,4 @@
 -- `builder::marking::initial` meets its contract: rows, then [*≠n], then entries are written one behind the other.
-use mathlib.Core.Path.{_≡_}
 use native.Mathlib.Omega.{arith}
 use borrow.Author.Needs.{needs}
 use Rattle.builder.proofs.Marked.{rows-few, all-marked}

@@ -1,10 +1,9 @@
 -- `builder::marking::initial_rows` meets its contract. Loop: the marks of the names left are still to be written. Measure: names left.
 use mathlib.Core.Logic.{⊎-elim}
-use mathlib.Core.Path.{_≡_, refl, sym, ap, _∙_}
-use Prim.Native.Nat.{ℕ, _+_, _-_, _≤_, _<_}
+use mathlib.Core.Path.{_∙_}
+use Prim.Native.Nat.{_+_, _-_, _≤_, _<_}
 use native.Mathlib.Omega.{arith}
 use borrow.Author.Needs.{needs}
-use lib.ListN.{length}
 use Rattle.table.specs.Words.{names}
 use Rattle.builder.proofs.Names.{kind-restricted, kind-free}
 use Rattle.builder.proofs.Marked.{RowsTurn, rows-begin, rows-skip, rows-put, rows-room, rows-close}

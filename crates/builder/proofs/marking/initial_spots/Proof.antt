@@ -1,13 +1,10 @@
 -- `builder::marking::initial_spots` meets its contract. Loop: the places found are in order, those left are still to be put in. Measure: threads left.
-use mathlib.Core.Path.{_≡_, refl, sym, ap, _∙_}
-use Prim.Native.Nat.{ℕ, _+_, _-_, _≤_, _<_}
+use mathlib.Core.Path.{refl, sym, ap, _∙_}
+use Prim.Native.Nat.{_-_}
 use native.Mathlib.Omega.{arith}
 use borrow.Author.Needs.{needs}
-use mathlib.Core.List.{List}
-use lib.ListN.{length}
 use Rattle.builder.specs.Inner.Writing.{writes}
-use Rattle.builder.proofs.Writing.{writes-length}
-use Rattle.builder.proofs.Marked.{SpotsTurn, spots-begin, spots-put, spots-room, spots-few, spots-close, few-threads}
+use Rattle.builder.proofs.Marked.{SpotsTurn, spots-begin, spots-put, spots-room, spots-few, spots-close}
 use Rattle.builder.proofs.marking.initial_spots.Statement.{statement}
 use Rattle.builder.proofs.marking.initial_spots.Tie as tie
 
