@@ -8,3 +8,4 @@ pub mod Forming
 pub mod Labelling
 pub mod Taking
 pub mod Stepping
+pub mod Listed

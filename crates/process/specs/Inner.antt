@@ -1,3 +1,4 @@
 pub mod Index
 pub mod Values
 pub mod Codes
+pub mod Listed

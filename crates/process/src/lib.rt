@@ -4,6 +4,7 @@
 // a refusal leaves the output as it was.
 mod formed;
 mod labels;
+mod listing;
 mod next;
 mod threads;
 mod values;

@@ -1,0 +1,67 @@
+-- `process::listing::gather_branch` meets its contract.
+use mathlib.Core.Path.{_≡_, refl, sym, ap, _∙_}
+use borrow.Author.Tests.{not-true, not-false}
+use Rattle.table.specs.Scheme.{scheme}
+use Rattle.process.specs.StateWords.{stateOf}
+use Rattle.process.proofs.Decoding.{home-same}
+use Rattle.process.proofs.Labelling.{stand-there}
+use Rattle.process.proofs.Listed.{none-listed, one-listed, standing-other, standing-away, standing-there}
+use borrow.Author.Needs.{needs}
+use Rattle.process.proofs.listing.gather_branch.Statement.{statement}
+use Rattle.process.proofs.listing.gather_branch.Tie as tie
+
+branch-is-requires : tie.Need-branch-is-requires
+branch-is-requires c κs = search needs
+
+returns : tie.Need-returns
+returns c =
+    let a = c .before .before .before .before .before .before .before .args in
+    rw (standing-other (a .table .now) (stateOf (scheme (a .table .now)) (a .state .now)) (a .kind) (a .branch) (sym (c .before .branch-is .ensures) ∙ not-true _ (c .if1 .taken))) (none-listed _ _ _)
+
+word32-requires : tie.Need-word32-requires
+word32-requires c κs = search needs
+
+stands-requires : tie.Need-stands-requires
+stands-requires c κs = search needs
+
+returns-2 : tie.Need-returns-2
+returns-2 c =
+    let a = c .before .before .before .before .before .before .before .before .before .before .args in
+    let s = stateOf (scheme (a .table .now)) (a .state .now) in
+    let h = stand-there (scheme (a .table .now)) s _ _ _ (c .before .before .word32 .ensures .is ∙ home-same _ _ _ (c .before .before .before .before .before .before .before .before .before .before .pre .0) (a .branch)) (c .before .stands .ensures) in
+    rw (standing-away (a .table .now) s (a .kind) (a .branch) (sym h ∙ not-true _ (c .if2 .taken))) (none-listed _ _ _)
+
+cast-store32 : tie.Need-cast-store32
+cast-store32 c = search needs
+
+store32-requires : tie.Need-store32-requires
+store32-requires c κs = search needs
+
+add-result : tie.Need-add-result
+add-result c = search needs
+
+same-length : tie.Need-same-length
+same-length c = search needs
+
+returns-3 : tie.Need-returns-3
+returns-3 c =
+    let a = c .before .before .before .before .before .before .before .before .before .before .before .before .before .before .args in
+    let s = stateOf (scheme (a .table .now)) (a .state .now) in
+    let h = stand-there (scheme (a .table .now)) s _ _ _ (c .before .before .before .before .before .before .word32 .ensures .is ∙ home-same _ _ _ (c .before .before .before .before .before .before .before .before .before .before .before .before .before .before .pre .0) (a .branch)) (c .before .before .before .before .before .stands .ensures) in
+    rw (standing-there (a .table .now) s (a .kind) (a .branch) (sym (c .before .before .before .before .before .before .before .before .branch-is .ensures) ∙ not-false _ (c .before .before .before .before .before .before .before .if1 .left)) (sym h ∙ not-false _ (c .before .before .before .before .if2 .left)))
+    (one-listed _ _ _ _ (c .before .before .store32 .ensures))
+
+pub gather-branch-spec : {M : Type 1} → statement M
+gather-branch-spec =
+    tie.close
+    (tie.spec
+    branch-is-requires
+    returns
+    word32-requires
+    stands-requires
+    returns-2
+    cast-store32
+    store32-requires
+    add-result
+    same-length
+    returns-3)

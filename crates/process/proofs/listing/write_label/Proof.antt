@@ -1,0 +1,43 @@
+-- `process::listing::write_label` meets its contract.
+use mathlib.Core.Path.{_≡_, refl, sym, ap, _∙_}
+use Rattle.process.proofs.Listed.{three-listed}
+use borrow.Author.Needs.{needs}
+use Rattle.process.proofs.listing.write_label.Statement.{statement}
+use Rattle.process.proofs.listing.write_label.Tie as tie
+
+store32-requires : tie.Need-store32-requires
+store32-requires c κs = search needs
+
+add-store32 : tie.Need-add-store32
+add-store32 c = search needs
+
+store32-requires-2 : tie.Need-store32-requires-2
+store32-requires-2 c κs = search needs
+
+add-store32-2 : tie.Need-add-store32-2
+add-store32-2 c = search needs
+
+store32-requires-3 : tie.Need-store32-requires-3
+store32-requires-3 c κs = search needs
+
+add-result : tie.Need-add-result
+add-result c = search needs
+
+same-length : tie.Need-same-length
+same-length c = search needs
+
+returns : tie.Need-returns
+returns c = three-listed _ _ _ _ _ _ _ _ (c .before .before .before .before .before .before .before .before .before .before .store32 .ensures) (c .before .before .before .before .before .before .store322 .ensures) (c .before .before .store323 .ensures)
+
+pub write-label-spec : {M : Type 1} → statement M
+write-label-spec =
+    tie.close
+    (tie.spec
+    store32-requires
+    add-store32
+    store32-requires-2
+    add-store32-2
+    store32-requires-3
+    add-result
+    same-length
+    returns)

@@ -1,0 +1,80 @@
+-- Labels written one after another, and branches gathered, as far as a buffer reaches.
+use mathlib.Core.Path.{_≡_}
+use mathlib.Core.Bool.{Bool, true, false, _&&_}
+use mathlib.Core.List.{List, [], _∷_, _++_}
+use Prim.Native.Nat.{ℕ, _+_, _≤_, _<_}
+use lib.Dec.{ltb}
+use lib.ListN.{length}
+use lib.Seq.{sets, slice}
+use Rattle.lists.specs.Lists.{pick, same, range, flat}
+use Rattle.table.specs.Words.{branches, branchKind}
+use Rattle.table.specs.Scheme.{Scheme, scheme}
+use Rattle.table.specs.Kinds.{isSilent}
+use Rattle.process.specs.States.{State}
+use Rattle.process.specs.Steps.{communication, isOpen, standsAt}
+use Rattle.process.specs.Labels.{labelOf, stepsOfNode}
+use Rattle.process.specs.StateWords.{stateOf}
+use Rattle.process.specs.Inner.Index.{Indexed}
+
+-- the words are written from place i on, as far as the buffer reaches; the next place is r, not far from i
+pub record Listed (most : ℕ) (words before : List ℕ) (i : ℕ) (after : List ℕ) (r : ℕ) : Type 0 where
+  pub written : after ≡ sets before i words
+  pub next : r ≡ i + length words
+  pub few : r ≤ i + most
+
+-- a place to write at lies far below what a number can be; one where many words follow lies nearer
+abbrev pub far : ℕ
+far = 1000000000000000
+
+abbrev pub near : ℕ
+near = 100000000000000
+
+module _ (S : Scheme) where
+  -- the label of a branch, if it is silent
+  unfoldable pub silentWords : ℕ → List ℕ
+  silentWords b = pick (isSilent (S .branch b)) (3 ∷ b ∷ 0 ∷ []) []
+
+  -- the labels of a node's steps
+  unfoldable pub stepWords : ℕ → List ℕ
+  stepWords n = flat (labelOf S) (stepsOfNode S n (S .node n))
+
+  module _ (s : State) where
+    -- these, if its thread stands at it
+    unfoldable pub nodeWords : ℕ → List ℕ
+    nodeWords n = pick (standsAt S s n) (stepWords n) []
+
+    -- the label of a communication, if it is open
+    unfoldable pub pairWords : ℕ → ℕ → List ℕ
+    pairWords b c = pick (isOpen S s (communication b c)) (4 ∷ b ∷ c ∷ []) []
+
+    -- the labels of a send with each of the receives, and of each of the sends
+    unfoldable pub pairsWords : List ℕ → ℕ → List ℕ
+    pairsWords receives b = flat (pairWords b) receives
+
+    unfoldable pub meetingWords : List ℕ → List ℕ → List ℕ
+    meetingWords sends receives = flat (pairsWords receives) sends
+
+    -- all of them
+    unfoldable pub listWords : List ℕ → List ℕ → List ℕ
+    listWords sends receives = flat nodeWords (range (S .nodes)) ++ meetingWords sends receives
+
+-- a branch of the kind whose thread stands at its node
+unfoldable pub standing : List ℕ → State → ℕ → ℕ → List ℕ
+standing w s kind b = pick ((ltb b (branches w) && same (branchKind w b) kind) && standsAt (scheme w) s (scheme w .home b)) (b ∷ []) []
+
+-- the first words of a buffer hold branches
+pub record Gathered (buffer : List ℕ) (count : ℕ) : Type 0 where
+  pub reach : count ≤ length buffer
+  pub few : count ≤ 256
+
+-- the index of an accepted table, a place to write at, and the receives gathered
+pub record Pairing (w homes definitions receives : List ℕ) (count i : ℕ) : Type 0 where
+  pub indexed : Indexed w homes definitions
+  pub gathered : Gathered receives count
+  pub room : i < near
+
+-- the index, a place, and both gathered
+pub record Meeting (w homes definitions sends : List ℕ) (s : ℕ) (receives : List ℕ) (r : ℕ) : Type 0 where
+  pub indexed : Indexed w homes definitions
+  pub sends-gathered : Gathered sends s
+  pub receives-gathered : Gathered receives r

@@ -1,0 +1,283 @@
+// The open steps of a state, listed as labels of three words.
+//
+// The sends and the receives of the nodes where threads stand are gathered once; only they are tried against each other.
+ghost use mathlib.Core.Path.{_≡_};
+ghost use mathlib.Core.List.{[], _∷_};
+ghost use Prim.Native.Nat.{_+_, _≤_, _<_};
+ghost use lib.Seq.{slice};
+ghost use Rattle.lists.specs.Lists.{from, range, flat};
+ghost use Rattle.table.specs.Words.{nodes, branches};
+ghost use Rattle.table.specs.Scheme.{scheme};
+ghost use Rattle.process.specs.StateWords.{stateOf};
+ghost use Rattle.process.specs.Inner.Index.{Indexed};
+ghost use Rattle.process.specs.Inner.Listed.{Listed, far, near, silentWords, stepWords, nodeWords, pairWords, pairsWords, meetingWords, listWords, standing, Pairing, Meeting};
+use crate::labels::can_meet;
+use crate::labels::stands;
+use crate::threads::branch_is;
+use crate::threads::node_is;
+use lists::store32;
+use lists::word16;
+use lists::word32;
+use table::fields::field3;
+
+// Writes a label; where the next one goes.
+fn write_label(out: &mut [u32], at: usize, kind: u32, a: u32, b: u32) -> usize
+    requires { ⌜ at < far ⌝ }
+    ensures { λ r. ⌜ Listed 3 (kind ∷ a ∷ b ∷ []) (now (out .entry)) at (now (out .exit)) r ⌝ }
+{
+    store32(out, at, kind);
+    store32(out, at + 1, a);
+    store32(out, at + 2, b);
+    at + 3
+}
+
+fn list_branch(table: &[u16], branch: usize, at: usize, out: &mut [u32]) -> usize
+    requires { ⌜ (branch < 4294967296) × (at < far) ⌝ }
+    ensures { λ r. ⌜ Listed 3 (silentWords (scheme (now (table .entry))) branch) (now (out .entry)) at (now (out .exit)) r ⌝ }
+{
+    if branch_is(table, branch, 0) {
+        return write_label(out, at, 3, branch as u32, 0);
+    }
+    at
+}
+
+fn list_branches(
+    table: &[u16],
+    first: usize,
+    count: usize,
+    at: usize,
+    out: &mut [u32],
+) -> usize
+    requires { ⌜ (first < 65536) × (count < 65536) × (at < near) ⌝ }
+    ensures { λ r. ⌜ Listed 196608 (flat (silentWords (scheme (now (table .entry)))) (from first count)) (now (out .entry)) at (now (out .exit)) r ⌝ }
+{
+    let end = first + count;
+    let mut b = first;
+    let mut next = at;
+    while b < end {
+        next = list_branch(table, b, next, out);
+        b += 1;
+    }
+    next
+}
+
+// The steps of a node: those of a New or a Call, or the silent branches of a Choice.
+fn list_steps(table: &[u16], node: usize, at: usize, out: &mut [u32]) -> usize
+    requires { ⌜ (node < 65536) × (at < near) ⌝ }
+    ensures { λ r. ⌜ Listed 196608 (stepWords (scheme (now (table .entry))) node) (now (out .entry)) at (now (out .exit)) r ⌝ }
+{
+    if node_is(table, node, 1) {
+        return list_branches(
+            table,
+            field3(table, 10, node, 1),
+            field3(table, 10, node, 2),
+            at,
+            out,
+        );
+    }
+    if node_is(table, node, 2) {
+        return write_label(out, at, 2, node as u32, field3(table, 10, node, 1) as u32);
+    }
+    if node_is(table, node, 3) {
+        return write_label(out, at, 5, node as u32, 0);
+    }
+    at
+}
+
+fn list_node(
+    table: &[u16],
+    homes: &[u32],
+    definitions: &[u16],
+    state: &[u16],
+    node: usize,
+    at: usize,
+    out: &mut [u32],
+) -> usize
+    requires { ⌜ Indexed (now table) (now homes) (now definitions) × (node < 65536) × (at < near) ⌝ }
+    ensures { λ r. ⌜ Listed 196608 (nodeWords (scheme (now (table .entry))) (stateOf (scheme (now (table .entry))) (now (state .entry))) node) (now (out .entry)) at (now (out .exit)) r ⌝ }
+{
+    if stands(table, homes, definitions, state, node) {
+        return list_steps(table, node, at, out);
+    }
+    at
+}
+
+fn list_nodes(
+    table: &[u16],
+    homes: &[u32],
+    definitions: &[u16],
+    state: &[u16],
+    out: &mut [u32],
+) -> usize
+    requires { ⌜ Indexed (now table) (now homes) (now definitions) ⌝ }
+    ensures { λ r. ⌜ Listed 12884901888 (flat (nodeWords (scheme (now (table .entry))) (stateOf (scheme (now (table .entry))) (now (state .entry)))) (range (nodes (now (table .entry))))) (now (out .entry)) 0 (now (out .exit)) r ⌝ }
+{
+    let nodes = word16(table, 4);
+    let mut n = 0;
+    let mut next = 0;
+    while n < nodes {
+        next = list_node(table, homes, definitions, state, n, next, out);
+        n += 1;
+    }
+    next
+}
+
+fn gather_branch(
+    table: &[u16],
+    homes: &[u32],
+    definitions: &[u16],
+    state: &[u16],
+    kind: usize,
+    branch: usize,
+    at: usize,
+    out: &mut [u32],
+) -> usize
+    requires { ⌜ Indexed (now table) (now homes) (now definitions) × (branch < 65536) × (at < far) ⌝ }
+    ensures { λ r. ⌜ Listed 1 (standing (now (table .entry)) (stateOf (scheme (now (table .entry))) (now (state .entry))) kind branch) (now (out .entry)) at (now (out .exit)) r ⌝ }
+{
+    if !branch_is(table, branch, kind) {
+        return at;
+    }
+    if !stands(table, homes, definitions, state, word32(homes, branch)) {
+        return at;
+    }
+    store32(out, at, branch as u32);
+    at + 1
+}
+
+// The branches of a kind at nodes where threads stand.
+pub(crate) fn gather(
+    table: &[u16],
+    homes: &[u32],
+    definitions: &[u16],
+    state: &[u16],
+    kind: usize,
+    out: &mut [u32],
+) -> usize
+    requires { ⌜ Indexed (now table) (now homes) (now definitions) ⌝ }
+    ensures { λ r. ⌜ Listed (branches (now (table .entry))) (flat (standing (now (table .entry)) (stateOf (scheme (now (table .entry))) (now (state .entry))) kind) (range (branches (now (table .entry))))) (now (out .entry)) 0 (now (out .exit)) r ⌝ }
+{
+    let branches = word16(table, 5);
+    let mut b = 0;
+    let mut next = 0;
+    while b < branches {
+        next = gather_branch(table, homes, definitions, state, kind, b, next, out);
+        b += 1;
+    }
+    next
+}
+
+fn list_pair(
+    table: &[u16],
+    homes: &[u32],
+    definitions: &[u16],
+    state: &[u16],
+    send: usize,
+    receive: usize,
+    at: usize,
+    out: &mut [u32],
+) -> usize
+    requires { ⌜ Indexed (now table) (now homes) (now definitions) × (send < 4294967296) × (receive < 4294967296) × (at < far) ⌝ }
+    ensures { λ r. ⌜ Listed 3 (pairWords (scheme (now (table .entry))) (stateOf (scheme (now (table .entry))) (now (state .entry))) send receive) (now (out .entry)) at (now (out .exit)) r ⌝ }
+{
+    if can_meet(table, homes, definitions, state, send, receive) {
+        return write_label(out, at, 4, send as u32, receive as u32);
+    }
+    at
+}
+
+fn list_pairs(
+    table: &[u16],
+    homes: &[u32],
+    definitions: &[u16],
+    state: &[u16],
+    send: usize,
+    receives: &[u32],
+    count: usize,
+    at: usize,
+    out: &mut [u32],
+) -> usize
+    requires { ⌜ Pairing (now table) (now homes) (now definitions) (now receives) count at × (send < 4294967296) ⌝ }
+    ensures { λ r. ⌜ Listed 768 (pairsWords (scheme (now (table .entry))) (stateOf (scheme (now (table .entry))) (now (state .entry))) (slice 0 count (now (receives .entry))) send) (now (out .entry)) at (now (out .exit)) r ⌝ }
+{
+    let mut i = 0;
+    let mut next = at;
+    while i < count {
+        next = list_pair(
+            table,
+            homes,
+            definitions,
+            state,
+            send,
+            word32(receives, i),
+            next,
+            out,
+        );
+        i += 1;
+    }
+    next
+}
+
+fn list_meetings(
+    table: &[u16],
+    homes: &[u32],
+    definitions: &[u16],
+    state: &[u16],
+    sends: &[u32],
+    s: usize,
+    receives: &[u32],
+    r: usize,
+    at: usize,
+    out: &mut [u32],
+) -> usize
+    requires { ⌜ Meeting (now table) (now homes) (now definitions) (now sends) s (now receives) r × (at ≤ 12884901888) ⌝ }
+    ensures { λ x. ⌜ Listed 196608 (meetingWords (scheme (now (table .entry))) (stateOf (scheme (now (table .entry))) (now (state .entry))) (slice 0 s (now (sends .entry))) (slice 0 r (now (receives .entry)))) (now (out .entry)) at (now (out .exit)) x ⌝ }
+{
+    let mut i = 0;
+    let mut next = at;
+    while i < s {
+        next = list_pairs(
+            table,
+            homes,
+            definitions,
+            state,
+            word32(sends, i),
+            receives,
+            r,
+            next,
+            out,
+        );
+        i += 1;
+    }
+    next
+}
+
+// The labels of all open steps, by node, then by send and receive; how many words they have.
+pub(crate) fn list(
+    table: &[u16],
+    homes: &[u32],
+    definitions: &[u16],
+    state: &[u16],
+    sends: &[u32],
+    s: usize,
+    receives: &[u32],
+    r: usize,
+    out: &mut [u32],
+) -> usize
+    requires { ⌜ Meeting (now table) (now homes) (now definitions) (now sends) s (now receives) r ⌝ }
+    ensures { λ x. ⌜ Listed 12885098496 (listWords (scheme (now (table .entry))) (stateOf (scheme (now (table .entry))) (now (state .entry))) (slice 0 s (now (sends .entry))) (slice 0 r (now (receives .entry)))) (now (out .entry)) 0 (now (out .exit)) x ⌝ }
+{
+    let at = list_nodes(table, homes, definitions, state, out);
+    list_meetings(
+        table,
+        homes,
+        definitions,
+        state,
+        sends,
+        s,
+        receives,
+        r,
+        at,
+        out,
+    )
+}
