@@ -1,0 +1,35 @@
+-- `process::listing::list` meets its contract: the labels of nodes, then those of pairs.
+use mathlib.Core.Path.{_≡_, refl, sym, ap, _∙_}
+use Prim.Native.Nat.{ℕ, _+_, _-_, _*_, _≤_, _<_}
+use native.Mathlib.Omega.{arith}
+use lib.Seq.{slice}
+use Rattle.table.specs.Scheme.{scheme}
+use Rattle.process.specs.StateWords.{stateOf}
+use Rattle.process.proofs.Listed.{listed-append, all-are}
+use borrow.Author.Needs.{needs}
+use Rattle.process.proofs.listing.list.Statement.{statement}
+use Rattle.process.proofs.listing.list.Tie as tie
+
+list-nodes-requires : tie.Need-list-nodes-requires
+list-nodes-requires c κs = c .before .before .before .before .before .before .before .before .pre .indexed
+
+list-meetings-requires : tie.Need-list-meetings-requires
+list-meetings-requires c κs = (c .before .before .before .before .before .before .before .before .before .before .before .before .pre, omega (arith, c .before .before .before .list-nodes .ensures .few))
+
+same-length : tie.Need-same-length
+same-length c = search needs
+
+returns : tie.Need-returns
+returns c =
+    let a = c .before .before .before .before .before .before .before .before .before .before .before .before .before .before .before .args in
+    rw (all-are (a .table .now) (stateOf (scheme (a .table .now)) (a .state .now)) (slice 0 (a .s) (a .sends .now)) (slice 0 (a .r) (a .receives .now)))
+    (listed-append _ _ _ _ _ _ _ _ _ _ (c .before .before .before .before .before .before .list-nodes .ensures) (c .before .before .list-meetings .ensures))
+
+pub list-spec : {M : Type 1} → statement M
+list-spec =
+    tie.close
+    (tie.spec
+    list-nodes-requires
+    list-meetings-requires
+    same-length
+    returns)

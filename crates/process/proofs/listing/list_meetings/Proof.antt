@@ -1,0 +1,71 @@
+-- `process::listing::list_meetings` meets its contract. Loop: the pairs of the sends left are still to be written. Measure: sends left.
+use mathlib.Core.Path.{_≡_, refl, sym, ap, _∙_}
+use Prim.Native.Nat.{ℕ, _+_, _-_, _*_, _≤_, _<_}
+use native.Mathlib.Omega.{arith}
+use lib.Seq.{slice}
+use Rattle.lists.specs.Lists.{flat}
+use Rattle.table.specs.Scheme.{scheme}
+use Rattle.process.specs.StateWords.{stateOf}
+use Rattle.process.specs.Inner.Listed.{pairsWords, meetingWords}
+use Rattle.process.proofs.Listed.{Left, left-start, left-more, left-end, slice-more, slice-done, meetings-are}
+use borrow.Author.Needs.{needs}
+use Rattle.process.proofs.listing.list_meetings.Statement.{statement}
+use Rattle.process.proofs.listing.list_meetings.Tie as tie
+
+abbrev Inv-loop : tie.InvT-loop
+Inv-loop table homes definitions state sends s receives r at out₀ i₀ next₀ out i next =
+    Left (meetingWords (scheme table) (stateOf (scheme table) state) (slice 0 s sends) (slice 0 r receives)) out₀ at
+    (flat (pairsWords (scheme table) (stateOf (scheme table) state) (slice 0 r receives)) (slice i s sends)) out next ×
+    (next ≤ at + 768 * i) × (i ≤ s)
+
+abbrev μ-loop : tie.MeasureT-loop
+μ-loop table homes definitions state sends s receives r at out₀ i₀ next₀ out i next = s - i
+
+loop-holds : tie.Need-loop-holds Inv-loop μ-loop
+loop-holds c = (left-start _ _ _ _ (meetings-are _ _ _ _), omega arith, omega arith)
+
+word32-requires : tie.Need-word32-requires Inv-loop μ-loop
+word32-requires c κs = search needs
+
+list-pairs-requires : tie.Need-list-pairs-requires Inv-loop μ-loop
+list-pairs-requires c κs =
+    let p = c .before .before .before .before .before .before .before .before .before .before .before .pre in
+    let v = c .before .before .before .loop .inv in
+    (record { indexed = p .0 .indexed; gathered = p .0 .receives-gathered; room = omega (arith, p .1, p .0 .sends-gathered .few, v .1, v .2) }, c .before .word32 .ensures .small)
+
+add-i : tie.Need-add-i Inv-loop μ-loop
+add-i c = omega arith
+
+loop-less : tie.Need-loop-less Inv-loop μ-loop
+loop-less c = omega arith
+
+loop-again : tie.Need-loop-again Inv-loop μ-loop
+loop-again c =
+    let l = c .before .before .before .before .before .before .loop in
+    let a = c .before .before .before .before .before .before .before .before .before .before .before .before .before .before .args in
+    let r = c .before .before .list-pairs in
+    (left-more _ _ _ _ _ _ (l .inv .0) _ _ _ _ _ (slice-more (pairsWords (scheme (a .table .now)) (stateOf (scheme (a .table .now)) (a .state .now)) (slice 0 (a .r) (a .receives .now))) (a .sends .now) (l .i) _ (c .before .before .before .before .word32 .result) (c .before .before .before .before .word32 .ensures .is) (c .before .before .before .before .before .loop-test .taken) (c .before .before .before .before .before .before .before .before .before .before .before .before .before .before .pre .0 .sends-gathered .reach)) (r .ensures), omega (arith, l .inv .1, r .ensures .few), omega (arith, c .before .before .before .before .before .loop-test .taken))
+
+same-length : tie.Need-same-length Inv-loop μ-loop
+same-length c = c .before .loop .inv .0 .same-length
+
+returns : tie.Need-returns Inv-loop μ-loop
+returns c =
+    let l = c .before .loop in
+    let a = c .before .before .before .before .before .before .before .before .before .args in
+    left-end _ _ _ _ _ _ (l .inv .0) _ (slice-done (pairsWords (scheme (a .table .now)) (stateOf (scheme (a .table .now)) (a .state .now)) (slice 0 (a .r) (a .receives .now))) (a .sends .now) (l .i) _ (c .loop-test .left)) (omega (arith, l .inv .1, l .inv .2, c .before .before .before .before .before .before .before .before .before .pre .0 .sends-gathered .few))
+
+pub list-meetings-spec : {M : Type 1} → statement M
+list-meetings-spec =
+    tie.close
+    (tie.spec
+    Inv-loop
+    μ-loop
+    loop-holds
+    word32-requires
+    list-pairs-requires
+    add-i
+    loop-less
+    loop-again
+    same-length
+    returns)

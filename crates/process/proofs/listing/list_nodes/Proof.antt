@@ -1,0 +1,72 @@
+-- `process::listing::list_nodes` meets its contract. Loop: the labels of the nodes left are still to be written. Measure: nodes left.
+use mathlib.Core.Path.{_≡_, refl, sym, ap, _∙_}
+use Prim.Native.Nat.{ℕ, _+_, _-_, _*_, _≤_, _<_}
+use native.Mathlib.Omega.{arith}
+use native.Mathlib.Nat.{sub-zero}
+use Rattle.lists.specs.Lists.{from, range, flat}
+use Rattle.lists.proofs.Ranges.{flat-more, flat-done}
+use Rattle.table.specs.Words.{nodes as nodeCount}
+use Rattle.table.specs.Scheme.{scheme}
+use Rattle.process.specs.StateWords.{stateOf}
+use Rattle.process.specs.Inner.Listed.{nodeWords}
+use Rattle.process.proofs.Listed.{Left, left-start, left-more, left-end}
+use borrow.Author.Needs.{needs}
+use Rattle.process.proofs.listing.list_nodes.Statement.{statement}
+use Rattle.process.proofs.listing.list_nodes.Tie as tie
+
+abbrev Inv-loop : tie.InvT-loop
+Inv-loop table homes definitions state out₀ nodes n₀ next₀ out n next =
+    Left (flat (nodeWords (scheme table) (stateOf (scheme table) state)) (range (nodeCount table))) out₀ 0
+    (flat (nodeWords (scheme table) (stateOf (scheme table) state)) (from n (nodes - n))) out next ×
+    (next ≤ 196608 * n) × (n ≤ nodes)
+
+abbrev μ-loop : tie.MeasureT-loop
+μ-loop table homes definitions state out₀ nodes n₀ next₀ out n next = nodes - n
+
+word16-requires : tie.Need-word16-requires Inv-loop μ-loop
+word16-requires c κs = search needs
+
+loop-holds : tie.Need-loop-holds Inv-loop μ-loop
+loop-holds c = (left-start _ _ _ _ (rw (← c .word16 .ensures .is, sub-zero (c .word16 .result))), omega arith, omega arith)
+
+list-node-requires : tie.Need-list-node-requires Inv-loop μ-loop
+list-node-requires c κs =
+    let u = c .before .before .before .word16 .ensures .small in
+    (c .before .before .before .before .before .before .before .before .before .pre, omega (arith, u, c .before .loop-test .taken), omega (arith, u, c .before .before .loop .inv .1, c .before .before .loop .inv .2))
+
+add-n : tie.Need-add-n Inv-loop μ-loop
+add-n c = omega arith
+
+loop-less : tie.Need-loop-less Inv-loop μ-loop
+loop-less c = omega arith
+
+loop-again : tie.Need-loop-again Inv-loop μ-loop
+loop-again c =
+    let l = c .before .before .before .before .before .loop in
+    let a = c .before .before .before .before .before .before .before .before .before .before .before .before .args in
+    let r = c .before .before .list-node in
+    (left-more _ _ _ _ _ _ (l .inv .0) _ _ _ _ _ (flat-more (nodeWords (scheme (a .table .now)) (stateOf (scheme (a .table .now)) (a .state .now))) (l .n) _ (c .before .before .before .before .loop-test .taken)) (r .ensures), omega (arith, l .inv .1, r .ensures .few), omega (arith, c .before .before .before .before .loop-test .taken))
+
+same-length : tie.Need-same-length Inv-loop μ-loop
+same-length c = c .before .loop .inv .0 .same-length
+
+returns : tie.Need-returns Inv-loop μ-loop
+returns c =
+    let l = c .before .loop in
+    let a = c .before .before .before .before .before .before .before .before .args in
+    left-end _ _ _ _ _ _ (l .inv .0) _ (flat-done (nodeWords (scheme (a .table .now)) (stateOf (scheme (a .table .now)) (a .state .now))) (l .n) _ (c .loop-test .left)) (omega (arith, l .inv .1, l .inv .2, c .before .before .word16 .ensures .small))
+
+pub list-nodes-spec : {M : Type 1} → statement M
+list-nodes-spec =
+    tie.close
+    (tie.spec
+    Inv-loop
+    μ-loop
+    word16-requires
+    loop-holds
+    list-node-requires
+    add-n
+    loop-less
+    loop-again
+    same-length
+    returns)

@@ -1,0 +1,101 @@
+-- `process::listing::list_steps` meets its contract, kind by kind.
+use mathlib.Core.Path.{_≡_, refl, sym, ap, _∙_}
+use Prim.Native.Nat.{ℕ, _+_, _-_, _*_, _≤_, _<_}
+use native.Mathlib.Omega.{arith}
+use Rattle.table.specs.Scheme.{scheme}
+use Rattle.process.proofs.Listed.{none-listed, listed-more, steps-choice, steps-new, steps-call, steps-none}
+use borrow.Author.Needs.{needs}
+use Rattle.process.proofs.listing.list_steps.Statement.{statement}
+use Rattle.process.proofs.listing.list_steps.Tie as tie
+
+node-is-requires : tie.Need-node-is-requires
+node-is-requires c κs = search needs
+
+field3-requires : tie.Need-field3-requires
+field3-requires c κs = search needs
+
+field3-requires-2 : tie.Need-field3-requires-2
+field3-requires-2 c κs = search needs
+
+list-branches-requires : tie.Need-list-branches-requires
+list-branches-requires c κs = search needs
+
+same-length : tie.Need-same-length
+same-length c = search needs
+
+returns : tie.Need-returns
+returns c =
+    let a = c .before .before .before .before .before .before .before .before .before .before .args in
+    rw (steps-choice (a .table .now) (a .node) (sym (c .before .before .before .before .before .before .before .node-is .ensures) ∙ c .before .before .before .before .before .before .if1 .taken), ← c .before .before .before .before .before .field3 .ensures .is, ← c .before .before .before .before .field32 .ensures .is)
+    (c .before .before .list-branches .ensures)
+
+node-is-requires-2 : tie.Need-node-is-requires-2
+node-is-requires-2 c κs = search needs
+
+cast-write-label : tie.Need-cast-write-label
+cast-write-label c = search needs
+
+field3-requires-3 : tie.Need-field3-requires-3
+field3-requires-3 c κs = search needs
+
+cast-write-label-2 : tie.Need-cast-write-label-2
+cast-write-label-2 c = search needs
+
+write-label-requires : tie.Need-write-label-requires
+write-label-requires c κs = search needs
+
+same-length-2 : tie.Need-same-length-2
+same-length-2 c = search needs
+
+returns-2 : tie.Need-returns-2
+returns-2 c =
+    let a = c .before .before .before .before .before .before .before .before .before .before .before .args in
+    rw (steps-new (a .table .now) (a .node) (sym (c .before .before .before .before .before .before .node-is2 .ensures) ∙ c .before .before .before .before .before .if2 .taken), ← c .before .before .before .field33 .ensures .is)
+    (listed-more _ _ _ _ _ 3 196608 (omega arith) (c .before .before .write-label .ensures))
+
+node-is-requires-3 : tie.Need-node-is-requires-3
+node-is-requires-3 c κs = search needs
+
+cast-write-label-3 : tie.Need-cast-write-label-3
+cast-write-label-3 c = search needs
+
+write-label-requires-2 : tie.Need-write-label-requires-2
+write-label-requires-2 c κs = search needs
+
+same-length-3 : tie.Need-same-length-3
+same-length-3 c = search needs
+
+returns-3 : tie.Need-returns-3
+returns-3 c =
+    let a = c .before .before .before .before .before .before .before .before .before .before .before .before .args in
+    rw (steps-call (a .table .now) (a .node) (sym (c .before .before .before .before .before .node-is3 .ensures) ∙ c .before .before .before .before .if3 .taken)) (listed-more _ _ _ _ _ 3 196608 (omega arith) (c .before .before .write-label2 .ensures))
+
+returns-4 : tie.Need-returns-4
+returns-4 c =
+    let a = c .before .before .before .before .before .before .before .before .args in
+    rw (steps-none (a .table .now) (a .node) (sym (c .before .before .before .before .before .node-is .ensures) ∙ c .before .before .before .before .if1 .left) (sym (c .before .before .before .node-is2 .ensures) ∙ c .before .before .if2 .left) (sym (c .before .node-is3 .ensures) ∙ c .if3 .left))
+    (none-listed _ _ _)
+
+pub list-steps-spec : {M : Type 1} → statement M
+list-steps-spec =
+    tie.close
+    (tie.spec
+    node-is-requires
+    field3-requires
+    field3-requires-2
+    list-branches-requires
+    same-length
+    returns
+    node-is-requires-2
+    cast-write-label
+    field3-requires-3
+    cast-write-label-2
+    write-label-requires
+    same-length-2
+    returns-2
+    node-is-requires-3
+    cast-write-label-3
+    write-label-requires-2
+    same-length-3
+    returns-3
+    returns-4)
