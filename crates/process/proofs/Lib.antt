@@ -9,3 +9,4 @@ pub mod Labelling
 pub mod Taking
 pub mod Stepping
 pub mod Listed
+pub mod Opened

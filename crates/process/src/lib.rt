@@ -17,10 +17,11 @@ ghost use Rattle.lists.specs.Lists.{same, range};
 ghost use Rattle.table.specs.Answer.{causeOf};
 ghost use Rattle.table.specs.Words.{threads, bounds, root, entry};
 ghost use Rattle.process.specs.Answers.{outcomeOf};
-ghost use Rattle.process.specs.Outcomes.{startOutcome, stepOutcome};
+ghost use Rattle.process.specs.Outcomes.{startOutcome, openOutcome, stepOutcome};
 use crate::formed::well_formed;
 use crate::labels::Open;
 use crate::labels::open_step;
+use crate::listing::list_open;
 use crate::next::write_state;
 use lists::store16;
 use lists::word16;
@@ -94,6 +95,30 @@ pub fn start(table: &[u16], state: &mut [u16]) -> Answer
     write_roots(table, state);
     write_unheld(table, state);
     Answer::Done(size)
+}
+
+// The labels of the open steps, three words each.
+pub fn open_steps(table: &[u16], state: &[u16], labels: &mut [u32]) -> Answer
+    ensures { λ r. ⌜ outcomeOf r (now (labels .exit)) ≡ openOutcome (now (table .entry)) (now (state .entry)) (now (labels .entry)) ⌝ }
+{
+    let verdict = table::check(table);
+    if !is_accepted(verdict) {
+        return Answer::Refused(verdict);
+    }
+    let mut owners = [0u32; 256];
+    let mut homes = [0u32; 256];
+    let mut definitions = [0u16; 256];
+    table::index::owners(table, &mut owners);
+    table::index::homes(table, &mut homes);
+    table::index::definitions(&owners, &homes, &mut definitions);
+    if !well_formed(table, &owners, &homes, &definitions, state) {
+        return Answer::Malformed;
+    }
+    let size = list_open(table, &homes, &definitions, state, labels);
+    if labels.len() < size {
+        return Answer::NoRoom;
+    }
+    Answer::Done(size / 3)
 }
 
 // The words of the state after the step that a label names.

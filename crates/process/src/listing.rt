@@ -4,13 +4,15 @@
 ghost use mathlib.Core.Path.{_≡_};
 ghost use mathlib.Core.List.{[], _∷_};
 ghost use Prim.Native.Nat.{_+_, _≤_, _<_};
+ghost use lib.ListN.{length};
 ghost use lib.Seq.{slice};
 ghost use Rattle.lists.specs.Lists.{from, range, flat};
 ghost use Rattle.table.specs.Words.{nodes, branches};
 ghost use Rattle.table.specs.Scheme.{scheme};
+ghost use Rattle.process.specs.Labels.{openLabels};
 ghost use Rattle.process.specs.StateWords.{stateOf};
 ghost use Rattle.process.specs.Inner.Index.{Indexed};
-ghost use Rattle.process.specs.Inner.Listed.{Listed, far, near, silentWords, stepWords, nodeWords, pairWords, pairsWords, meetingWords, listWords, standing, Pairing, Meeting};
+ghost use Rattle.process.specs.Inner.Listed.{Listed, far, near, silentWords, stepWords, nodeWords, pairWords, pairsWords, meetingWords, listWords, standing, Pairing, Meeting, Fitted};
 use crate::labels::can_meet;
 use crate::labels::stands;
 use crate::threads::branch_is;
@@ -41,13 +43,7 @@ fn list_branch(table: &[u16], branch: usize, at: usize, out: &mut [u32]) -> usiz
     at
 }
 
-fn list_branches(
-    table: &[u16],
-    first: usize,
-    count: usize,
-    at: usize,
-    out: &mut [u32],
-) -> usize
+fn list_branches(table: &[u16], first: usize, count: usize, at: usize, out: &mut [u32]) -> usize
     requires { ⌜ (first < 65536) × (count < 65536) × (at < near) ⌝ }
     ensures { λ r. ⌜ Listed 196608 (flat (silentWords (scheme (now (table .entry)))) (from first count)) (now (out .entry)) at (now (out .exit)) r ⌝ }
 {
@@ -146,7 +142,7 @@ fn gather_branch(
 }
 
 // The branches of a kind at nodes where threads stand.
-pub(crate) fn gather(
+fn gather(
     table: &[u16],
     homes: &[u32],
     definitions: &[u16],
@@ -253,7 +249,7 @@ fn list_meetings(
 }
 
 // The labels of all open steps, by node, then by send and receive; how many words they have.
-pub(crate) fn list(
+fn list(
     table: &[u16],
     homes: &[u32],
     definitions: &[u16],
@@ -279,5 +275,65 @@ pub(crate) fn list(
         r,
         at,
         out,
+    )
+}
+
+// How many words the labels of all open steps have.
+fn count(
+    table: &[u16],
+    homes: &[u32],
+    definitions: &[u16],
+    state: &[u16],
+    sends: &[u32],
+    s: usize,
+    receives: &[u32],
+    r: usize,
+) -> usize
+    requires { ⌜ Meeting (now table) (now homes) (now definitions) (now sends) s (now receives) r ⌝ }
+    ensures { λ x. ⌜ x ≡ length (listWords (scheme (now (table .entry))) (stateOf (scheme (now (table .entry))) (now (state .entry))) (slice 0 s (now (sends .entry))) (slice 0 r (now (receives .entry)))) ⌝ }
+{
+    let mut none = [0u32; 1];
+    list(
+        table,
+        homes,
+        definitions,
+        state,
+        sends,
+        s,
+        receives,
+        r,
+        &mut none,
+    )
+}
+
+// Writes the labels of all open steps if there is room for them; how many words they have.
+pub(crate) fn list_open(
+    table: &[u16],
+    homes: &[u32],
+    definitions: &[u16],
+    state: &[u16],
+    labels: &mut [u32],
+) -> usize
+    requires { ⌜ Indexed (now table) (now homes) (now definitions) ⌝ }
+    ensures { λ r. ⌜ Fitted (openLabels (scheme (now (table .entry))) (stateOf (scheme (now (table .entry))) (now (state .entry)))) (now (labels .entry)) (now (labels .exit)) r ⌝ }
+{
+    let mut sends = [0u32; 256];
+    let mut receives = [0u32; 256];
+    let s = gather(table, homes, definitions, state, 1, &mut sends);
+    let r = gather(table, homes, definitions, state, 2, &mut receives);
+    let size = count(table, homes, definitions, state, &sends, s, &receives, r);
+    if labels.len() < size {
+        return size;
+    }
+    list(
+        table,
+        homes,
+        definitions,
+        state,
+        &sends,
+        s,
+        &receives,
+        r,
+        labels,
     )
 }

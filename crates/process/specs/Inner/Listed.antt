@@ -4,7 +4,7 @@ use mathlib.Core.Bool.{Bool, true, false, _&&_}
 use mathlib.Core.List.{List, [], _∷_, _++_}
 use Prim.Native.Nat.{ℕ, _+_, _≤_, _<_}
 use lib.Dec.{ltb}
-use lib.ListN.{length}
+use lib.ListN.{length, drop}
 use lib.Seq.{sets, slice}
 use Rattle.lists.specs.Lists.{pick, same, range, flat}
 use Rattle.table.specs.Words.{branches, branchKind}
@@ -73,8 +73,13 @@ pub record Pairing (w homes definitions receives : List ℕ) (count i : ℕ) : T
   pub gathered : Gathered receives count
   pub room : i < near
 
--- the index, a place, and both gathered
+-- the index, and both gathered
 pub record Meeting (w homes definitions sends : List ℕ) (s : ℕ) (receives : List ℕ) (r : ℕ) : Type 0 where
   pub indexed : Indexed w homes definitions
   pub sends-gathered : Gathered sends s
   pub receives-gathered : Gathered receives r
+
+-- the words are written if there is room for all of them; r is how many there are
+pub record Fitted (words before after : List ℕ) (r : ℕ) : Type 0 where
+  pub size : r ≡ length words
+  pub left : after ≡ pick (ltb (length before) (length words)) before (words ++ drop (length words) before)
