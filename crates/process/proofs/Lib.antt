@@ -10,3 +10,4 @@ pub mod Taking
 pub mod Stepping
 pub mod Listed
 pub mod Opened
+pub mod Fitted

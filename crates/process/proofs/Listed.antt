@@ -87,6 +87,9 @@ module _ (f : ℕ → List ℕ) (l : List ℕ) (i e : ℕ) where
 -- ---- the labels of a branch and a node
 
 module _ (S : Scheme) where
+  abbrev silents : List ℕ → List ℕ
+  silents xs = keep (λ b. Kinds.isSilent (S .branch b)) xs
+
   pub silent-yes : (b : ℕ) → Kinds.isSilent (S .branch b) ≡ true → silentWords S b ≡ 3 ∷ b ∷ 0 ∷ []
   unfolding silentWords
   silent-yes b h = rw h
@@ -96,15 +99,13 @@ module _ (S : Scheme) where
   silent-no b h = rw h
 
   -- the silent branches of a Choice, one by one
-  pub silent-labels : (xs : List ℕ) → flat (labelOf S) (map silentStep (keep (λ b. Kinds.isSilent (S .branch b)) xs)) ≡ flat (silentWords S) xs
+  pub silent-labels : (xs : List ℕ) → flat (labelOf S) (map silentStep (silents xs)) ≡ flat (silentWords S) xs
   unfolding keep flat
   silent-labels [] = refl
   silent-labels (b ∷ xs) = go (Kinds.isSilent (S .branch b)) refl (silent-labels xs)
     where
-      go : (d : Bool) → Kinds.isSilent (S .branch b) ≡ d
-          → flat (labelOf S) (map silentStep (keep (λ b. Kinds.isSilent (S .branch b)) xs)) ≡ flat (silentWords S) xs
-          → flat (labelOf S) (map silentStep (pick (Kinds.isSilent (S .branch b)) (b ∷ keep (λ b. Kinds.isSilent (S .branch b)) xs) (keep (λ b. Kinds.isSilent (S .branch b)) xs)))
-          ≡ silentWords S b ++ flat (silentWords S) xs
+      go : (d : Bool) → Kinds.isSilent (S .branch b) ≡ d → flat (labelOf S) (map silentStep (silents xs)) ≡ flat (silentWords S) xs
+          → flat (labelOf S) (map silentStep (silents (b ∷ xs))) ≡ silentWords S b ++ flat (silentWords S) xs
       go true h ih = rw (h, silent-yes b h, ih)
       go false h ih = rw (h, silent-no b h, ih)
 
@@ -184,6 +185,7 @@ module _ (w : List ℕ) (s : State) (kind b : ℕ) where
       go true = rw h
       go false = refl
 
-  pub standing-there : (ltb b (branches w) && same (branchKind w b) kind) ≡ true → standsAt (scheme w) s (scheme w .home b) ≡ true → standing w s kind b ≡ b ∷ []
+  pub standing-there : (ltb b (branches w) && same (branchKind w b) kind) ≡ true → standsAt (scheme w) s (scheme w .home b) ≡ true
+      → standing w s kind b ≡ b ∷ []
   unfolding standing
   standing-there h k = rw (h, k)

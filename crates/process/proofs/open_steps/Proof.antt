@@ -3,7 +3,7 @@ use mathlib.Core.Path.{_≡_, refl, sym, ap, _∙_}
 use native.Mathlib.Omega.{arith}
 use borrow.Author.Tests.{not-true, not-false}
 use Rattle.process.proofs.Stepping.{known, accepted-here}
-use Rattle.process.proofs.Opened.{open-refused, open-malformed, open-short, open-written}
+use Rattle.process.proofs.Fitted.{open-refused, open-malformed, open-short, open-written}
 use borrow.Author.Needs.{needs}
 use Rattle.process.proofs.open_steps.Statement.{statement}
 use Rattle.process.proofs.open_steps.Tie as tie

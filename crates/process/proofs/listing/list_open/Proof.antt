@@ -2,7 +2,7 @@
 use mathlib.Core.Path.{_≡_, refl, sym, ap, _∙_}
 use Rattle.table.specs.Scheme.{scheme}
 use Rattle.process.specs.StateWords.{stateOf}
-use Rattle.process.proofs.Opened.{gathered-there, opened-words, fitted-short, fitted-full}
+use Rattle.process.proofs.Fitted.{gathered-there, opened-words, fitted-short, fitted-full}
 use borrow.Author.Needs.{needs}
 use Rattle.process.proofs.listing.list_open.Statement.{statement}
 use Rattle.process.proofs.listing.list_open.Tie as tie
