@@ -15,7 +15,10 @@ is-accepted-requires : tie.Need-is-accepted-requires
 is-accepted-requires c κs = search needs
 
 returns : tie.Need-returns
-returns c = open-refused _ _ _ _ (sym (c .before .is-accepted .ensures) ∙ not-true _ (c .if1 .taken)) (c .before .before .check .ensures)
+returns c =
+    let c1 = c .before in
+    let c2 = c1 .before in
+    open-refused _ _ _ _ (sym (c1 .is-accepted .ensures) ∙ not-true _ (c .if1 .taken)) (c2 .check .ensures)
 
 slice-aggregate-owners : tie.Need-slice-aggregate-owners
 slice-aggregate-owners c = search needs
@@ -51,10 +54,24 @@ slice-aggregate-well-formed-3 : tie.Need-slice-aggregate-well-formed-3
 slice-aggregate-well-formed-3 c = search needs
 
 well-formed-requires : tie.Need-well-formed-requires
-well-formed-requires c κs = known _ (accepted-here _ _ (sym (c .before .before .before .before .before .before .before .before .before .before .before .before .before .before .before .is-accepted .ensures) ∙ not-false _ (c .before .before .before .before .before .before .before .before .before .before .before .before .before .before .if1 .left)) (c .before .before .before .before .before .before .before .before .before .before .before .before .before .before .before .before .check .ensures)) _ _ _ (c .before .before .before .before .before .before .before .before .before .before .before .before .owners2 .ensures) (c .before .before .before .before .before .before .before .before .before .homes2 .ensures) (c .before .before .before .before .definitions2 .ensures)
+well-formed-requires c κs =
+    let c4 = c .before .before .before .before in
+    let c9 = c4 .before .before .before .before .before in
+    let c12 = c9 .before .before .before in
+    let c14 = c12 .before .before in
+    let c15 = c14 .before in
+    let c16 = c15 .before in
+    known _ (accepted-here _ _ (sym (c15 .is-accepted .ensures) ∙ not-false _ (c14 .if1 .left)) (c16 .check .ensures))
+    _ _ _ (c12 .owners2 .ensures) (c9 .homes2 .ensures) (c4 .definitions2 .ensures)
 
 returns-2 : tie.Need-returns-2
-returns-2 c = open-malformed _ _ _ _ (sym (c .before .before .before .before .before .before .before .before .before .before .before .before .before .before .before .before .before .is-accepted .ensures) ∙ not-false _ (c .before .before .before .before .before .before .before .before .before .before .before .before .before .before .before .before .if1 .left)) (c .before .before .before .before .before .before .before .before .before .before .before .before .before .before .before .before .before .before .check .ensures) (sym (c .before .well-formed .ensures) ∙ not-true _ (c .if2 .taken))
+returns-2 c =
+    let c1 = c .before in
+    let c16 = c1 .before .before .before .before .before .before .before .before .before .before .before .before .before .before .before in
+    let c17 = c16 .before in
+    let c18 = c17 .before in
+    open-malformed _ _ _ _ (sym (c17 .is-accepted .ensures) ∙ not-false _ (c16 .if1 .left)) (c18 .check .ensures)
+    (sym (c1 .well-formed .ensures) ∙ not-true _ (c .if2 .taken))
 
 slice-aggregate-list-open : tie.Need-slice-aggregate-list-open
 slice-aggregate-list-open c = search needs
@@ -63,19 +80,43 @@ slice-aggregate-list-open-2 : tie.Need-slice-aggregate-list-open-2
 slice-aggregate-list-open-2 c = search needs
 
 list-open-requires : tie.Need-list-open-requires
-list-open-requires c κs = known _ (accepted-here _ _ (sym (c .before .before .before .before .before .before .before .before .before .before .before .before .before .before .before .before .before .before .before .before .is-accepted .ensures) ∙ not-false _ (c .before .before .before .before .before .before .before .before .before .before .before .before .before .before .before .before .before .before .before .if1 .left)) (c .before .before .before .before .before .before .before .before .before .before .before .before .before .before .before .before .before .before .before .before .before .check .ensures)) _ _ _ (c .before .before .before .before .before .before .before .before .before .before .before .before .before .before .before .before .before .owners2 .ensures) (c .before .before .before .before .before .before .before .before .before .before .before .before .before .before .homes2 .ensures) (c .before .before .before .before .before .before .before .before .before .definitions2 .ensures) .indexed
+list-open-requires c κs =
+    let c9 = c .before .before .before .before .before .before .before .before .before in
+    let c14 = c9 .before .before .before .before .before in
+    let c17 = c14 .before .before .before in
+    let c19 = c17 .before .before in
+    let c20 = c19 .before in
+    let c21 = c20 .before in
+    known _ (accepted-here _ _ (sym (c20 .is-accepted .ensures) ∙ not-false _ (c19 .if1 .left)) (c21 .check .ensures))
+    _ _ _ (c17 .owners2 .ensures) (c14 .homes2 .ensures) (c9 .definitions2 .ensures) .indexed
 
 same-length : tie.Need-same-length
 same-length c = search needs
 
 returns-3 : tie.Need-returns-3
-returns-3 c = open-short _ _ _ _ (sym (c .before .before .before .before .before .before .before .before .before .before .before .before .before .before .before .before .before .before .before .before .before .before .before .before .is-accepted .ensures) ∙ not-false _ (c .before .before .before .before .before .before .before .before .before .before .before .before .before .before .before .before .before .before .before .before .before .before .before .if1 .left)) (c .before .before .before .before .before .before .before .before .before .before .before .before .before .before .before .before .before .before .before .before .before .before .before .before .before .check .ensures) (sym (c .before .before .before .before .before .before .before .before .well-formed .ensures) ∙ not-false _ (c .before .before .before .before .before .before .before .if2 .left)) _ _ (c .before .before .before .list-open .ensures) (c .if3 .taken)
+returns-3 c =
+    let c3 = c .before .before .before in
+    let c7 = c3 .before .before .before .before in
+    let c8 = c7 .before in
+    let c23 = c8 .before .before .before .before .before .before .before .before .before .before .before .before .before .before .before in
+    let c24 = c23 .before in
+    let c25 = c24 .before in
+    open-short _ _ _ _ (sym (c24 .is-accepted .ensures) ∙ not-false _ (c23 .if1 .left)) (c25 .check .ensures)
+    (sym (c8 .well-formed .ensures) ∙ not-false _ (c7 .if2 .left)) _ _ (c3 .list-open .ensures) (c .if3 .taken)
 
 same-length-2 : tie.Need-same-length-2
 same-length-2 c = search needs
 
 returns-4 : tie.Need-returns-4
-returns-4 c = open-written _ _ _ _ (sym (c .before .before .before .before .before .before .before .before .before .before .before .before .before .before .before .before .before .before .before .before .before .before .before .before .is-accepted .ensures) ∙ not-false _ (c .before .before .before .before .before .before .before .before .before .before .before .before .before .before .before .before .before .before .before .before .before .before .before .if1 .left)) (c .before .before .before .before .before .before .before .before .before .before .before .before .before .before .before .before .before .before .before .before .before .before .before .before .before .check .ensures) (sym (c .before .before .before .before .before .before .before .before .well-formed .ensures) ∙ not-false _ (c .before .before .before .before .before .before .before .if2 .left)) _ _ (c .before .before .before .list-open .ensures) (c .if3 .left)
+returns-4 c =
+    let c3 = c .before .before .before in
+    let c7 = c3 .before .before .before .before in
+    let c8 = c7 .before in
+    let c23 = c8 .before .before .before .before .before .before .before .before .before .before .before .before .before .before .before in
+    let c24 = c23 .before in
+    let c25 = c24 .before in
+    open-written _ _ _ _ (sym (c24 .is-accepted .ensures) ∙ not-false _ (c23 .if1 .left)) (c25 .check .ensures)
+    (sym (c8 .well-formed .ensures) ∙ not-false _ (c7 .if2 .left)) _ _ (c3 .list-open .ensures) (c .if3 .left)
 
 pub open-steps-spec : {M : Type 1} → statement M
 open-steps-spec =

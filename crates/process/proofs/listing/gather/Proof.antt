@@ -31,8 +31,12 @@ loop-holds c = (left-start _ _ _ _ (rw (← c .word16 .ensures .is, sub-zero (c 
 
 gather-branch-requires : tie.Need-gather-branch-requires Inv-loop μ-loop
 gather-branch-requires c κs =
-    let u = c .before .before .before .word16 .ensures .small in
-    (c .before .before .before .before .before .before .before .before .before .pre, omega (arith, u, c .before .loop-test .taken), omega (arith, u, c .before .before .loop .inv .1, c .before .before .loop .inv .2))
+    let c1 = c .before in
+    let c2 = c1 .before in
+    let c3 = c2 .before in
+    let c9 = c3 .before .before .before .before .before .before in
+    let u = c3 .word16 .ensures .small in
+    (c9 .pre, omega (arith, u, c1 .loop-test .taken), omega (arith, u, c2 .loop .inv .1, c2 .loop .inv .2))
 
 add-b : tie.Need-add-b Inv-loop μ-loop
 add-b c = omega arith
@@ -42,19 +46,36 @@ loop-less c = omega arith
 
 loop-again : tie.Need-loop-again Inv-loop μ-loop
 loop-again c =
-    let l = c .before .before .before .before .before .loop in
-    let a = c .before .before .before .before .before .before .before .before .before .before .before .before .args in
-    let r = c .before .before .gather-branch in
-    (left-more _ _ _ _ _ _ (l .inv .0) _ _ _ _ _ (flat-more (standing (a .table .now) (stateOf (scheme (a .table .now)) (a .state .now)) (a .kind)) (l .b) _ (c .before .before .before .before .loop-test .taken)) (r .ensures), omega (arith, l .inv .1, r .ensures .few), omega (arith, c .before .before .before .before .loop-test .taken))
+    let c2 = c .before .before in
+    let c4 = c2 .before .before in
+    let c5 = c4 .before in
+    let c12 = c5 .before .before .before .before .before .before .before in
+    let l = c5 .loop in
+    let a = c12 .args in
+    let w = a .table .now in
+    let s = stateOf (scheme w) (a .state .now) in
+    let r = c2 .gather-branch in (
+      left-more _ _ _ _ _ _ (l .inv .0) _ _ _ _ _
+          (flat-more (standing w s (a .kind)) (l .b) _ (c4 .loop-test .taken)) (r .ensures),
+      omega (arith, l .inv .1, r .ensures .few),
+      omega (arith, c4 .loop-test .taken),
+    )
 
 same-length : tie.Need-same-length Inv-loop μ-loop
 same-length c = c .before .loop .inv .0 .same-length
 
 returns : tie.Need-returns Inv-loop μ-loop
 returns c =
-    let l = c .before .loop in
-    let a = c .before .before .before .before .before .before .before .before .args in
-    left-end _ _ _ _ _ _ (l .inv .0) _ (flat-done (standing (a .table .now) (stateOf (scheme (a .table .now)) (a .state .now)) (a .kind)) (l .b) _ (c .loop-test .left)) (omega (arith, l .inv .1, l .inv .2, c .before .before .word16 .ensures .is))
+    let c1 = c .before in
+    let c2 = c1 .before in
+    let c8 = c2 .before .before .before .before .before .before in
+    let l = c1 .loop in
+    let a = c8 .args in
+    let w = a .table .now in
+    let s = stateOf (scheme w) (a .state .now) in
+    left-end _ _ _ _ _ _ (l .inv .0) _
+    (flat-done (standing w s (a .kind)) (l .b) _ (c .loop-test .left))
+    (omega (arith, l .inv .1, l .inv .2, c2 .word16 .ensures .is))
 
 pub gather-spec : {M : Type 1} → statement M
 gather-spec =

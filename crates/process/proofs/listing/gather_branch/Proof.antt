@@ -15,8 +15,13 @@ branch-is-requires c κs = search needs
 
 returns : tie.Need-returns
 returns c =
-    let a = c .before .before .before .before .before .before .before .args in
-    rw (standing-other (a .table .now) (stateOf (scheme (a .table .now)) (a .state .now)) (a .kind) (a .branch) (sym (c .before .branch-is .ensures) ∙ not-true _ (c .if1 .taken))) (none-listed _ _ _)
+    let c1 = c .before in
+    let c7 = c1 .before .before .before .before .before .before in
+    let a = c7 .args in
+    let w = a .table .now in
+    let s = stateOf (scheme w) (a .state .now) in
+    rw (standing-other w s (a .kind) (a .branch) (sym (c1 .branch-is .ensures) ∙ not-true _ (c .if1 .taken)))
+    (none-listed _ _ _)
 
 word32-requires : tie.Need-word32-requires
 word32-requires c κs = search needs
@@ -26,10 +31,15 @@ stands-requires c κs = search needs
 
 returns-2 : tie.Need-returns-2
 returns-2 c =
-    let a = c .before .before .before .before .before .before .before .before .before .before .args in
-    let s = stateOf (scheme (a .table .now)) (a .state .now) in
-    let h = stand-there (scheme (a .table .now)) s _ _ _ (c .before .before .word32 .ensures .is ∙ home-same _ _ _ (c .before .before .before .before .before .before .before .before .before .before .pre .0) (a .branch)) (c .before .stands .ensures) in
-    rw (standing-away (a .table .now) s (a .kind) (a .branch) (sym h ∙ not-true _ (c .if2 .taken))) (none-listed _ _ _)
+    let c1 = c .before in
+    let c2 = c1 .before in
+    let c10 = c2 .before .before .before .before .before .before .before .before in
+    let a = c10 .args in
+    let w = a .table .now in
+    let s = stateOf (scheme w) (a .state .now) in
+    let h = stand-there (scheme w) s _ _ _ (c2 .word32 .ensures .is ∙ home-same _ _ _ (c10 .pre .0) (a .branch)) (c1 .stands .ensures) in
+    rw (standing-away w s (a .kind) (a .branch) (sym h ∙ not-true _ (c .if2 .taken)))
+    (none-listed _ _ _)
 
 cast-store32 : tie.Need-cast-store32
 cast-store32 c = search needs
@@ -45,11 +55,20 @@ same-length c = search needs
 
 returns-3 : tie.Need-returns-3
 returns-3 c =
-    let a = c .before .before .before .before .before .before .before .before .before .before .before .before .before .before .args in
-    let s = stateOf (scheme (a .table .now)) (a .state .now) in
-    let h = stand-there (scheme (a .table .now)) s _ _ _ (c .before .before .before .before .before .before .word32 .ensures .is ∙ home-same _ _ _ (c .before .before .before .before .before .before .before .before .before .before .before .before .before .before .pre .0) (a .branch)) (c .before .before .before .before .before .stands .ensures) in
-    rw (standing-there (a .table .now) s (a .kind) (a .branch) (sym (c .before .before .before .before .before .before .before .before .branch-is .ensures) ∙ not-false _ (c .before .before .before .before .before .before .before .if1 .left)) (sym h ∙ not-false _ (c .before .before .before .before .if2 .left)))
-    (one-listed _ _ _ _ (c .before .before .store32 .ensures))
+    let c2 = c .before .before in
+    let c4 = c2 .before .before in
+    let c5 = c4 .before in
+    let c6 = c5 .before in
+    let c7 = c6 .before in
+    let c8 = c7 .before in
+    let c14 = c8 .before .before .before .before .before .before in
+    let a = c14 .args in
+    let w = a .table .now in
+    let s = stateOf (scheme w) (a .state .now) in
+    let h = stand-there (scheme w) s _ _ _ (c6 .word32 .ensures .is ∙ home-same _ _ _ (c14 .pre .0) (a .branch)) (c5 .stands .ensures) in
+    rw (standing-there w s (a .kind) (a .branch) (sym (c8 .branch-is .ensures) ∙ not-false _ (c7 .if1 .left))
+    (sym h ∙ not-false _ (c4 .if2 .left)))
+    (one-listed _ _ _ _ (c2 .store32 .ensures))
 
 pub gather-branch-spec : {M : Type 1} → statement M
 gather-branch-spec =

@@ -14,16 +14,24 @@ list-nodes-requires : tie.Need-list-nodes-requires
 list-nodes-requires c κs = c .before .before .before .before .before .before .before .before .pre .indexed
 
 list-meetings-requires : tie.Need-list-meetings-requires
-list-meetings-requires c κs = (c .before .before .before .before .before .before .before .before .before .before .before .before .pre, omega (arith, c .before .before .before .list-nodes .ensures .few))
+list-meetings-requires c κs =
+    let c3 = c .before .before .before in
+    let c12 = c3 .before .before .before .before .before .before .before .before .before in
+    (c12 .pre, omega (arith, c3 .list-nodes .ensures .few))
 
 same-length : tie.Need-same-length
 same-length c = search needs
 
 returns : tie.Need-returns
 returns c =
-    let a = c .before .before .before .before .before .before .before .before .before .before .before .before .before .before .before .args in
-    rw (all-are (a .table .now) (stateOf (scheme (a .table .now)) (a .state .now)) (slice 0 (a .s) (a .sends .now)) (slice 0 (a .r) (a .receives .now)))
-    (listed-append _ _ _ _ _ _ _ _ _ _ (c .before .before .before .before .before .before .list-nodes .ensures) (c .before .before .list-meetings .ensures))
+    let c2 = c .before .before in
+    let c6 = c2 .before .before .before .before in
+    let c15 = c6 .before .before .before .before .before .before .before .before .before in
+    let a = c15 .args in
+    let w = a .table .now in
+    let s = stateOf (scheme w) (a .state .now) in
+    rw (all-are w s (slice 0 (a .s) (a .sends .now)) (slice 0 (a .r) (a .receives .now)))
+    (listed-append _ _ _ _ _ _ _ _ _ _ (c6 .list-nodes .ensures) (c2 .list-meetings .ensures))
 
 pub list-spec : {M : Type 1} → statement M
 list-spec =

@@ -21,13 +21,23 @@ same-length c = search needs
 
 returns : tie.Need-returns
 returns c =
-    let a = c .before .before .before .before .before .before .before .before .args in
-    rw (silent-yes (scheme (a .table .now)) (a .branch) (silent-there (a .table .now) (a .branch) ∙ sym (c .before .before .before .before .before .branch-is .ensures) ∙ c .before .before .before .before .if1 .taken)) (c .before .before .write-label .ensures)
+    let c2 = c .before .before in
+    let c4 = c2 .before .before in
+    let c5 = c4 .before in
+    let c8 = c5 .before .before .before in
+    let a = c8 .args in
+    let w = a .table .now in
+    rw (silent-yes (scheme w) (a .branch) (silent-there w (a .branch) ∙ sym (c5 .branch-is .ensures) ∙ c4 .if1 .taken))
+    (c2 .write-label .ensures)
 
 returns-2 : tie.Need-returns-2
 returns-2 c =
-    let a = c .before .before .before .before .args in
-    rw (silent-no (scheme (a .table .now)) (a .branch) (silent-there (a .table .now) (a .branch) ∙ sym (c .before .branch-is .ensures) ∙ c .if1 .left)) (none-listed _ _ _)
+    let c1 = c .before in
+    let c4 = c1 .before .before .before in
+    let a = c4 .args in
+    let w = a .table .now in
+    rw (silent-no (scheme w) (a .branch) (silent-there w (a .branch) ∙ sym (c1 .branch-is .ensures) ∙ c .if1 .left))
+    (none-listed _ _ _)
 
 pub list-branch-spec : {M : Type 1} → statement M
 list-branch-spec =

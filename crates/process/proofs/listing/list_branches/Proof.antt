@@ -42,18 +42,30 @@ loop-less c = omega arith
 
 loop-again : tie.Need-loop-again Inv-loop μ-loop
 loop-again c =
-    let l = c .before .before .before .before .before .loop in
-    let r = c .before .before .list-branch in
-    (left-more _ _ _ _ _ _ (l .inv .0) _ _ _ _ _ (flat-more (silentWords (scheme (c .before .before .before .before .before .before .before .before .args .table .now))) (l .b) _ (c .before .before .before .before .loop-test .taken)) (r .ensures), omega (arith, l .inv .1, r .ensures .few), omega (arith, c .before .before .before .before .loop-test .taken))
+    let c2 = c .before .before in
+    let c4 = c2 .before .before in
+    let c5 = c4 .before in
+    let c8 = c5 .before .before .before in
+    let l = c5 .loop in
+    let r = c2 .list-branch in (
+      left-more _ _ _ _ _ _ (l .inv .0) _ _ _ _ _
+          (flat-more (silentWords (scheme (c8 .args .table .now))) (l .b) _ (c4 .loop-test .taken)) (r .ensures),
+      omega (arith, l .inv .1, r .ensures .few),
+      omega (arith, c4 .loop-test .taken),
+    )
 
 same-length : tie.Need-same-length Inv-loop μ-loop
 same-length c = c .before .loop .inv .0 .same-length
 
 returns : tie.Need-returns Inv-loop μ-loop
 returns c =
-    let l = c .before .loop in
-    let p = c .before .before .before .before .pre in
-    left-end _ _ _ _ _ _ (l .inv .0) _ (flat-done (silentWords (scheme (c .before .before .before .before .args .table .now))) (l .b) _ (c .loop-test .left)) (omega (arith, p .0, p .1, l .inv .1, l .inv .2))
+    let c1 = c .before in
+    let c4 = c1 .before .before .before in
+    let l = c1 .loop in
+    let p = c4 .pre in
+    left-end _ _ _ _ _ _ (l .inv .0) _
+    (flat-done (silentWords (scheme (c4 .args .table .now))) (l .b) _ (c .loop-test .left))
+    (omega (arith, p .0, p .1, l .inv .1, l .inv .2))
 
 pub list-branches-spec : {M : Type 1} → statement M
 list-branches-spec =

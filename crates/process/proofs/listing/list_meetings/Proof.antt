@@ -29,9 +29,18 @@ word32-requires c κs = search needs
 
 list-pairs-requires : tie.Need-list-pairs-requires Inv-loop μ-loop
 list-pairs-requires c κs =
-    let p = c .before .before .before .before .before .before .before .before .before .before .before .pre in
-    let v = c .before .before .before .loop .inv in
-    (record { indexed = p .0 .indexed; gathered = p .0 .receives-gathered; room = omega (arith, p .1, p .0 .sends-gathered .few, v .1, v .2) }, c .before .word32 .ensures .small)
+    let c1 = c .before in
+    let c3 = c1 .before .before in
+    let c11 = c3 .before .before .before .before .before .before .before .before in
+    let p = c11 .pre in
+    let v = c3 .loop .inv in (
+      record {
+        indexed = p .0 .indexed;
+        gathered = p .0 .receives-gathered;
+        room = omega (arith, p .1, p .0 .sends-gathered .few, v .1, v .2);
+      },
+      c1 .word32 .ensures .small,
+    )
 
 add-i : tie.Need-add-i Inv-loop μ-loop
 add-i c = omega arith
@@ -41,19 +50,37 @@ loop-less c = omega arith
 
 loop-again : tie.Need-loop-again Inv-loop μ-loop
 loop-again c =
-    let l = c .before .before .before .before .before .before .loop in
-    let a = c .before .before .before .before .before .before .before .before .before .before .before .before .before .before .args in
-    let r = c .before .before .list-pairs in
-    (left-more _ _ _ _ _ _ (l .inv .0) _ _ _ _ _ (slice-more (pairsWords (scheme (a .table .now)) (stateOf (scheme (a .table .now)) (a .state .now)) (slice 0 (a .r) (a .receives .now))) (a .sends .now) (l .i) _ (c .before .before .before .before .word32 .result) (c .before .before .before .before .word32 .ensures .is) (c .before .before .before .before .before .loop-test .taken) (c .before .before .before .before .before .before .before .before .before .before .before .before .before .before .pre .0 .sends-gathered .reach)) (r .ensures), omega (arith, l .inv .1, r .ensures .few), omega (arith, c .before .before .before .before .before .loop-test .taken))
+    let c2 = c .before .before in
+    let c4 = c2 .before .before in
+    let c5 = c4 .before in
+    let c6 = c5 .before in
+    let c14 = c6 .before .before .before .before .before .before .before .before in
+    let l = c6 .loop in
+    let a = c14 .args in
+    let w = a .table .now in
+    let s = stateOf (scheme w) (a .state .now) in
+    let r = c2 .list-pairs in (
+      left-more _ _ _ _ _ _ (l .inv .0) _ _ _ _ _
+          (slice-more (pairsWords (scheme w) s (slice 0 (a .r) (a .receives .now))) (a .sends .now) (l .i) _
+          (c4 .word32 .result) (c4 .word32 .ensures .is) (c5 .loop-test .taken) (c14 .pre .0 .sends-gathered .reach)) (r .ensures),
+      omega (arith, l .inv .1, r .ensures .few),
+      omega (arith, c5 .loop-test .taken),
+    )
 
 same-length : tie.Need-same-length Inv-loop μ-loop
 same-length c = c .before .loop .inv .0 .same-length
 
 returns : tie.Need-returns Inv-loop μ-loop
 returns c =
-    let l = c .before .loop in
-    let a = c .before .before .before .before .before .before .before .before .before .args in
-    left-end _ _ _ _ _ _ (l .inv .0) _ (slice-done (pairsWords (scheme (a .table .now)) (stateOf (scheme (a .table .now)) (a .state .now)) (slice 0 (a .r) (a .receives .now))) (a .sends .now) (l .i) _ (c .loop-test .left)) (omega (arith, l .inv .1, l .inv .2, c .before .before .before .before .before .before .before .before .before .pre .0 .sends-gathered .few))
+    let c1 = c .before in
+    let c9 = c1 .before .before .before .before .before .before .before .before in
+    let l = c1 .loop in
+    let a = c9 .args in
+    let w = a .table .now in
+    let s = stateOf (scheme w) (a .state .now) in
+    left-end _ _ _ _ _ _ (l .inv .0) _
+    (slice-done (pairsWords (scheme w) s (slice 0 (a .r) (a .receives .now))) (a .sends .now) (l .i) _ (c .loop-test .left))
+    (omega (arith, l .inv .1, l .inv .2, c9 .pre .0 .sends-gathered .few))
 
 pub list-meetings-spec : {M : Type 1} → statement M
 list-meetings-spec =

@@ -18,13 +18,25 @@ same-length c = search needs
 
 returns : tie.Need-returns
 returns c =
-    let a = c .before .before .before .before .before .before .before .before .before .before .before .args in
-    rw (node-yes (scheme (a .table .now)) (stateOf (scheme (a .table .now)) (a .state .now)) (a .node) (sym (c .before .before .before .before .before .stands .ensures) ∙ c .before .before .before .before .if1 .taken)) (c .before .before .list-steps .ensures)
+    let c2 = c .before .before in
+    let c4 = c2 .before .before in
+    let c5 = c4 .before in
+    let c11 = c5 .before .before .before .before .before .before in
+    let a = c11 .args in
+    let w = a .table .now in
+    let s = stateOf (scheme w) (a .state .now) in
+    rw (node-yes (scheme w) s (a .node) (sym (c5 .stands .ensures) ∙ c4 .if1 .taken))
+    (c2 .list-steps .ensures)
 
 returns-2 : tie.Need-returns-2
 returns-2 c =
-    let a = c .before .before .before .before .before .before .before .args in
-    rw (node-no (scheme (a .table .now)) (stateOf (scheme (a .table .now)) (a .state .now)) (a .node) (sym (c .before .stands .ensures) ∙ c .if1 .left)) (none-listed _ _ _)
+    let c1 = c .before in
+    let c7 = c1 .before .before .before .before .before .before in
+    let a = c7 .args in
+    let w = a .table .now in
+    let s = stateOf (scheme w) (a .state .now) in
+    rw (node-no (scheme w) s (a .node) (sym (c1 .stands .ensures) ∙ c .if1 .left))
+    (none-listed _ _ _)
 
 pub list-node-spec : {M : Type 1} → statement M
 list-node-spec =

@@ -29,9 +29,12 @@ word32-requires c κs = search needs
 
 list-pair-requires : tie.Need-list-pair-requires Inv-loop μ-loop
 list-pair-requires c κs =
-    let p = c .before .before .before .before .before .before .before .before .before .before .pre in
-    let v = c .before .before .before .loop .inv in
-    (p .0 .indexed, p .1, c .before .word32 .ensures .small, omega (arith, p .0 .room, p .0 .gathered .few, v .1, v .2))
+    let c1 = c .before in
+    let c3 = c1 .before .before in
+    let c10 = c3 .before .before .before .before .before .before .before in
+    let p = c10 .pre in
+    let v = c3 .loop .inv in
+    (p .0 .indexed, p .1, c1 .word32 .ensures .small, omega (arith, p .0 .room, p .0 .gathered .few, v .1, v .2))
 
 add-i : tie.Need-add-i Inv-loop μ-loop
 add-i c = omega arith
@@ -41,19 +44,37 @@ loop-less c = omega arith
 
 loop-again : tie.Need-loop-again Inv-loop μ-loop
 loop-again c =
-    let l = c .before .before .before .before .before .before .loop in
-    let a = c .before .before .before .before .before .before .before .before .before .before .before .before .before .args in
-    let r = c .before .before .list-pair in
-    (left-more _ _ _ _ _ _ (l .inv .0) _ _ _ _ _ (slice-more (pairWords (scheme (a .table .now)) (stateOf (scheme (a .table .now)) (a .state .now)) (a .send)) (a .receives .now) (l .i) _ (c .before .before .before .before .word32 .result) (c .before .before .before .before .word32 .ensures .is) (c .before .before .before .before .before .loop-test .taken) (c .before .before .before .before .before .before .before .before .before .before .before .before .before .pre .0 .gathered .reach)) (r .ensures), omega (arith, l .inv .1, r .ensures .few), omega (arith, c .before .before .before .before .before .loop-test .taken))
+    let c2 = c .before .before in
+    let c4 = c2 .before .before in
+    let c5 = c4 .before in
+    let c6 = c5 .before in
+    let c13 = c6 .before .before .before .before .before .before .before in
+    let l = c6 .loop in
+    let a = c13 .args in
+    let w = a .table .now in
+    let s = stateOf (scheme w) (a .state .now) in
+    let r = c2 .list-pair in (
+      left-more _ _ _ _ _ _ (l .inv .0) _ _ _ _ _
+          (slice-more (pairWords (scheme w) s (a .send)) (a .receives .now) (l .i) _
+          (c4 .word32 .result) (c4 .word32 .ensures .is) (c5 .loop-test .taken) (c13 .pre .0 .gathered .reach)) (r .ensures),
+      omega (arith, l .inv .1, r .ensures .few),
+      omega (arith, c5 .loop-test .taken),
+    )
 
 same-length : tie.Need-same-length Inv-loop μ-loop
 same-length c = c .before .loop .inv .0 .same-length
 
 returns : tie.Need-returns Inv-loop μ-loop
 returns c =
-    let l = c .before .loop in
-    let a = c .before .before .before .before .before .before .before .before .args in
-    left-end _ _ _ _ _ _ (l .inv .0) _ (slice-done (pairWords (scheme (a .table .now)) (stateOf (scheme (a .table .now)) (a .state .now)) (a .send)) (a .receives .now) (l .i) _ (c .loop-test .left)) (omega (arith, l .inv .1, l .inv .2, c .before .before .before .before .before .before .before .before .pre .0 .gathered .few))
+    let c1 = c .before in
+    let c8 = c1 .before .before .before .before .before .before .before in
+    let l = c1 .loop in
+    let a = c8 .args in
+    let w = a .table .now in
+    let s = stateOf (scheme w) (a .state .now) in
+    left-end _ _ _ _ _ _ (l .inv .0) _
+    (slice-done (pairWords (scheme w) s (a .send)) (a .receives .now) (l .i) _ (c .loop-test .left))
+    (omega (arith, l .inv .1, l .inv .2, c8 .pre .0 .gathered .few))
 
 pub list-pairs-spec : {M : Type 1} → statement M
 list-pairs-spec =

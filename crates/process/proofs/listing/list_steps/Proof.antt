@@ -25,9 +25,15 @@ same-length c = search needs
 
 returns : tie.Need-returns
 returns c =
-    let a = c .before .before .before .before .before .before .before .before .before .before .args in
-    rw (steps-choice (a .table .now) (a .node) (sym (c .before .before .before .before .before .before .before .node-is .ensures) ∙ c .before .before .before .before .before .before .if1 .taken), ← c .before .before .before .before .before .field3 .ensures .is, ← c .before .before .before .before .field32 .ensures .is)
-    (c .before .before .list-branches .ensures)
+    let c2 = c .before .before in
+    let c4 = c2 .before .before in
+    let c5 = c4 .before in
+    let c6 = c5 .before in
+    let c7 = c6 .before in
+    let c10 = c7 .before .before .before in
+    let a = c10 .args in
+    rw (steps-choice (a .table .now) (a .node) (sym (c7 .node-is .ensures) ∙ c6 .if1 .taken), ← c5 .field3 .ensures .is, ← c4 .field32 .ensures .is)
+    (c2 .list-branches .ensures)
 
 node-is-requires-2 : tie.Need-node-is-requires-2
 node-is-requires-2 c κs = search needs
@@ -49,9 +55,15 @@ same-length-2 c = search needs
 
 returns-2 : tie.Need-returns-2
 returns-2 c =
-    let a = c .before .before .before .before .before .before .before .before .before .before .before .args in
-    rw (steps-new (a .table .now) (a .node) (sym (c .before .before .before .before .before .before .node-is2 .ensures) ∙ c .before .before .before .before .before .if2 .taken), ← c .before .before .before .field33 .ensures .is)
-    (listed-more _ _ _ _ _ 3 196608 (omega arith) (c .before .before .write-label .ensures))
+    let c2 = c .before .before in
+    let c3 = c2 .before in
+    let c5 = c3 .before .before in
+    let c6 = c5 .before in
+    let c11 = c6 .before .before .before .before .before in
+    let a = c11 .args in
+    rw (steps-new (a .table .now) (a .node) (sym (c6 .node-is2 .ensures) ∙ c5 .if2 .taken), ← c3 .field33 .ensures .is)
+    (listed-more _ _ _ _ _ 3 196608 (omega arith)
+    (c2 .write-label .ensures))
 
 node-is-requires-3 : tie.Need-node-is-requires-3
 node-is-requires-3 c κs = search needs
@@ -67,13 +79,25 @@ same-length-3 c = search needs
 
 returns-3 : tie.Need-returns-3
 returns-3 c =
-    let a = c .before .before .before .before .before .before .before .before .before .before .before .before .args in
-    rw (steps-call (a .table .now) (a .node) (sym (c .before .before .before .before .before .node-is3 .ensures) ∙ c .before .before .before .before .if3 .taken)) (listed-more _ _ _ _ _ 3 196608 (omega arith) (c .before .before .write-label2 .ensures))
+    let c2 = c .before .before in
+    let c4 = c2 .before .before in
+    let c5 = c4 .before in
+    let c12 = c5 .before .before .before .before .before .before .before in
+    let a = c12 .args in
+    rw (steps-call (a .table .now) (a .node) (sym (c5 .node-is3 .ensures) ∙ c4 .if3 .taken))
+    (listed-more _ _ _ _ _ 3 196608 (omega arith) (c2 .write-label2 .ensures))
 
 returns-4 : tie.Need-returns-4
 returns-4 c =
-    let a = c .before .before .before .before .before .before .before .before .args in
-    rw (steps-none (a .table .now) (a .node) (sym (c .before .before .before .before .before .node-is .ensures) ∙ c .before .before .before .before .if1 .left) (sym (c .before .before .before .node-is2 .ensures) ∙ c .before .before .if2 .left) (sym (c .before .node-is3 .ensures) ∙ c .if3 .left))
+    let c1 = c .before in
+    let c2 = c1 .before in
+    let c3 = c2 .before in
+    let c4 = c3 .before in
+    let c5 = c4 .before in
+    let c8 = c5 .before .before .before in
+    let a = c8 .args in
+    rw (steps-none (a .table .now) (a .node) (sym (c5 .node-is .ensures) ∙ c4 .if1 .left) (sym (c3 .node-is2 .ensures) ∙ c2 .if2 .left)
+    (sym (c1 .node-is3 .ensures) ∙ c .if3 .left))
     (none-listed _ _ _)
 
 pub list-steps-spec : {M : Type 1} → statement M

@@ -27,7 +27,11 @@ same-length : tie.Need-same-length
 same-length c = search needs
 
 returns : tie.Need-returns
-returns c = three-listed _ _ _ _ _ _ _ _ (c .before .before .before .before .before .before .before .before .before .before .store32 .ensures) (c .before .before .before .before .before .before .store322 .ensures) (c .before .before .store323 .ensures)
+returns c =
+    let c2 = c .before .before in
+    let c6 = c2 .before .before .before .before in
+    let c10 = c6 .before .before .before .before in
+    three-listed _ _ _ _ _ _ _ _ (c10 .store32 .ensures) (c6 .store322 .ensures) (c2 .store323 .ensures)
 
 pub write-label-spec : {M : Type 1} → statement M
 write-label-spec =
