@@ -1,8 +1,11 @@
--- Worked states, computed: table E on the way of its run, definitions that call each other passing a private name, and a name sent on itself.
+-- Worked states, computed: table E on the way of its run, definitions that call each other passing a private name, a name sent on itself, and
+-- steps of several kinds open at once.
 use mathlib.Core.Path.{_≡_, refl}
 use mathlib.Core.Bool.{Bool, true, false, not, _&&_}
 use mathlib.Core.List.{List, [], _∷_}
+use mathlib.Core.Option.{Option, some}
 use Prim.Native.Nat.{ℕ}
+use lib.ListN.{length}
 use Rattle.lists.specs.Lists.{same, from, every, keep, flat, member, firstFrom}
 use Rattle.table.specs.Words.{formals, branchesOf, argumentsOf}
 use Rattle.table.specs.Owners.{home, owner, pickOwner, heldBy, definitionBy, held, definition}
@@ -10,6 +13,7 @@ use Rattle.table.specs.Scheme.{Scheme, scheme, nodeAt, branchAt, argumentsAt, p
 use Rattle.process.specs.States.{State, start, put}
 use Rattle.process.specs.Steps.{Step, newStep, silentStep, communication, callStep, take, passed, isOpen}
 use Rattle.process.specs.Labels.{labelOf, stepOf, steps, openSteps, openLabels}
+use Rattle.process.specs.Outcomes.{Outcome, answered, written, refusal}
 use Rattle.process.specs.StateWords.{stateWords, place, noted, valueWords, wellFormed, stateOf, sameList}
 
 -- "ν r.p⟨r⟩.0 beside p(x).0"
@@ -29,6 +33,13 @@ abbrev tableItself : List ℕ
 tableItself =
     1 ∷ 1 ∷ 2 ∷ 2 ∷ 5 ∷ 3 ∷ 0 ∷ 13 ∷ 14 ∷ 22 ∷ 24 ∷ 39 ∷ 51 ∷ 1 ∷ 0 ∷ 0 ∷ 0 ∷ 0 ∷ 1 ∷ 2 ∷ 0 ∷ 0 ∷ 0 ∷ 1 ∷
     1 ∷ 0 ∷ 1 ∷ 0 ∷ 0 ∷ 0 ∷ 1 ∷ 1 ∷ 1 ∷ 1 ∷ 2 ∷ 1 ∷ 0 ∷ 0 ∷ 0 ∷ 1 ∷ 0 ∷ 0 ∷ 1 ∷ 2 ∷ 0 ∷ 1 ∷ 3 ∷ 0 ∷ 0 ∷ 0 ∷ 4 ∷ []
+
+-- p⟨p⟩.0 + τ.0 beside p(x).0 + p(y).0
+abbrev tableChoice : List ℕ
+tableChoice =
+    1 ∷ 2 ∷ 2 ∷ 2 ∷ 6 ∷ 4 ∷ 0 ∷ 13 ∷ 15 ∷ 23 ∷ 25 ∷ 43 ∷ 59 ∷ 1 ∷ 1 ∷ 0 ∷ 0 ∷ 0 ∷ 0 ∷ 1 ∷ 3 ∷ 0 ∷ 0 ∷ 0 ∷ 1 ∷
+    1 ∷ 0 ∷ 2 ∷ 0 ∷ 0 ∷ 0 ∷ 0 ∷ 0 ∷ 0 ∷ 1 ∷ 2 ∷ 2 ∷ 0 ∷ 0 ∷ 0 ∷ 0 ∷ 0 ∷ 0 ∷
+    1 ∷ 0 ∷ 0 ∷ 1 ∷ 0 ∷ 0 ∷ 0 ∷ 2 ∷ 2 ∷ 0 ∷ 1 ∷ 4 ∷ 2 ∷ 0 ∷ 2 ∷ 5 ∷ []
 
 -- a table, the steps taken from the start, and then the state's words and the labels of its open steps
 pub record Case : Type 0 where
@@ -65,7 +76,11 @@ cases =
     -- the receiver has the channel itself
     case tableItself [] (0 ∷ 2 ∷ 65535 ∷ []) (4 ∷ 0 ∷ 1 ∷ []) ∷
     case tableItself (communication 0 1 ∷ []) (1 ∷ 3 ∷ 0 ∷ []) (3 ∷ 2 ∷ 0 ∷ []) ∷
-    case tableItself (communication 0 1 ∷ silentStep 2 ∷ []) (1 ∷ 4 ∷ 65535 ∷ []) [] ∷ []
+    case tableItself (communication 0 1 ∷ silentStep 2 ∷ []) (1 ∷ 4 ∷ 65535 ∷ []) [] ∷
+    -- the silent branch first, then the send with each receive; once the sender has gone, nothing
+    case tableChoice [] (0 ∷ 3 ∷ 65535 ∷ 65535 ∷ []) (3 ∷ 1 ∷ 0 ∷ 4 ∷ 0 ∷ 2 ∷ 4 ∷ 0 ∷ 3 ∷ []) ∷
+    case tableChoice (silentStep 1 ∷ []) (2 ∷ 3 ∷ 65535 ∷ 65535 ∷ []) [] ∷
+    case tableChoice (communication 0 3 ∷ []) (1 ∷ 5 ∷ 65535 ∷ 65535 ∷ []) [] ∷ []
 
 pub computed : every right cases ≡ true
 unfolding same from every keep flat member firstFrom formals branchesOf argumentsOf home owner pickOwner heldBy definitionBy held definition scheme nodeAt branchAt argumentsAt pickBinder binderOf start put take passed isOpen stepOf steps openSteps openLabels stateWords place noted valueWords wellFormed stateOf sameList after
@@ -75,3 +90,13 @@ computed = refl
 pub malformed : every (λ ws. not (wellFormed (scheme tableE) ws)) ((1 ∷ 3 ∷ 2 ∷ 65535 ∷ []) ∷ (1 ∷ 3 ∷ 1 ∷ []) ∷ (2 ∷ 4 ∷ 1 ∷ 65535 ∷ []) ∷ (3 ∷ 0 ∷ 65535 ∷ 65535 ∷ []) ∷ []) ≡ true
 unfolding same from every keep flat member firstFrom formals branchesOf argumentsOf home owner pickOwner heldBy definitionBy held definition scheme nodeAt branchAt argumentsAt pickBinder binderOf start put take passed isOpen stepOf steps openSteps openLabels stateWords place noted valueWords wellFormed stateOf sameList after
 malformed = refl
+
+-- E's open labels in a longer output, in one that is as long, and in one that is too short
+abbrev labelled : List ℕ → Outcome
+labelled lent = let S = scheme tableE in answered (length (openSteps S (start S))) (openLabels S (start S)) lent
+
+pub fitted : (labelled (7 ∷ 7 ∷ 7 ∷ 7 ∷ []) ≡ written 1 (2 ∷ 0 ∷ 1 ∷ []) (7 ∷ 7 ∷ 7 ∷ 7 ∷ []))
+    × (labelled (7 ∷ 7 ∷ 7 ∷ []) ≡ record { number = 0; value = some 1; left = 2 ∷ 0 ∷ 1 ∷ [] })
+    × (labelled (7 ∷ 7 ∷ []) ≡ refusal 10 (7 ∷ 7 ∷ []))
+unfolding same from every keep flat member firstFrom formals branchesOf argumentsOf home owner pickOwner heldBy definitionBy held definition scheme nodeAt branchAt argumentsAt pickBinder binderOf start put isOpen steps openSteps openLabels answered
+fitted = (refl, refl, refl)

@@ -1,6 +1,6 @@
 // The open steps of a state, listed as labels of three words.
 //
-// The sends and the receives of the nodes where threads stand are gathered once; only they are tried against each other.
+// The sends and receives of the nodes where threads stand are gathered once, and only they are tried against each other.
 ghost use mathlib.Core.Path.{_≡_};
 ghost use mathlib.Core.List.{[], _∷_};
 ghost use Prim.Native.Nat.{_+_, _≤_, _<_};

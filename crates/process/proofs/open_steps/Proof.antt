@@ -1,4 +1,5 @@
 -- `process::open_steps` meets its contract: the table, the state words, then room.
+-- `cN` is the place N steps before `c`.
 use mathlib.Core.Path.{_≡_, refl, sym, ap, _∙_}
 use native.Mathlib.Omega.{arith}
 use borrow.Author.Tests.{not-true, not-false}

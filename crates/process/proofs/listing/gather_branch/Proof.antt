@@ -1,4 +1,5 @@
 -- `process::listing::gather_branch` meets its contract.
+-- `cN` is the place N steps before `c`.
 use mathlib.Core.Path.{_≡_, refl, sym, ap, _∙_}
 use borrow.Author.Tests.{not-true, not-false}
 use Rattle.table.specs.Scheme.{scheme}

@@ -1,4 +1,5 @@
 -- `process::listing::list_node` meets its contract.
+-- `cN` is the place N steps before `c`.
 use mathlib.Core.Path.{_≡_, refl, sym, ap, _∙_}
 use Rattle.table.specs.Scheme.{scheme}
 use Rattle.process.specs.StateWords.{stateOf}
