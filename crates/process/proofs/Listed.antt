@@ -1,8 +1,8 @@
 -- Words written one after another: what a loop has left to write, and the labels of a node, a branch and a pair.
-use mathlib.Core.Path.{_≡_, refl, sym, ap, _∙_}
-use mathlib.Core.Bool.{Bool, true, false, not, _&&_, true≢false, false≢true}
-use mathlib.Core.List.{List, [], _∷_, _++_, map, append-nil}
-use Prim.Native.Nat.{ℕ, zero, suc, _+_, _-_, _*_, _≤_, _<_}
+use mathlib.Core.Path.{_≡_, refl, sym, _∙_}
+use mathlib.Core.Bool.{Bool, true, false, _&&_, false≢true}
+use mathlib.Core.List.{List, [], _∷_, _++_, map}
+use Prim.Native.Nat.{ℕ, suc, _+_, _≤_, _<_}
 use native.Mathlib.Nat.{add-zero}
 use native.Mathlib.Omega.{arith}
 use lib.Dec.{ltb}
@@ -14,11 +14,11 @@ use Rattle.table.specs.Words.{nodes, branches, branchKind, nodeFirst, nodeSecon
 use Rattle.table.specs.Scheme.{Scheme, scheme, Node, stop, choice, new, call, nodeAt}
 use Rattle.table.specs.Kinds
 use Rattle.process.specs.States.{State}
-use Rattle.process.specs.Steps.{Step, silentStep, communication, isOpen, standsAt}
+use Rattle.process.specs.Steps.{silentStep, communication, isOpen, standsAt}
 use Rattle.process.specs.Labels.{labelOf, stepsOfNode}
 use Rattle.process.specs.Inner.Listed.{Listed, silentWords, stepWords, nodeWords, pairWords, pairsWords, meetingWords, listWords, standing}
 use Rattle.process.proofs.Sets.{sets-append}
-use Rattle.process.proofs.Decoding.{new-at, call-at, stop-else, silent-there}
+use Rattle.process.proofs.Decoding.{new-at, call-at, stop-else}
 
 -- ---- one after another
 

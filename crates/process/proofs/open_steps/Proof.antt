@@ -1,7 +1,6 @@
 -- `process::open_steps` meets its contract: the table, the state words, then room.
 -- `cN` is the place N steps before `c`.
-use mathlib.Core.Path.{_≡_, refl, sym, ap, _∙_}
-use native.Mathlib.Omega.{arith}
+use mathlib.Core.Path.{sym, _∙_}
 use borrow.Author.Tests.{not-true, not-false}
 use Rattle.process.proofs.Stepping.{known, accepted-here}
 use Rattle.process.proofs.Fitted.{open-refused, open-malformed, open-short, open-written}

@@ -1,11 +1,11 @@
 -- Labels written one after another, and branches gathered, as far as a buffer reaches.
 use mathlib.Core.Path.{_≡_}
-use mathlib.Core.Bool.{Bool, true, false, _&&_}
+use mathlib.Core.Bool.{_&&_}
 use mathlib.Core.List.{List, [], _∷_, _++_}
 use Prim.Native.Nat.{ℕ, _+_, _≤_, _<_}
 use lib.Dec.{ltb}
 use lib.ListN.{length, drop}
-use lib.Seq.{sets, slice}
+use lib.Seq.{sets}
 use Rattle.lists.specs.Lists.{pick, same, range, flat}
 use Rattle.table.specs.Words.{branches, branchKind}
 use Rattle.table.specs.Scheme.{Scheme, scheme}
@@ -13,7 +13,6 @@ use Rattle.table.specs.Kinds.{isSilent}
 use Rattle.process.specs.States.{State}
 use Rattle.process.specs.Steps.{communication, isOpen, standsAt}
 use Rattle.process.specs.Labels.{labelOf, stepsOfNode}
-use Rattle.process.specs.StateWords.{stateOf}
 use Rattle.process.specs.Inner.Index.{Indexed}
 
 -- the words are written from place i on, as far as the buffer reaches; the next place is r, not far from i

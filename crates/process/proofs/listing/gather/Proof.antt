@@ -1,7 +1,6 @@
 -- `process::listing::gather` meets its contract. Loop: the branches left are still to be gathered. Measure: branches left.
 -- `cN` is the place N steps before `c`.
-use mathlib.Core.Path.{_≡_, refl, sym, ap, _∙_}
-use Prim.Native.Nat.{ℕ, _+_, _-_, _*_, _≤_, _<_}
+use Prim.Native.Nat.{_-_, _≤_}
 use native.Mathlib.Omega.{arith}
 use native.Mathlib.Nat.{sub-zero}
 use Rattle.lists.specs.Lists.{from, range, flat}

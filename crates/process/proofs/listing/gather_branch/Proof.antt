@@ -1,6 +1,6 @@
 -- `process::listing::gather_branch` meets its contract.
 -- `cN` is the place N steps before `c`.
-use mathlib.Core.Path.{_≡_, refl, sym, ap, _∙_}
+use mathlib.Core.Path.{sym, _∙_}
 use borrow.Author.Tests.{not-true, not-false}
 use Rattle.table.specs.Scheme.{scheme}
 use Rattle.process.specs.StateWords.{stateOf}

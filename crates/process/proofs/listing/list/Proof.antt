@@ -1,7 +1,5 @@
 -- `process::listing::list` meets its contract: the labels of nodes, then those of pairs.
 -- `cN` is the place N steps before `c`.
-use mathlib.Core.Path.{_≡_, refl, sym, ap, _∙_}
-use Prim.Native.Nat.{ℕ, _+_, _-_, _*_, _≤_, _<_}
 use native.Mathlib.Omega.{arith}
 use lib.Seq.{slice}
 use Rattle.table.specs.Scheme.{scheme}

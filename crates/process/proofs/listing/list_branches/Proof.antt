@@ -1,14 +1,13 @@
 -- `process::listing::list_branches` meets its contract. Loop: the labels of the branches left are still to be written. Measure: branches left.
 -- `cN` is the place N steps before `c`.
-use mathlib.Core.Path.{_≡_, refl, sym, ap, _∙_}
-use Prim.Native.Nat.{ℕ, _+_, _-_, _*_, _≤_, _<_}
+use mathlib.Core.Path.{_≡_}
+use Prim.Native.Nat.{_+_, _-_, _*_, _≤_}
 use native.Mathlib.Omega.{arith}
 use Rattle.lists.specs.Lists.{from, flat}
 use Rattle.lists.proofs.Ranges.{flat-more, flat-done}
 use Rattle.table.specs.Scheme.{scheme}
 use Rattle.process.specs.Inner.Listed.{silentWords}
 use Rattle.process.proofs.Listed.{Left, left-start, left-more, left-end}
-use borrow.Author.Needs.{needs}
 use Rattle.process.proofs.listing.list_branches.Statement.{statement}
 use Rattle.process.proofs.listing.list_branches.Tie as tie
 

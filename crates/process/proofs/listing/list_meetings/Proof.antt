@@ -1,7 +1,6 @@
 -- `process::listing::list_meetings` meets its contract. Loop: the pairs of the sends left are still to be written. Measure: sends left.
 -- `cN` is the place N steps before `c`.
-use mathlib.Core.Path.{_≡_, refl, sym, ap, _∙_}
-use Prim.Native.Nat.{ℕ, _+_, _-_, _*_, _≤_, _<_}
+use Prim.Native.Nat.{_+_, _-_, _*_, _≤_}
 use native.Mathlib.Omega.{arith}
 use lib.Seq.{slice}
 use Rattle.lists.specs.Lists.{flat}

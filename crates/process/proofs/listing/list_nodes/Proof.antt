@@ -1,7 +1,6 @@
 -- `process::listing::list_nodes` meets its contract. Loop: the labels of the nodes left are still to be written. Measure: nodes left.
 -- `cN` is the place N steps before `c`.
-use mathlib.Core.Path.{_≡_, refl, sym, ap, _∙_}
-use Prim.Native.Nat.{ℕ, _+_, _-_, _*_, _≤_, _<_}
+use Prim.Native.Nat.{_-_, _*_, _≤_}
 use native.Mathlib.Omega.{arith}
 use native.Mathlib.Nat.{sub-zero}
 use Rattle.lists.specs.Lists.{from, range, flat}

@@ -1,9 +1,7 @@
 -- `process::listing::list_steps` meets its contract, kind by kind.
 -- `cN` is the place N steps before `c`.
-use mathlib.Core.Path.{_≡_, refl, sym, ap, _∙_}
-use Prim.Native.Nat.{ℕ, _+_, _-_, _*_, _≤_, _<_}
+use mathlib.Core.Path.{sym, _∙_}
 use native.Mathlib.Omega.{arith}
-use Rattle.table.specs.Scheme.{scheme}
 use Rattle.process.proofs.Listed.{none-listed, listed-more, steps-choice, steps-new, steps-call, steps-none}
 use borrow.Author.Needs.{needs}
 use Rattle.process.proofs.listing.list_steps.Statement.{statement}

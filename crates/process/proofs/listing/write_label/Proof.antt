@@ -1,6 +1,5 @@
 -- `process::listing::write_label` meets its contract.
 -- `cN` is the place N steps before `c`.
-use mathlib.Core.Path.{_≡_, refl, sym, ap, _∙_}
 use Rattle.process.proofs.Listed.{three-listed}
 use borrow.Author.Needs.{needs}
 use Rattle.process.proofs.listing.write_label.Statement.{statement}
