@@ -10,11 +10,11 @@ use native.Mathlib.Nat.{add-zero, sub-zero}
 use native.Mathlib.Numerals.{add-one}
 use native.Mathlib.Omega.{arith}
 use lib.Dec.{ltb}
-use lib.ListN.{length, drop, set, length-set}
+use lib.ListN.{length, take, drop, set, length-set}
 use borrow.Author.Tests.{lt-ltb, le-ltb}
 use Rattle.lists.specs.Lists.{pick, same, word, from, range, member}
 use Rattle.lists.proofs.Tests.{same-yes, same-no, same-self, not-true-false, not-false-true, true-or-false}
-use Rattle.lists.proofs.Members.{member-not, not-member}
+use Rattle.lists.proofs.Members.{member-not, not-member, map-append}
 use Rattle.lists.proofs.Ranges.{from-more, from-done, from-length, from-snoc, member-from, from-member}
 use lib.Seq.{sets, slice, length-slice, take-suc-set}
 use Rattle.lists.proofs.Slices.{drop-step, drop-none, slice-step, slice-none}
@@ -227,20 +227,35 @@ module _ (P : ℕ) (seen : List ℕ) (count v : ℕ) (N : Numberable P seen coun
 
 -- ---- all values written
 
-module _ (f : ℕ → Option ℕ) (P T B i count : ℕ) (out seen : List ℕ) where
+module _ (vs : List ℕ) (P T B i count : ℕ) (out seen : List ℕ) where
   -- what is left to write once i values are written
   abbrev pub valuesLeft : List ℕ
-  valuesLeft = sets out (T + i) (valueWords P (slice 0 count seen) (map f (from (P + i) (B - i))))
+  valuesLeft = sets out (T + i) (valueWords P (slice 0 count seen) (map valueAt (slice i B vs)))
 
   pub values-done : B ≤ i → valuesLeft ≡ out
-  unfolding valueWords from
-  values-done h = let q : B - i ≡ 0 = omega arith in rw q
+  unfolding valueWords
+  values-done h = rw (slice-none vs i B h)
 
-pub values-turn : (f : ℕ → Option ℕ) (P T B i count v : ℕ) (out seen after : List ℕ) (word next : ℕ) → i < B → f (P + i) ≡ valueAt v
-    → Turned P seen count v after word next → valuesLeft f P T B i count out seen ≡ valuesLeft f P T B (i + 1) next (set out (T + i) word) after
-values-turn f P T B i count v out seen after word next h e N =
-    let q : B - i ≡ suc (B - (i + 1)) = omega arith in
-    let y : P + i + 1 ≡ P + (i + 1) = omega arith in
-    let z : suc (T + i) ≡ T + (i + 1) = omega arith in
-    let l : from (P + i) (B - i) ≡ (P + i) ∷ from (P + (i + 1)) (B - (i + 1)) = rw (q, ← y) (opened (P + i) (B - (i + 1))) in
-    rw (l, e, N .words (map f (from (P + (i + 1)) (B - (i + 1)))), ← z)
+  pub values-turn : (v : ℕ) (after : List ℕ) (word-of next : ℕ) → i < B → B ≤ length vs → v ≡ word vs i → Turned P seen count v after word-of next
+      → valuesLeft ≡ sets (set out (T + i) word-of) (T + (i + 1)) (valueWords P (slice 0 next after) (map valueAt (slice (i + 1) B vs)))
+  values-turn v after word-of next h k e N =
+      let z : suc (T + i) ≡ T + (i + 1) = omega arith in
+      rw (slice-step vs i B h k, ← e, N .words (map valueAt (slice (i + 1) B vs)), ← z)
+
+-- nothing is seen and nothing written
+pub values-start : (vs : List ℕ) (P T B : ℕ) (out : List ℕ)
+    → sets out T (valueWords P [] (map valueAt (take B vs))) ≡ sets out (T + 0) (valueWords P [] (map valueAt (slice 0 B vs)))
+values-start vs P T B out = rw (add-zero T)
+
+-- ---- values filled in one by one
+
+pub fill-none : (f : ℕ → Option ℕ) (P : ℕ) → [] ≡ map f (from P 0)
+unfolding from
+fill-none f P = refl
+
+pub fill-more : (f : ℕ → Option ℕ) (P i v : ℕ) (vs : List ℕ) → i < length vs → f (P + i) ≡ valueAt v
+    → map valueAt (slice 0 i vs) ≡ map f (from P i) → map valueAt (slice 0 (i + 1) (set vs i v)) ≡ map f (from P (i + 1))
+fill-more f P i v vs h e q =
+    let a : slice 0 (i + 1) (set vs i v) ≡ slice 0 i vs ++ (v ∷ []) = rw add-one (take-suc-set vs i v h) in
+    let b : from P (i + 1) ≡ from P i ++ ((P + i) ∷ []) = rw add-one (from-snoc P i) in
+    rw (a, b) (map-append valueAt (slice 0 i vs) (v ∷ []) ∙ rw (q, ← e) (sym (map-append f (from P i) ((P + i) ∷ []))))

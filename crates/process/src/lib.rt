@@ -7,14 +7,13 @@ mod labels;
 mod listing;
 mod next;
 mod threads;
-mod values;
+pub mod values;
 
 ghost use mathlib.Core.Path.{_≡_};
 ghost use mathlib.Core.List.{map};
 ghost use lib.Seq.{sets};
 ghost use lib.ListN.{replicate};
-ghost use Rattle.lists.specs.Lists.{same, range};
-ghost use Rattle.table.specs.Answer.{causeOf};
+ghost use Rattle.lists.specs.Lists.{range};
 ghost use Rattle.table.specs.Words.{threads, bounds, root, entry};
 ghost use Rattle.process.specs.Answers.{outcomeOf};
 ghost use Rattle.process.specs.Outcomes.{startOutcome, openOutcome, stepOutcome};
@@ -35,24 +34,6 @@ pub enum Answer {
     Malformed,
     NotOpen,
     NoRoom,
-}
-
-// Whether a verdict refuses nothing.
-fn is_accepted(verdict: table::Verdict) -> bool
-    ensures { λ r. ⌜ r ≡ same (causeOf verdict) 0 ⌝ }
-{
-    match verdict {
-        table::Verdict::Accepted => true,
-        table::Verdict::Short => false,
-        table::Verdict::Counts => false,
-        table::Verdict::Layout => false,
-        table::Verdict::Kinds => false,
-        table::Verdict::Ranges => false,
-        table::Verdict::Shape => false,
-        table::Verdict::Binding => false,
-        table::Verdict::Scope => false,
-        table::Verdict::Calls => false,
-    }
 }
 
 // Writes the root of each thread's entry definition.
@@ -85,7 +66,7 @@ pub fn start(table: &[u16], state: &mut [u16]) -> Answer
     ensures { λ r. ⌜ outcomeOf r (now (state .exit)) ≡ startOutcome (now (table .entry)) (now (state .entry)) ⌝ }
 {
     let verdict = table::check(table);
-    if !is_accepted(verdict) {
+    if !table::is_accepted(verdict) {
         return Answer::Refused(verdict);
     }
     let size = word16(table, 3) + word16(table, 1);
@@ -102,7 +83,7 @@ pub fn open_steps(table: &[u16], state: &[u16], labels: &mut [u32]) -> Answer
     ensures { λ r. ⌜ outcomeOf r (now (labels .exit)) ≡ openOutcome (now (table .entry)) (now (state .entry)) (now (labels .entry)) ⌝ }
 {
     let verdict = table::check(table);
-    if !is_accepted(verdict) {
+    if !table::is_accepted(verdict) {
         return Answer::Refused(verdict);
     }
     let mut owners = [0u32; 256];
@@ -126,7 +107,7 @@ pub fn step(table: &[u16], state: &[u16], kind: u32, a: u32, b: u32, next: &mut 
     ensures { λ r. ⌜ outcomeOf r (now (next .exit)) ≡ stepOutcome (now (table .entry)) (now (state .entry)) kind a b (now (next .entry)) ⌝ }
 {
     let verdict = table::check(table);
-    if !is_accepted(verdict) {
+    if !table::is_accepted(verdict) {
         return Answer::Refused(verdict);
     }
     let mut owners = [0u32; 256];

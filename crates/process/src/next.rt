@@ -10,9 +10,9 @@ ghost use Rattle.table.specs.Words.{publics, bounds, threads};
 ghost use Rattle.table.specs.Kinds.{isStop};
 ghost use Rattle.table.specs.Scheme.{scheme};
 ghost use Rattle.process.specs.Steps.{take, isOpen, passed, newStep, silentStep, communication, callStep};
-ghost use Rattle.process.specs.StateWords.{stateOf, place, valueWords, stateWords};
+ghost use Rattle.process.specs.StateWords.{stateOf, valueWords, stateWords};
 ghost use Rattle.process.specs.Inner.Index.{Indexed};
-ghost use Rattle.process.specs.Inner.Values.{Number, Valued, Numberable, Turned};
+ghost use Rattle.process.specs.Inner.Values.{Number, Valued, valueAt};
 ghost use Rattle.process.specs.Inner.Codes.{meant, Going};
 use crate::labels::Pair;
 use crate::labels::Step;
@@ -20,6 +20,7 @@ use crate::threads::branch_thread;
 use crate::threads::is_stop;
 use crate::threads::name_thread;
 use crate::threads::node_thread;
+use crate::values::number_values;
 use crate::values::value_of;
 use lists::store16;
 use lists::word16;
@@ -291,55 +292,28 @@ fn write_nodes(
     }
 }
 
-// Where a value stands among the first `count` values seen, `count` where it does not.
-fn place_of(seen: &[u16], count: usize, value: usize) -> usize
-    requires { ⌜ count ≤ length (now seen) ⌝ }
-    ensures { λ r. ⌜ r ≡ place value (slice 0 count (now (seen .entry))) ⌝ }
+// Fills in the value of each bound name after a step, 65535 where it has none.
+fn fill_values(
+    table: &[u16],
+    homes: &[u32],
+    definitions: &[u16],
+    state: &[u16],
+    step: Step,
+    values: &mut [u16],
+)
+    requires { ⌜ Going (now table) (now homes) (now definitions) (now state) (meant step) × (32 ≤ length (now values)) ⌝ }
+    ensures { λ r. ⌜ map valueAt (slice 0 (bounds (now (table .entry))) (now (values .exit))) ≡ map (take (scheme (now (table .entry))) (meant step) (stateOf (scheme (now (table .entry))) (now (state .entry))) .value) (from (publics (now (table .entry))) (bounds (now (table .entry)))) ⌝ }
 {
+    let publics = word16(table, 0);
+    let bounds = word16(table, 1);
     let mut i = 0;
-    while i < count {
-        if word16(seen, i) == value {
-            return i;
-        }
+    while i < bounds {
+        store16(
+            values,
+            i,
+            value_after(table, homes, definitions, state, step, publics + i) as u16,
+        );
         i += 1;
-    }
-    count
-}
-
-// A value's word, and how many private values have been seen once it has.
-pub struct Turn {
-    pub word: usize,
-    pub count: usize,
-}
-
-// The word of a value after the first `count` values seen; a private value that is new is noted.
-fn number(publics: usize, seen: &mut [u16], count: usize, value: usize) -> Turn
-    requires { ⌜ Numberable publics (now seen) count value ⌝ }
-    ensures { λ r. ⌜ Turned publics (now (seen .entry)) count value (now (seen .exit)) (r .word) (r .count) ⌝ }
-{
-    if value == 65535 {
-        return Turn {
-            word: 65535,
-            count: count,
-        };
-    }
-    if value < publics {
-        return Turn {
-            word: value,
-            count: count,
-        };
-    }
-    let place = place_of(seen, count, value);
-    if place == count {
-        store16(seen, count, value as u16);
-        return Turn {
-            word: publics + place,
-            count: count + 1,
-        };
-    }
-    Turn {
-        word: publics + place,
-        count: count,
     }
 }
 
@@ -356,18 +330,11 @@ fn write_values(
     ensures { λ r. ⌜ now (out .exit) ≡ sets (now (out .entry)) (threads (now (table .entry))) (valueWords (publics (now (table .entry))) [] (map (take (scheme (now (table .entry))) (meant step) (stateOf (scheme (now (table .entry))) (now (state .entry))) .value) (from (publics (now (table .entry))) (bounds (now (table .entry)))))) ⌝ }
 {
     let publics = word16(table, 0);
-    let threads = word16(table, 3);
     let bounds = word16(table, 1);
-    let mut seen = [0u16; 32];
-    let mut count = 0;
-    let mut i = 0;
-    while i < bounds {
-        let value = value_after(table, homes, definitions, state, step, publics + i);
-        let turn = number(publics, &mut seen, count, value);
-        store16(out, threads + i, turn.word as u16);
-        count = turn.count;
-        i += 1;
-    }
+    let threads = word16(table, 3);
+    let mut values = [0u16; 32];
+    fill_values(table, homes, definitions, state, step, &mut values);
+    number_values(publics as u16, &values, bounds as u16, threads as u16, out);
 }
 
 // Writes the words of the state after a step.

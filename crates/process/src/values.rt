@@ -1,9 +1,14 @@
-// Values of names in state words.
+// Values of names in state words, and their numbering by first appearance.
 ghost use mathlib.Core.Path.{_≡_};
+ghost use mathlib.Core.List.{[], map};
+ghost use Prim.Native.Nat.{_≤_, _<_};
+ghost use lib.ListN.{length, take};
+ghost use lib.Seq.{sets, slice};
 ghost use Rattle.table.specs.Scheme.{scheme};
 ghost use Rattle.process.specs.States.{oneValue};
-ghost use Rattle.process.specs.StateWords.{stateOf};
-ghost use Rattle.process.specs.Inner.Values.{Valued, valueAt};
+ghost use Rattle.process.specs.StateWords.{stateOf, place, valueWords};
+ghost use Rattle.process.specs.Inner.Values.{Valued, valueAt, Numberable, Turned};
+use lists::store16;
 use lists::word16;
 
 // The value of a name, 65535 where it has none.
@@ -28,4 +33,77 @@ pub(crate) fn one_value(first: usize, second: usize) -> bool
         return false;
     }
     first == second
+}
+
+// Where a value stands among the first `count` values seen, `count` where it does not.
+fn place_of(seen: &[u16], count: usize, value: usize) -> usize
+    requires { ⌜ count ≤ length (now seen) ⌝ }
+    ensures { λ r. ⌜ r ≡ place value (slice 0 count (now (seen .entry))) ⌝ }
+{
+    let mut i = 0;
+    while i < count {
+        if word16(seen, i) == value {
+            return i;
+        }
+        i += 1;
+    }
+    count
+}
+
+// A value's word, and how many private values have been seen once it has.
+pub struct Turn {
+    pub word: usize,
+    pub count: usize,
+}
+
+// The word of a value after the first `count` values seen; a private value that is new is noted.
+fn number(publics: usize, seen: &mut [u16], count: usize, value: usize) -> Turn
+    requires { ⌜ Numberable publics (now seen) count value ⌝ }
+    ensures { λ r. ⌜ Turned publics (now (seen .entry)) count value (now (seen .exit)) (r .word) (r .count) ⌝ }
+{
+    if value == 65535 {
+        return Turn {
+            word: 65535,
+            count: count,
+        };
+    }
+    if value < publics {
+        return Turn {
+            word: value,
+            count: count,
+        };
+    }
+    let place = place_of(seen, count, value);
+    if place == count {
+        store16(seen, count, value as u16);
+        return Turn {
+            word: publics + place,
+            count: count + 1,
+        };
+    }
+    Turn {
+        word: publics + place,
+        count: count,
+    }
+}
+
+// Writes the words of the first `count` values from word `at` on, private values numbered by first appearance; 65535 stands for none.
+pub fn number_values(publics: u16, values: &[u16], count: u16, at: u16, out: &mut [u16])
+    ensures { λ r. ⌜ (publics ≤ 32 → count ≤ 32 → count ≤ length (now (values .entry)) → now (out .exit) ≡ sets (now (out .entry)) at (valueWords publics [] (map valueAt (take count (now (values .entry)))))) ⌝ }
+{
+    if 32 < publics {
+        return;
+    }
+    if 32 < count {
+        return;
+    }
+    let mut seen = [0u16; 32];
+    let mut noted = 0;
+    let mut i = 0;
+    while i < count as usize {
+        let turn = number(publics as usize, &mut seen, noted, word16(values, i));
+        store16(out, at as usize + i, turn.word as u16);
+        noted = turn.count;
+        i += 1;
+    }
 }

@@ -1,4 +1,4 @@
--- `process::next::place_of` meets its contract. Loop: none of the values passed is the one sought. Measure: values left.
+-- `process::values::place_of` meets its contract. Loop: none of the values passed is the one sought. Measure: values left.
 use mathlib.Core.Path.{_≡_, refl, sym, ap, _∙_}
 use Prim.Native.Nat.{ℕ, suc, _+_, _-_, _*_, _≤_, _<_}
 use native.Mathlib.Omega.{arith}
@@ -7,8 +7,8 @@ use native.Mathlib.Nat.{zero-add}
 use Rattle.process.specs.StateWords.{place}
 use Rattle.process.proofs.Numbering.{place-here, place-more, place-end}
 use borrow.Author.Needs.{needs}
-use Rattle.process.proofs.next.place_of.Statement.{statement}
-use Rattle.process.proofs.next.place_of.Tie as tie
+use Rattle.process.proofs.values.place_of.Statement.{statement}
+use Rattle.process.proofs.values.place_of.Tie as tie
 
 abbrev Inv-loop : tie.InvT-loop
 Inv-loop seen count value i₀ i = (place value (slice 0 count seen) ≡ i + place value (slice i count seen)) × (i ≤ count)

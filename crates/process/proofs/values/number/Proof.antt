@@ -1,10 +1,10 @@
--- `process::next::number` meets its contract.
+-- `process::values::number` meets its contract.
 use mathlib.Core.Path.{_≡_, refl, sym, ap, _∙_}
 use native.Mathlib.Omega.{arith}
 use Rattle.process.proofs.Numbering.{turn-missing, turn-public, turn-old, turn-new, place-few}
 use borrow.Author.Needs.{needs}
-use Rattle.process.proofs.next.number.Statement.{statement}
-use Rattle.process.proofs.next.number.Tie as tie
+use Rattle.process.proofs.values.number.Statement.{statement}
+use Rattle.process.proofs.values.number.Tie as tie
 
 returns : tie.Need-returns
 returns c = turn-missing _ _ _ _ (c .before .before .pre) (c .if1 .taken)
