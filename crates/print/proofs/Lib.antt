@@ -3,3 +3,4 @@ pub mod Decimal
 pub mod Lines
 pub mod WordsOf
 pub mod Writing
+pub mod Programs

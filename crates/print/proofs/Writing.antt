@@ -24,7 +24,7 @@ write-full out place (b ∷ bytes) e =
     let l : length out ≤ place = omega arith in
     rw (set-out out place b l, m) (write-full out place bytes e)
 
-sets-out : (out : List ℕ) (i : ℕ) (bytes : List ℕ) → length out ≤ i → sets out i bytes ≡ out
+pub sets-out : (out : List ℕ) (i : ℕ) (bytes : List ℕ) → length out ≤ i → sets out i bytes ≡ out
 sets-out out i [] h = refl
 sets-out out i (b ∷ bytes) h = rw (set-out out i b h) (sets-out out (suc i) bytes (omega arith))
 

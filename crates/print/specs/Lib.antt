@@ -2,4 +2,5 @@
 pub mod Text
 pub mod Listing
 pub mod Words
+pub mod Program
 pub mod Inner

@@ -15,6 +15,9 @@ ghost use Rattle.print.specs.Listing.{headerLine, transitionLine, listin
 ghost use Rattle.print.specs.Words.{wordsOf};
 ghost use Rattle.print.specs.Inner.Cursors.{cursorAt, write};
 ghost use Rattle.print.specs.Inner.Parts.{labelText, arcsText, RecordAt};
+ghost use Rattle.builder.specs.Answer.{builtOutcome};
+ghost use Rattle.print.specs.Program.{causeWith, programText};
+use builder::Built;
 use lists::store16;
 use lists::word8;
 use lists::word32;
@@ -230,4 +233,60 @@ pub fn refusal(number: usize, out: &mut [u8]) -> usize
     let a = copy(out, 0, b"refused");
     let b = put_next(out, a, number);
     put(out, b, b'\n')
+}
+
+// The number that a table is refused with, 0 where its image was built.
+fn built_number(built: Built) -> usize
+    ensures { λ r. ⌜ (r ≡ builtOutcome built [] .number) × (r < 11) ⌝ }
+{
+    match built {
+        Built::Words(_) => 0,
+        Built::Refused(verdict) => table::number(verdict),
+        Built::Room => 10,
+    }
+}
+
+// The words that were written, 0 where the table is refused.
+fn built_words(built: Built) -> usize
+    ensures { λ r. ⌜ r ≡ builtOutcome built [] .words ⌝ }
+{
+    match built {
+        Built::Words(words) => words,
+        Built::Refused(_) => 0,
+        Built::Room => 0,
+    }
+}
+
+// The number with an odd last byte: 3 after 1 and 2.
+fn number_with(odd: bool, number: usize) -> usize
+    ensures { λ r. ⌜ r ≡ causeWith odd number ⌝ }
+{
+    if !odd {
+        return number;
+    }
+    if number == 1 {
+        return 1;
+    }
+    if number == 2 {
+        return 2;
+    }
+    3
+}
+
+// What the listing program prints of its input, as far as `out` reaches; the answer is the number of bytes written. Input longer than any table
+// is told by its first words.
+pub fn list(bytes: &[u8], out: &mut [u8]) -> usize
+    ensures { λ r. ⌜ now (out .exit) ≡ sets (now (out .entry)) 0 (programText (now (bytes .entry))) ⌝ }
+    ensures { λ r. ⌜ r ≡ min (length (programText (now (bytes .entry)))) (length (now (out .entry))) ⌝ }
+{
+    let mut table = [0u16; 4096];
+    let count = smaller(words(bytes, &mut table), 4096);
+    let mut image = [0u32; 16384];
+    let built = builder::build(&table[..count], &mut image);
+    let number = number_with(bytes.len() % 2 == 1, built_number(built));
+    if number != 0 {
+        return refusal(number, out);
+    }
+    let size = smaller(built_words(built), 16384);
+    listing(&image[..size], out)
 }

@@ -14,6 +14,7 @@ mod spans;
 mod tests;
 
 ghost use mathlib.Core.Path.{_≡_};
+ghost use Prim.Native.Nat.{_<_};
 ghost use Rattle.lists.specs.Lists.{same};
 ghost use Rattle.table.specs.Answer.{causeOf};
 ghost use Rattle.table.specs.Causes.{cause, countsRight, layoutRight};
@@ -65,6 +66,24 @@ pub fn check(table: &[u16]) -> Verdict
         return Verdict::Calls;
     }
     Verdict::Accepted
+}
+
+// The number of a verdict's cause, 0 where nothing is refused.
+pub fn number(verdict: Verdict) -> usize
+    ensures { λ r. ⌜ (r ≡ causeOf verdict) × (r < 10) ⌝ }
+{
+    match verdict {
+        Verdict::Accepted => 0,
+        Verdict::Short => 1,
+        Verdict::Counts => 2,
+        Verdict::Layout => 3,
+        Verdict::Kinds => 4,
+        Verdict::Ranges => 5,
+        Verdict::Shape => 6,
+        Verdict::Binding => 7,
+        Verdict::Scope => 8,
+        Verdict::Calls => 9,
+    }
 }
 
 // Whether a verdict refuses nothing.
