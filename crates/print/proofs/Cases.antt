@@ -7,7 +7,7 @@ use Rattle.print.specs.Text.{digitsOf, decimal, line, refusal}
 use Rattle.print.specs.Listing.{headerLine, transitionLine, listing}
 use Rattle.print.specs.Words.{wordsOf}
 
-imageE : List ℕ
+abbrev pub imageE : List ℕ
 imageE =
     16 ∷ 9 ∷ 24 ∷ 23 ∷ 6 ∷ 8 ∷ 14 ∷ 68
     ∷ 5 ∷ 6 ∷ 7 ∷ 8 ∷ 9 ∷ 13

@@ -4,3 +4,4 @@ pub mod Lines
 pub mod WordsOf
 pub mod Writing
 pub mod Programs
+pub mod ProgramCases

@@ -1,0 +1,59 @@
+-- What the listing program prints, computed: table E, and input that is refused, with and without an odd last byte.
+use mathlib.Core.Path.{_≡_, refl}
+use mathlib.Core.List.{List, [], _∷_, _++_}
+use Prim.Native.Nat.{ℕ}
+use lib.ListN.{take, drop}
+use Rattle.lists.specs.Lists as ListsL
+use Rattle.table.specs.Words as WordsT
+use Rattle.table.specs.Owners as OwnersT
+use Rattle.table.specs.Scheme as SchemeT
+use Rattle.table.specs.Causes as CausesT
+use Rattle.net.specs.Image as ImageN
+use Rattle.net.specs.Net as NetN
+use Rattle.builder.specs.Values as ValuesB
+use Rattle.builder.specs.Places as PlacesB
+use Rattle.builder.specs.Transitions as TransitionsB
+use Rattle.builder.specs.Image as ImageB
+use Rattle.print.specs.Text.{refusal}
+use Rattle.print.specs.Words.{wordsOf}
+use Rattle.print.specs.Listing.{listing}
+use Rattle.print.specs.Program.{isOdd, programText}
+use Rattle.print.proofs.Cases.{imageE}
+
+abbrev tableE : List ℕ
+tableE =
+    1 ∷ 2 ∷ 2 ∷ 2 ∷ 5 ∷ 2 ∷ 0 ∷ 13 ∷ 15 ∷ 23 ∷ 25 ∷ 40 ∷ 48 ∷ 0 ∷ 1 ∷ 0 ∷ 0 ∷ 0 ∷ 0 ∷ 1 ∷ 3 ∷ 0 ∷ 0 ∷ 0 ∷ 1 ∷
+    2 ∷ 1 ∷ 1 ∷ 1 ∷ 0 ∷ 1 ∷ 0 ∷ 0 ∷ 0 ∷ 1 ∷ 1 ∷ 1 ∷ 0 ∷ 0 ∷ 0 ∷ 1 ∷ 0 ∷ 1 ∷ 2 ∷ 2 ∷ 0 ∷ 2 ∷ 4 ∷ []
+
+-- the bytes of words below 256
+abbrev bytes : List ℕ → List ℕ
+bytes ws = ListsL.flat (λ w. w ∷ 0 ∷ []) ws
+
+-- input, and the text printed
+record Case : Type 0 where
+  input : List ℕ
+  text : List ℕ
+
+abbrev case : List ℕ → List ℕ → Case
+case input text = record { input = input; text = text }
+
+abbrev cases : List Case
+cases =
+    case (bytes tableE) (listing imageE)
+    ∷ case (bytes tableE ++ (0 ∷ [])) (refusal 3)
+    ∷ case [] (refusal 1)
+    ∷ case (bytes (take 12 tableE) ++ (7 ∷ [])) (refusal 1)
+    ∷ case (bytes (take 13 tableE)) (refusal 3)
+    ∷ case (bytes (33 ∷ drop 1 tableE)) (refusal 2)
+    ∷ case (bytes (33 ∷ drop 1 tableE) ++ (0 ∷ [])) (refusal 2)
+    ∷ case (bytes (32 ∷ drop 1 tableE)) (refusal 5)
+    ∷ case (bytes (32 ∷ drop 1 tableE) ++ (0 ∷ [])) (refusal 3)
+    ∷ []
+
+abbrev AllRight : List Case → Type 0
+AllRight [] = Unit {0}
+AllRight (c ∷ cs) = (programText (c .input) ≡ c .text) × AllRight cs
+
+all-right : AllRight cases
+unfolding ListsL.same ListsL.from ListsL.every ListsL.some ListsL.keep ListsL.flat ListsL.member ListsL.times ListsL.firstFrom ListsL.positionsFrom ListsL.ascends ListsL.total WordsT.formals WordsT.branchesOf WordsT.argumentsOf OwnersT.home OwnersT.pickOwner OwnersT.owner OwnersT.heldBy OwnersT.definitionBy OwnersT.held OwnersT.definition SchemeT.nodeAt SchemeT.branchAt SchemeT.argumentsAt SchemeT.pickBinder SchemeT.binderOf SchemeT.scheme CausesT.firstFailed CausesT.longEnough CausesT.countsRight CausesT.layoutRight CausesT.nameKindRight CausesT.formalsZero CausesT.callZero CausesT.nodeKindRight CausesT.branchKindRight CausesT.kindsRight CausesT.formalsInside CausesT.definitionInside CausesT.entryInside CausesT.nodeInside CausesT.branchInside CausesT.argumentInside CausesT.rangesRight CausesT.rootNodes CausesT.newChildren CausesT.nextNodes CausesT.ownedOnce CausesT.childrenAbove CausesT.consecutive CausesT.shapeRight CausesT.newNames CausesT.receivedNames CausesT.formalNames CausesT.boundRight CausesT.bindingRight CausesT.usable CausesT.branchScoped CausesT.nodeScoped CausesT.scopeRight CausesT.entryRight CausesT.callRightIn CausesT.callRight CausesT.callsRight CausesT.cause ImageN.headerRight ImageN.recordRight NetN.recordsFrom NetN.encode NetN.isAscending ValuesB.allValues ValuesB.valuesOf ValuesB.privateValuesOf PlacesB.controls PlacesB.controlPlaces PlacesB.row PlacesB.rows PlacesB.places TransitionsB.isInput TransitionsB.isOutput TransitionsB.releases TransitionsB.copies TransitionsB.descriptions ImageB.netWith ImageB.netOf ImageB.imageOf wordsOf isOdd programText
+all-right = (refl, (refl, (refl, (refl, (refl, (refl, (refl, (refl, (refl, tt)))))))))

@@ -1,0 +1,51 @@
+-- `vectors::digest::of_words` meets its contract. Loop: the index is at most the length. Measure: words left.
+use borrow.Author.Needs.{needs}
+use Prim.Native.Nat.{_≤_, _-_}
+use lib.ListN.{length}
+use Rattle.vectors.proofs.digest.of_words.Statement.{statement}
+use Rattle.vectors.proofs.digest.of_words.Tie as tie
+
+abbrev Inv-loop : tie.InvT-loop
+Inv-loop words digest₀ i₀ digest i = i ≤ length words
+
+abbrev μ-loop : tie.MeasureT-loop
+μ-loop words digest₀ i₀ digest i = length words - i
+
+empty-requires : tie.Need-empty-requires Inv-loop μ-loop
+empty-requires c κs = search needs
+
+loop-holds : tie.Need-loop-holds Inv-loop μ-loop
+loop-holds c = search needs
+
+word32-requires : tie.Need-word32-requires Inv-loop μ-loop
+word32-requires c κs = search needs
+
+joined-word-requires : tie.Need-joined-word-requires Inv-loop μ-loop
+joined-word-requires c κs = search needs
+
+add-i : tie.Need-add-i Inv-loop μ-loop
+add-i c = search needs
+
+loop-less : tie.Need-loop-less Inv-loop μ-loop
+loop-less c = search needs
+
+loop-again : tie.Need-loop-again Inv-loop μ-loop
+loop-again c = search needs
+
+returns : tie.Need-returns Inv-loop μ-loop
+returns c = search needs
+
+pub of-words-spec : {M : Type 1} → statement M
+of-words-spec =
+    tie.close
+    (tie.spec
+    Inv-loop
+    μ-loop
+    empty-requires
+    loop-holds
+    word32-requires
+    joined-word-requires
+    add-i
+    loop-less
+    loop-again
+    returns)

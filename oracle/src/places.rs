@@ -1,0 +1,139 @@
+//! Document 01, "Places": which number each place has.
+
+use std::ops::Range;
+
+use crate::table::{Node, Table};
+
+/// The numbers of an accepted table's places.
+pub struct Places {
+    publics: usize,
+    /// N.
+    privates: usize,
+    /// The first place of each bound name's row, name P first.
+    rows: Vec<usize>,
+    /// [*≠n] of the first private value.
+    free: usize,
+    /// The first control place of each node.
+    control: Vec<usize>,
+    /// The place count.
+    pub count: usize,
+}
+
+impl Places {
+    /// "Per bound name in order: input or formal x has [x=v] for the P+N values, then [x≠n] for
+    /// N; restricted r has [r=n] for N. Then [\*≠n] for N. [...] Then control places by node".
+    pub fn of(table: &Table) -> Places {
+        let publics = table.publics;
+        let privates = table.names.len();
+        let mut next = 0;
+        let mut rows = Vec::with_capacity(privates);
+        for name in table.bound_names() {
+            rows.push(next);
+            next += if table.is_restricted(name) {
+                privates
+            } else {
+                publics + 2 * privates
+            };
+        }
+        let free = next;
+        next += privates;
+        let mut control = Vec::with_capacity(table.nodes.len());
+        for node in 0..table.nodes.len() {
+            control.push(next);
+            next += control_places(table, node);
+        }
+        Places {
+            publics,
+            privates,
+            rows,
+            free,
+            control,
+            count: next,
+        }
+    }
+
+    /// "A bound input or formal ranges over all values, a restricted name over the private
+    /// ones, a public over itself."
+    pub fn range(&self, table: &Table, name: usize) -> Range<usize> {
+        if name < self.publics {
+            name..name + 1
+        } else if table.is_restricted(name) {
+            self.private_values()
+        } else {
+            0..self.publics + self.privates
+        }
+    }
+
+    /// "channel value i common to both".
+    pub fn common(&self, table: &Table, one: usize, other: usize) -> Range<usize> {
+        let (one, other) = (self.range(table, one), self.range(table, other));
+        one.start.max(other.start)..one.end.min(other.end)
+    }
+
+    /// The private values, P to P+N−1.
+    pub fn private_values(&self) -> Range<usize> {
+        self.publics..self.publics + self.privates
+    }
+
+    pub fn is_private(&self, value: usize) -> bool {
+        value >= self.publics
+    }
+
+    /// [name=value], of a bound name.
+    pub fn equal(&self, table: &Table, name: usize, value: usize) -> usize {
+        let row = self.rows[name - self.publics];
+        if table.is_restricted(name) {
+            row + value - self.publics
+        } else {
+            row + value
+        }
+    }
+
+    /// [name≠value], of an input or formal and a private value.
+    pub fn unequal(&self, name: usize, value: usize) -> usize {
+        self.rows[name - self.publics] + self.privates + value
+    }
+
+    /// [*≠value], of a private value.
+    pub fn free(&self, value: usize) -> usize {
+        self.free + value - self.publics
+    }
+
+    /// The first control place of a node.
+    pub fn first(&self, node: usize) -> usize {
+        self.control[node]
+    }
+
+    /// The control places of a node.
+    pub fn of_node(&self, table: &Table, node: usize) -> Range<usize> {
+        self.control[node]..self.control[node] + control_places(table, node)
+    }
+
+    /// "Initially marked: every [x≠n], every [\*≠n], each entry root's first place." Ascending.
+    pub fn initial(&self, table: &Table) -> Vec<usize> {
+        let mut initial = Vec::new();
+        for name in table.inputs_and_formals() {
+            initial.extend(self.private_values().map(|value| self.unequal(name, value)));
+        }
+        initial.extend(self.private_values().map(|value| self.free(value)));
+        let roots = table
+            .entries
+            .iter()
+            .map(|&entry| table.definitions[entry].root);
+        initial.extend(roots.map(|root| self.first(root)));
+        initial.sort_unstable();
+        initial
+    }
+}
+
+/// "Choice and New one; Stop a release place per held name, then its final place; Call its own,
+/// a copy place per formal, a release place per held name."
+fn control_places(table: &Table, node: usize) -> usize {
+    match table.nodes[node] {
+        Node::Choice { .. } | Node::New { .. } => 1,
+        Node::Stop => table.held[node].len() + 1,
+        Node::Call { definition, .. } => {
+            1 + table.definitions[definition].formal_count + table.held[node].len()
+        }
+    }
+}

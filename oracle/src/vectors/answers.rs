@@ -1,0 +1,266 @@
+//! The answers to requests.
+
+use crate::net::{Reason, Refusal};
+
+/// How much is kept of a table, an image, a marking, a state and a history, and lent for labels.
+pub const TABLE_ROOM: usize = 4096;
+pub const IMAGE_ROOM: usize = 131_072;
+pub const MARKING_ROOM: usize = 32_768;
+pub const STATE_ROOM: usize = 64;
+pub const HISTORY_ROOM: usize = 4096;
+pub const LABEL_ROOM: usize = 4096;
+
+/// How many numbers of a request are read.
+const NUMBERS: usize = 4095;
+
+/// What fills words that are lent to be written.
+const FILL_16: u16 = 0xaaaa;
+const FILL_32: u32 = 0xaaaa_aaaa;
+
+/// The longest list that is written whole.
+const WHOLE: usize = 128;
+
+/// The lines that answer the lines of `requests`.
+pub fn answers(requests: &str) -> Result<String, String> {
+    let mut session = Session::default();
+    let mut text = String::new();
+    for line in requests.lines() {
+        text.push_str(&session.answer(line)?);
+        text.push('\n');
+    }
+    Ok(text)
+}
+
+/// What requests make, kept for those after them.
+#[derive(Default)]
+pub struct Session {
+    pub table: Vec<u16>,
+    pub image: Vec<u32>,
+    pub marking: Vec<u8>,
+    pub state: Vec<u16>,
+    pub history: Vec<u32>,
+}
+
+impl Session {
+    pub fn answer(&mut self, line: &str) -> Result<String, String> {
+        let mut words = line.split(' ');
+        let letter = words.next().unwrap_or_default();
+        let numbers: Vec<u64> = words
+            .take(NUMBERS)
+            .map(str::parse)
+            .collect::<Result<_, _>>()
+            .map_err(|_| format!("no request: {line}"))?;
+        let fields = match letter {
+            "t" => self.take_table(&numbers),
+            "b" => self.build(&numbers),
+            "w" => {
+                self.image = kept(&numbers, IMAGE_ROOM, |number| number as u32);
+                vec![self.image.len().to_string()]
+            }
+            "j" => {
+                self.image.resize(at(&numbers, 0).min(IMAGE_ROOM), 0);
+                vec![self.image.len().to_string()]
+            }
+            "i" => {
+                set(&mut self.image, at(&numbers, 0), number(&numbers, 1) as u32);
+                vec![self.image.len().to_string()]
+            }
+            "p" => {
+                self.marking = kept(&numbers, MARKING_ROOM, |number| number as u8);
+                vec![self.marking.len().to_string()]
+            }
+            "l" => {
+                self.marking.resize(at(&numbers, 0).min(MARKING_ROOM), 0);
+                vec![self.marking.len().to_string()]
+            }
+            "m" => {
+                set(
+                    &mut self.marking,
+                    at(&numbers, 0),
+                    number(&numbers, 1) as u8,
+                );
+                vec![self.marking.len().to_string()]
+            }
+            "f" => self.fire(&numbers),
+            "r" => {
+                let numbers: Vec<u32> = numbers.iter().map(|&number| number as u32).collect();
+                self.replay(&numbers)
+            }
+            "h" => {
+                let count = at(&numbers, 0).min(self.history.len());
+                let numbers = self.history[..count].to_vec();
+                self.replay(&numbers)
+            }
+            "u" => self.run(&numbers),
+            "g" => {
+                let mut room = lent_state(at(&numbers, 0));
+                let answer = crate::read(&self.table, &self.marking, &mut room);
+                self.keep_state(answer, &room)
+            }
+            "s" => {
+                let mut room = lent_state(at(&numbers, 0));
+                let answer = crate::start(&self.table, &mut room);
+                self.keep_state(answer, &room)
+            }
+            "x" => {
+                self.state = kept(&numbers, STATE_ROOM, |number| number as u16);
+                vec![self.state.len().to_string()]
+            }
+            "y" => {
+                set(&mut self.state, at(&numbers, 0), number(&numbers, 1) as u16);
+                vec![self.state.len().to_string()]
+            }
+            "o" => self.open_steps(&numbers),
+            "k" => self.step(&numbers),
+            _ => vec![],
+        };
+        let start = letter.to_string();
+        Ok([vec![start], fields].concat().join(" "))
+    }
+
+    fn take_table(&mut self, numbers: &[u64]) -> Vec<String> {
+        self.table = kept(numbers, TABLE_ROOM, |number| number as u16);
+        vec![crate::check(&self.table).to_string()]
+    }
+
+    fn build(&mut self, numbers: &[u64]) -> Vec<String> {
+        let mut room = vec![FILL_32; at(numbers, 0).min(IMAGE_ROOM)];
+        let answer = crate::build(&self.table, &mut room);
+        self.image = room[..answer.unwrap_or(0)].to_vec();
+        counted(answer, list32(&room))
+    }
+
+    fn fire(&mut self, numbers: &[u64]) -> Vec<String> {
+        let fired = crate::fire(&self.image, &mut self.marking, number(numbers, 0) as u32);
+        let cause = fired.map_or_else(|refusal| refusal.cause, |()| 0);
+        vec![cause.to_string(), list8(&self.marking)]
+    }
+
+    fn replay(&mut self, numbers: &[u32]) -> Vec<String> {
+        let (cause, firings) = match crate::replay(&self.image, &mut self.marking, numbers) {
+            Ok(firings) => (0, firings),
+            Err(refusal) => refused(refusal),
+        };
+        vec![cause.to_string(), firings.to_string(), list8(&self.marking)]
+    }
+
+    fn run(&mut self, numbers: &[u64]) -> Vec<String> {
+        let limit = number(numbers, 0);
+        self.history = vec![FILL_32; at(numbers, 1).min(HISTORY_ROOM)];
+        let ran = crate::run(&self.image, &mut self.marking, limit, &mut self.history);
+        let (cause, reason, firings) = match ran {
+            Ok(answer) => (0, reason_number(answer.reason), answer.firings),
+            Err(refusal) => {
+                let (cause, firings) = refused(refusal);
+                (cause, 0, firings)
+            }
+        };
+        vec![
+            cause.to_string(),
+            reason.to_string(),
+            firings.to_string(),
+            list32(&self.history),
+            list8(&self.marking),
+        ]
+    }
+
+    fn open_steps(&mut self, numbers: &[u64]) -> Vec<String> {
+        let mut room = vec![FILL_32; at(numbers, 0).min(LABEL_ROOM)];
+        let answer = crate::open_steps(&self.table, &self.state, &mut room);
+        counted(answer, list32(&room))
+    }
+
+    fn step(&mut self, numbers: &[u64]) -> Vec<String> {
+        let [kind, a, b] = [0, 1, 2].map(|at| number(numbers, at) as u32);
+        let mut room = lent_state(at(numbers, 3));
+        let answer = crate::step(&self.table, &self.state, kind, a, b, &mut room);
+        self.keep_state(answer, &room)
+    }
+
+    /// The answer of a call that writes a state, which is kept unless it was refused.
+    fn keep_state(&mut self, answer: Result<usize, u32>, room: &[u16]) -> Vec<String> {
+        if let Ok(count) = answer {
+            self.state = room[..count].to_vec();
+        }
+        counted(answer, list16(room))
+    }
+}
+
+/// A number of a request; 0 where it is missing.
+fn number(numbers: &[u64], at: usize) -> u64 {
+    numbers.get(at).copied().unwrap_or(0)
+}
+
+/// A number of a request as an index or a count.
+fn at(numbers: &[u64], at: usize) -> usize {
+    usize::try_from(number(numbers, at)).unwrap_or(usize::MAX)
+}
+
+fn kept<W>(numbers: &[u64], room: usize, word: impl Fn(u64) -> W) -> Vec<W> {
+    numbers
+        .iter()
+        .take(room)
+        .map(|&number| word(number))
+        .collect()
+}
+
+fn set<W>(list: &mut [W], at: usize, word: W) {
+    if let Some(place) = list.get_mut(at) {
+        *place = word;
+    }
+}
+
+fn lent_state(room: usize) -> Vec<u16> {
+    vec![FILL_16; room.min(STATE_ROOM)]
+}
+
+fn counted(answer: Result<usize, u32>, list: String) -> Vec<String> {
+    let (cause, count) = match answer {
+        Ok(count) => (0, count),
+        Err(cause) => (cause, 0),
+    };
+    vec![cause.to_string(), count.to_string(), list]
+}
+
+/// A refusal's cause, and its firings where it has any.
+fn refused(refusal: Refusal) -> (u32, u64) {
+    (refusal.cause, refusal.firings.unwrap_or(0))
+}
+
+fn reason_number(reason: Reason) -> u32 {
+    match reason {
+        Reason::LimitReached => 1,
+        Reason::HistoryFull => 2,
+        Reason::NothingEnabled => 3,
+    }
+}
+
+fn list8(list: &[u8]) -> String {
+    listed(list, |byte| vec![byte])
+}
+
+fn list16(list: &[u16]) -> String {
+    listed(list, |word| word.to_le_bytes().to_vec())
+}
+
+fn list32(list: &[u32]) -> String {
+    listed(list, |word| word.to_le_bytes().to_vec())
+}
+
+/// A list's length with its items, or with the digest of its bytes.
+fn listed<W: Copy + ToString>(list: &[W], bytes: impl Fn(W) -> Vec<u8>) -> String {
+    let length = list.len();
+    if length > WHOLE {
+        let bytes = list.iter().flat_map(|&item| bytes(item));
+        return format!("{length}#{:016x}", digest(bytes));
+    }
+    let items: Vec<String> = list.iter().map(W::to_string).collect();
+    format!("{length}:{}", items.join(" "))
+}
+
+/// 64-bit FNV-1a.
+fn digest(bytes: impl Iterator<Item = u8>) -> u64 {
+    bytes.fold(0xcbf2_9ce4_8422_2325, |digest, byte| {
+        (digest ^ u64::from(byte)).wrapping_mul(0x0000_0100_0000_01b3)
+    })
+}

@@ -1,0 +1,90 @@
+//! What a table is like.
+
+use crate::table::{Branch, Node, Table};
+
+/// The names of the shapes.
+pub const SHAPES: [&str; 15] = [
+    "P = 0",
+    "B = 0",
+    "one thread",
+    "formals",
+    "repeated arguments",
+    "public arguments",
+    "call of formals into a Stop body",
+    "call without formals",
+    "entry at Stop",
+    "entry at Choice",
+    "entry at New",
+    "entry at Call",
+    "bound name sent on itself",
+    "public name sent on itself",
+    "definition never called",
+];
+
+/// The shapes of an accepted table.
+pub fn shapes(table: &Table) -> Vec<&'static str> {
+    let root = |definition: usize| table.nodes[table.definitions[definition].root];
+    let any_call = |wanted: &dyn Fn(usize, &[usize]) -> bool| {
+        (0..table.nodes.len()).any(|node| match table.nodes[node] {
+            Node::Call { definition, .. } => {
+                wanted(definition, &table.arguments[table.argument_range(node)])
+            }
+            _ => false,
+        })
+    };
+    let entry =
+        |wanted: &dyn Fn(Node) -> bool| table.entries.iter().any(|&entry| wanted(root(entry)));
+    let repeats = |names: &[usize]| (1..names.len()).any(|at| names[..at].contains(&names[at]));
+    let on_itself = |bound: bool| {
+        table.branches.iter().any(|branch| match *branch {
+            Branch::Send { channel, name, .. } => channel == name && table.is_bound(name) == bound,
+            _ => false,
+        })
+    };
+    let never_called = (0..table.definitions.len()).any(|definition| {
+        !table.entries.contains(&definition) && !any_call(&|called, _| called == definition)
+    });
+    let found = [
+        ("P = 0", table.publics == 0),
+        ("B = 0", table.names.is_empty()),
+        ("one thread", table.entries.len() == 1),
+        (
+            "formals",
+            table.definitions.iter().any(|d| d.formal_count > 0),
+        ),
+        ("repeated arguments", any_call(&|_, names| repeats(names))),
+        (
+            "public arguments",
+            any_call(&|_, names| names.iter().any(|&name| name < table.publics)),
+        ),
+        (
+            "call of formals into a Stop body",
+            any_call(&|called, names| root(called) == Node::Stop && !names.is_empty()),
+        ),
+        (
+            "call without formals",
+            any_call(&|_, names| names.is_empty()),
+        ),
+        ("entry at Stop", entry(&|node| node == Node::Stop)),
+        (
+            "entry at Choice",
+            entry(&|node| matches!(node, Node::Choice { .. })),
+        ),
+        (
+            "entry at New",
+            entry(&|node| matches!(node, Node::New { .. })),
+        ),
+        (
+            "entry at Call",
+            entry(&|node| matches!(node, Node::Call { .. })),
+        ),
+        ("bound name sent on itself", on_itself(true)),
+        ("public name sent on itself", on_itself(false)),
+        ("definition never called", never_called),
+    ];
+    found
+        .into_iter()
+        .filter(|&(_, has)| has)
+        .map(|(shape, _)| shape)
+        .collect()
+}

@@ -1,0 +1,311 @@
+//! Document 01's worked examples: table E, its image, listing, firings, run, states, and the
+//! starred cases.
+
+mod common;
+
+use common::{image_of, initial_of, E};
+use oracle::{build, check, fire, listing, open_steps, read, replay, run, start, step};
+use oracle::{Reason, Refusal, RunAnswer};
+
+const STOPPED: [u16; 21] = [
+    0, 0, 1, 1, 1, 0, 0, 13, 13, 17, 18, 21, 21, 0, 0, 0, 0, 0, 0, 0, 0,
+];
+
+const E_LISTING: &str = "\
+16 9 24 23 6
+0 2 0 1 : 5 7 9 > 0 5 10
+1 2 0 1 : 6 8 9 > 1 6 10
+2 1 2 1 : 0 11 > 7 12
+3 1 2 1 : 1 11 > 8 12
+4 1 4 2 : 2 14 > 15
+5 1 4 2 : 3 14 > 5 15
+6 1 4 2 : 4 14 > 6 15
+7 4 0 1 : 0 5 10 13 > 0 3 11 14
+8 4 0 1 : 1 6 10 13 > 1 4 11 14
+";
+
+const E_IMAGE: [u32; 115] = [
+    16, 9, 24, 23, 6, 8, 14, 68, // header
+    5, 6, 7, 8, 9, 13, // initial places
+    2, 0, 1, 68, 3, 3, // records
+    2, 0, 1, 74, 3, 3, //
+    1, 2, 1, 80, 2, 2, //
+    1, 2, 1, 84, 2, 2, //
+    1, 4, 2, 88, 2, 1, //
+    1, 4, 2, 91, 2, 2, //
+    1, 4, 2, 95, 2, 2, //
+    4, 0, 1, 99, 4, 4, //
+    4, 0, 1, 107, 4, 4, //
+    5, 7, 9, 0, 5, 10, // arcs
+    6, 8, 9, 1, 6, 10, //
+    0, 11, 7, 12, //
+    1, 11, 8, 12, //
+    2, 14, 15, //
+    3, 14, 5, 15, //
+    4, 14, 6, 15, //
+    0, 5, 10, 13, 0, 3, 11, 14, //
+    1, 6, 10, 13, 1, 4, 11, 14, //
+];
+
+fn bytes(words: &[u16]) -> Vec<u8> {
+    words.iter().flat_map(|word| word.to_le_bytes()).collect()
+}
+
+fn with(at: usize, word: u16) -> [u16; 48] {
+    let mut words = E;
+    words[at] = word;
+    words
+}
+
+fn state_of(table: &[u16], marking: &[u8]) -> Vec<u16> {
+    let mut state = vec![7; 64];
+    let length = read(table, marking, &mut state).unwrap();
+    assert!(state[length..].iter().all(|&word| word == 7));
+    state.truncate(length);
+    state
+}
+
+fn labels_of(table: &[u16], state: &[u16]) -> Vec<[u32; 3]> {
+    let mut labels = vec![0; 64];
+    let count = open_steps(table, state, &mut labels).unwrap();
+    labels[..3 * count]
+        .chunks(3)
+        .map(|words| [words[0], words[1], words[2]])
+        .collect()
+}
+
+fn step_of(table: &[u16], state: &[u16], [kind, a, b]: [u32; 3]) -> Vec<u16> {
+    let mut next = vec![0; 64];
+    let length = step(table, state, kind, a, b, &mut next).unwrap();
+    next.truncate(length);
+    next
+}
+
+#[test]
+fn table_e_is_accepted_and_builds_its_image() {
+    assert_eq!(check(&E), 0);
+    let mut out = [9; 120];
+    assert_eq!(build(&E, &mut out), Ok(115));
+    assert_eq!(out[..115], E_IMAGE);
+    assert_eq!(out[115..], [9; 5]);
+}
+
+#[test]
+fn table_e_has_its_listing() {
+    assert_eq!(listing(&bytes(&E)), E_LISTING);
+}
+
+#[test]
+fn table_e_needs_115_words() {
+    let mut out = [3; 115];
+    assert_eq!(build(&E, &mut out), Ok(115));
+    assert_eq!(out, E_IMAGE);
+    let mut short = [3; 114];
+    assert_eq!(build(&E, &mut short), Err(10));
+    assert_eq!(short, [3; 114]);
+}
+
+#[test]
+fn starred_tables_are_refused() {
+    assert_eq!(check(&E[..12]), 1);
+    assert_eq!(check(&E[..13]), 3);
+    assert_eq!(check(&with(0, 33)), 2);
+    assert_eq!(check(&with(0, 32)), 5);
+    assert_eq!(check(&with(42, 2)), 8);
+    assert_eq!(check(&with(43, 0)), 6);
+}
+
+#[test]
+fn the_stopped_table_builds_its_nine_words() {
+    assert_eq!(image_of(&STOPPED), [1, 0, 0, 0, 1, 8, 9, 9, 0]);
+    assert_eq!(listing(&bytes(&STOPPED)), "1 0 0 0 1\n");
+    let mut call = STOPPED;
+    call[18..21].copy_from_slice(&[3, 0, 0]);
+    assert_eq!(check(&call), 9);
+    assert_eq!(listing(&bytes(&call)), "refused 9\n");
+}
+
+#[test]
+fn table_e_fires_as_starred() {
+    let image = image_of(&E);
+    let initial = initial_of(&image);
+    assert_eq!(initial, [0, 0, 0, 0, 0, 1, 1, 1, 1, 1, 0, 0, 0, 1, 0, 0]);
+    for (number, cause) in [(7, 15), (9, 14), (u32::MAX, 14)] {
+        let mut marking = initial.clone();
+        let refusal = Refusal {
+            cause,
+            firings: Some(0),
+        };
+        assert_eq!(fire(&image, &mut marking, number), Err(refusal));
+        assert_eq!(marking, initial);
+    }
+    for number in [0, 1] {
+        let mut marking = initial.clone();
+        assert_eq!(fire(&image, &mut marking, number), Ok(()));
+        assert_eq!(state_of(&E, &marking), [1, 3, 1, 65535]);
+    }
+}
+
+#[test]
+fn table_e_runs_as_starred() {
+    let image = image_of(&E);
+    let mut marking = initial_of(&image);
+    let mut history = [77; 5];
+    let answer = RunAnswer {
+        reason: Reason::NothingEnabled,
+        firings: 4,
+    };
+    assert_eq!(run(&image, &mut marking, 5, &mut history), Ok(answer));
+    assert_eq!(history, [0, 7, 2, 5, 77]);
+    let ended = marking.clone();
+
+    let mut marking = initial_of(&image);
+    let mut history = [77; 5];
+    let answer = RunAnswer {
+        reason: Reason::LimitReached,
+        firings: 4,
+    };
+    assert_eq!(run(&image, &mut marking, 4, &mut history), Ok(answer));
+    assert_eq!(history, [0, 7, 2, 5, 77]);
+    assert_eq!(marking, ended);
+
+    let mut marking = initial_of(&image);
+    let mut history = [77; 3];
+    let answer = RunAnswer {
+        reason: Reason::HistoryFull,
+        firings: 3,
+    };
+    assert_eq!(run(&image, &mut marking, 4, &mut history), Ok(answer));
+    assert_eq!(history, [0, 7, 2]);
+
+    let mut marking = vec![5; 16];
+    assert_eq!(replay(&image, &mut marking, &[0, 7, 2, 5]), Ok(4));
+    assert_eq!(marking, ended);
+}
+
+#[test]
+fn table_e_reads_back_along_its_run() {
+    let image = image_of(&E);
+    let mut marking = initial_of(&image);
+    assert_eq!(state_of(&E, &marking), [0, 3, 65535, 65535]);
+    let states = [
+        (0, [1, 3, 1, 65535]),
+        (7, [2, 4, 65535, 65535]),
+        (2, [2, 4, 65535, 65535]),
+        (5, [2, 4, 65535, 65535]),
+    ];
+    for (number, state) in states {
+        assert_eq!(fire(&image, &mut marking, number), Ok(()));
+        assert_eq!(state_of(&E, &marking), state);
+    }
+}
+
+#[test]
+fn table_e_has_its_steps() {
+    let mut first = [8; 5];
+    assert_eq!(start(&E, &mut first), Ok(4));
+    assert_eq!(first, [0, 3, 65535, 65535, 8]);
+    let first = &first[..4];
+    assert_eq!(labels_of(&E, first), [[2, 0, 1]]);
+    let second = step_of(&E, first, [2, 0, 1]);
+    assert_eq!(second, [1, 3, 1, 65535]);
+    assert_eq!(labels_of(&E, &second), [[4, 0, 1]]);
+    let third = step_of(&E, &second, [4, 0, 1]);
+    assert_eq!(third, [2, 4, 65535, 65535]);
+    assert!(labels_of(&E, &third).is_empty());
+}
+
+#[test]
+fn the_listing_refuses_in_order() {
+    let whole = bytes(&E);
+    let odd = |bytes: &[u8]| [bytes, &[0]].concat();
+    assert_eq!(listing(&[]), "refused 1\n");
+    assert_eq!(listing(&odd(&whole[..24])), "refused 1\n");
+    assert_eq!(listing(&odd(&bytes(&with(0, 33)))), "refused 2\n");
+    assert_eq!(listing(&odd(&whole)), "refused 3\n");
+    assert_eq!(listing(&odd(&bytes(&with(13, 9)))), "refused 3\n");
+    assert_eq!(listing(&whole[..whole.len() - 1]), "refused 3\n");
+    assert_eq!(listing(&bytes(&with(42, 2))), "refused 8\n");
+    assert_eq!(listing(&vec![0; 1 << 20]), "refused 2\n");
+    assert_eq!(listing(&[whole, vec![0; 1 << 20]].concat()), "refused 3\n");
+}
+
+/// ν r.K(r) with K(f) := 0: a call of one formal into a Stop body, written out by hand.
+#[test]
+fn a_call_into_a_stop_body_has_its_listing() {
+    let words = [
+        1, 2, 2, 1, 3, 0, 1, 13, 15, 23, 24, 33, 33, // header
+        0, 2, // names: r, f
+        0, 0, 0, 0, 0, 2, 2, 1, // definitions
+        0, // threads
+        2, 1, 1, 3, 1, 0, 0, 0, 0, // nodes
+        1, // arguments
+    ];
+    let text = "\
+15 10 23 22 5
+0 2 0 1 : 5 7 9 > 0 5 10
+1 2 0 1 : 6 8 9 > 1 6 10
+2 5 1 0 : 10 > 11
+3 0 1 2 : 0 5 11 > 0 3 12
+4 0 1 2 : 1 6 11 > 1 4 12
+5 1 1 1 : 0 12 > 7 13
+6 1 1 1 : 1 12 > 8 13
+7 1 2 2 : 2 13 > 14
+8 1 2 2 : 3 13 > 5 14
+9 1 2 2 : 4 13 > 6 14
+";
+    assert_eq!(listing(&bytes(&words)), text);
+    let image = image_of(&words);
+    let mut marking = initial_of(&image);
+    let states = [
+        (1, [1, 1, 65535]),
+        (2, [2, 65535, 65535]),
+        (4, [2, 65535, 65535]),
+        (6, [2, 65535, 65535]),
+        (9, [2, 65535, 65535]),
+    ];
+    for (number, state) in states {
+        assert_eq!(fire(&image, &mut marking, number), Ok(()));
+        assert_eq!(state_of(&words, &marking), state);
+    }
+    assert_eq!(labels_of(&words, &[1, 1, 65535]), [[5, 1, 0]]);
+    assert_eq!(
+        step_of(&words, &[1, 1, 65535], [5, 1, 0]),
+        [2, 65535, 65535]
+    );
+}
+
+/// p(x).x⟨x⟩.0 beside ν r.p⟨r⟩.r(y).0: a received private channel, a name sent on itself.
+#[test]
+fn a_name_sent_on_itself_has_one_value() {
+    let words = [
+        1, 3, 2, 2, 7, 4, 0, 13, 16, 24, 26, 47, 63, // header
+        1, 0, 1, // names: x = 1, r = 2, y = 3
+        0, 0, 0, 0, 1, 3, 0, 0, // definitions
+        0, 1, // threads
+        1, 0, 1, 1, 1, 1, 0, 0, 0, // nodes 0 to 2
+        2, 2, 4, 1, 2, 1, 1, 3, 1, 0, 0, 0, // nodes 3 to 6
+        2, 0, 1, 1, 1, 1, 1, 2, 1, 0, 2, 5, 2, 2, 3, 6, // branches
+    ];
+    // Rows: x 0–3 and 4–6, r 7–9, y 10–13 and 14–16, [*≠n] 17–19. Control by node: 20; 21; 22 23;
+    // 24; 25; 26; 27 28 29.
+    let text = listing(&bytes(&words));
+    let lines: Vec<&str> = text.lines().collect();
+    assert!(lines[0].starts_with("30 "));
+    let sends: Vec<&&str> = lines
+        .iter()
+        .filter(|line| line.contains(" 4 1 3 : "))
+        .collect();
+    // Channel x (any value) and r (private): i = 1, 2, 3 in common, j = i.
+    assert_eq!(sends.len(), 3);
+    assert!(sends[0].ends_with(" 4 1 3 : 1 7 14 21 26 > 1 7 11 22 27"));
+    assert!(sends[2].ends_with(" 4 1 3 : 3 9 16 21 26 > 3 9 13 22 27"));
+    let handed: Vec<&&str> = lines
+        .iter()
+        .filter(|line| line.contains(" 4 2 0 : "))
+        .collect();
+    assert_eq!(handed.len(), 3);
+    assert!(handed[1].ends_with(" 4 2 0 : 5 8 20 25 > 2 8 21 26"));
+    // Branches 0 and 1 are of one thread, 2 and 3 of the other.
+    assert!(!text.contains(" 4 1 0 : ") && !text.contains(" 4 2 3 : "));
+}
