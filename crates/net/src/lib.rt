@@ -179,7 +179,7 @@ fn record_at(image: &[u32], transition: usize, known: bool) -> Record
 }
 
 // Whether the list has a byte for each place, none above 1.
-fn marking_right(marking: &[u8], places: usize) -> bool
+pub fn marking_right(marking: &[u8], places: usize) -> bool
     ensures { λ r. ⌜ r ≡ isMarking places (now (marking .entry)) ⌝ }
 {
     if marking.len() != places {

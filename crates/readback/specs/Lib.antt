@@ -1,2 +1,4 @@
 pub mod Configurations
 pub mod Reading
+pub mod Answers
+pub mod Inner

@@ -1,0 +1,107 @@
+-- The starred cases of document 01 (Table E and its listing) as one table, and what is asked in each, by the definitions that the promises cite.
+use mathlib.Core.Path.{_≡_}
+use mathlib.Core.List.{List, [], _∷_, _++_}
+use Prim.Native.Nat.{ℕ}
+use lib.ListN.{length, take, replicate}
+use Rattle.table.specs.Causes.{cause}
+use Rattle.net.specs.Firing as Firing
+use Rattle.net.specs.Firing.{Ending, limitReached, nothingEnabled, initialMarking}
+use Rattle.builder.specs.Image.{imageOf}
+use Rattle.builder.specs.Answer.{buildOutcome}
+use Rattle.readback.specs.Answers.{readOutcome}
+
+-- what is asked of a table: its cause; a build into so many words; a firing after others from the initial marking; reading back after firings, into four
+-- words; a run from the initial marking, with its limit and the words of its history
+pub data Question : Type 0 where
+  checks : Question
+  builds : ℕ → Question
+  fires : List ℕ → ℕ → Question
+  reads : List ℕ → Question
+  runs : ℕ → ℕ → Question
+
+-- a cause, 0 for none; a cause with the words of the lent buffer afterwards; a run's reason, count and history
+pub data Reply : Type 0 where
+  number : ℕ → Reply
+  buffer : ℕ → List ℕ → Reply
+  ran : Ending → ℕ → List ℕ → Reply
+
+module _ (w : List ℕ) where
+  abbrev pub markingAfter : List ℕ → List ℕ
+  markingAfter numbers = Firing.replay (imageOf w) (initialMarking (imageOf w)) numbers .marking
+
+  abbrev pub reply : Question → Reply
+  reply checks = number (cause w)
+  reply (builds room) = let o = buildOutcome w (replicate room 0) in buffer (o .number) (o .buffer)
+  reply (fires numbers n) = number (Firing.fire (imageOf w) (markingAfter numbers) n .cause)
+  reply (reads numbers) = let o = readOutcome w (markingAfter numbers) (replicate 4 0) in buffer (o .number) (o .left)
+  reply (runs limit room) = let r = Firing.run (imageOf w) (initialMarking (imageOf w)) limit room in ran (r .reason) (r .firings) (r .history)
+
+-- a table's words, what is asked of it, and the answer
+pub record Case : Type 0 where
+  pub words : List ℕ
+  pub question : Question
+  pub answer : Reply
+
+abbrev pub case : List ℕ → Question → Reply → Case
+case words question answer = record { words = words; question = question; answer = answer }
+
+-- "Table E", in its sections
+abbrev pub afterNames : List ℕ → List ℕ
+afterNames branches =
+    0 ∷ 0 ∷ 0 ∷ 0 ∷ 1 ∷ 3 ∷ 0 ∷ 0 ∷ 0 ∷ 1 ∷ 2 ∷ 1 ∷ 1 ∷ 1 ∷ 0 ∷ 1 ∷ 0 ∷ 0 ∷ 0 ∷ 1 ∷ 1 ∷ 1 ∷ 0 ∷ 0 ∷ 0 ∷ branches
+
+abbrev pub withPublics : ℕ → List ℕ → List ℕ
+withPublics P branches = P ∷ 2 ∷ 2 ∷ 2 ∷ 5 ∷ 2 ∷ 0 ∷ 13 ∷ 15 ∷ 23 ∷ 25 ∷ 40 ∷ 48 ∷ 0 ∷ 1 ∷ afterNames branches
+
+-- the branches with branch 0's name and next node
+abbrev pub sending : ℕ → ℕ → List ℕ
+sending name next = 1 ∷ 0 ∷ name ∷ next ∷ 2 ∷ 0 ∷ 2 ∷ 4 ∷ []
+
+abbrev pub tableE : List ℕ
+tableE = withPublics 1 (sending 1 2)
+
+-- the listing's numbers, as words
+abbrev pub imageE : List ℕ
+imageE =
+    16 ∷ 9 ∷ 24 ∷ 23 ∷ 6 ∷ 8 ∷ 14 ∷ 68 ∷ 5 ∷ 6 ∷ 7 ∷ 8 ∷ 9 ∷ 13
+    ∷ 2 ∷ 0 ∷ 1 ∷ 68 ∷ 3 ∷ 3 ∷ 2 ∷ 0 ∷ 1 ∷ 74 ∷ 3 ∷ 3 ∷ 1 ∷ 2 ∷ 1 ∷ 80 ∷ 2 ∷ 2 ∷ 1 ∷ 2 ∷ 1 ∷ 84 ∷ 2 ∷ 2 ∷ 1 ∷ 4 ∷ 2 ∷ 88 ∷ 2 ∷ 1
+    ∷ 1 ∷ 4 ∷ 2 ∷ 91 ∷ 2 ∷ 2 ∷ 1 ∷ 4 ∷ 2 ∷ 95 ∷ 2 ∷ 2 ∷ 4 ∷ 0 ∷ 1 ∷ 99 ∷ 4 ∷ 4 ∷ 4 ∷ 0 ∷ 1 ∷ 107 ∷ 4 ∷ 4
+    ∷ 5 ∷ 7 ∷ 9 ∷ 0 ∷ 5 ∷ 10 ∷ 6 ∷ 8 ∷ 9 ∷ 1 ∷ 6 ∷ 10 ∷ 0 ∷ 11 ∷ 7 ∷ 12 ∷ 1 ∷ 11 ∷ 8 ∷ 12 ∷ 2 ∷ 14 ∷ 15 ∷ 3 ∷ 14 ∷ 5 ∷ 15 ∷ 4 ∷ 14 ∷ 6 ∷ 15
+    ∷ 0 ∷ 5 ∷ 10 ∷ 13 ∷ 0 ∷ 3 ∷ 11 ∷ 14 ∷ 1 ∷ 6 ∷ 10 ∷ 13 ∷ 1 ∷ 4 ∷ 11 ∷ 14 ∷ []
+
+-- "`0 0 1 1 1 0 0 13 13 17 18 21 21 0 0 0 0 0 0 0 0`", with its node
+abbrev pub oneNode : ℕ → List ℕ
+oneNode kind = 0 ∷ 0 ∷ 1 ∷ 1 ∷ 1 ∷ 0 ∷ 0 ∷ 13 ∷ 13 ∷ 17 ∷ 18 ∷ 21 ∷ 21 ∷ 0 ∷ 0 ∷ 0 ∷ 0 ∷ 0 ∷ kind ∷ 0 ∷ 0 ∷ []
+
+abbrev pub cases : List Case
+cases =
+    -- "E in 115 words builds, in 114 gives 10."
+    case tableE (builds 115) (buffer 0 imageE)
+    ∷ case tableE (builds 114) (buffer 10 (replicate 114 0))
+    -- "Its first 12 words 1, first 13 words 3."
+    ∷ case (take 12 tableE) checks (number 1)
+    ∷ case (take 13 tableE) checks (number 3)
+    -- "P set to 33: 2; to 32: 5."
+    ∷ case (withPublics 33 (sending 1 2)) checks (number 2)
+    ∷ case (withPublics 32 (sending 1 2)) checks (number 5)
+    -- "Branch 0 sending name 2: 8." "Its next node 0: 6."
+    ∷ case (withPublics 1 (sending 2 2)) checks (number 8)
+    ∷ case (withPublics 1 (sending 1 0)) checks (number 6)
+    -- "gives `1 0 0 0 1 8 9 9 0`; its node made 3 0 0: 9."
+    ∷ case (oneNode 0) (builds 9) (buffer 0 (1 ∷ 0 ∷ 0 ∷ 0 ∷ 1 ∷ 8 ∷ 9 ∷ 9 ∷ 0 ∷ []))
+    ∷ case (oneNode 3) checks (number 9)
+    -- "E at first: 7 gives 15, 9 gives 14."
+    ∷ case tableE (fires [] 7) (number 15)
+    ∷ case tableE (fires [] 9) (number 14)
+    -- "After 0, or 1, the state reads 1 3 1 65535."
+    ∷ case tableE (reads (0 ∷ [])) (buffer 0 (1 ∷ 3 ∷ 1 ∷ 65535 ∷ []))
+    ∷ case tableE (reads (1 ∷ [])) (buffer 0 (1 ∷ 3 ∷ 1 ∷ 65535 ∷ []))
+    -- "Run from the initial marking with limit 5 and 5 history words: 0 7 2 5, count 4, nothing enabled; limit 4: limit reached."
+    ∷ case tableE (runs 5 5) (ran nothingEnabled 4 (0 ∷ 7 ∷ 2 ∷ 5 ∷ []))
+    ∷ case tableE (runs 4 5) (ran limitReached 4 (0 ∷ 7 ∷ 2 ∷ 5 ∷ []))
+    ∷ []
+
+-- every case has its answer
+abbrev pub AllRight : List Case → Type 0
+AllRight [] = Unit {0}
+AllRight (c ∷ cs) = (reply (c .words) (c .question) ≡ c .answer) × AllRight cs

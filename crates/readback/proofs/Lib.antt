@@ -1,0 +1,15 @@
+pub mod Showing
+pub mod Elements
+pub mod Sifted
+pub mod Finding
+pub mod Marked
+pub mod Gathered
+pub mod Stands
+pub mod Controls
+pub mod Noting
+pub mod Marking
+pub mod Holding
+pub mod Valuing
+pub mod Owning
+pub mod Settling
+pub mod Answering

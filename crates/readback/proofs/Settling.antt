@@ -1,0 +1,78 @@
+-- A marking of a table that is laid out: the tests in the code's order decide whether it stands for a state.
+use mathlib.Core.Path.{_≡_, refl, sym, ap, _∙_}
+use mathlib.Core.Bool.{Bool, true, false, _&&_, false≢true}
+use mathlib.Core.List.{List, []}
+use Prim.Native.Nat.{ℕ, zero, suc, _+_, _≤_, _<_}
+use native.Mathlib.Omega.{arith}
+use lib.ListN.{length, replicate}
+use Rattle.lists.specs.Lists.{word}
+use Rattle.table.specs.Words.{names, nodes}
+use Rattle.table.specs.Scheme.{Scheme, scheme}
+use Rattle.net.specs.Firing.{isMarking, put}
+use Rattle.builder.specs.Values.{allValues}
+use Rattle.builder.specs.Places
+use Rattle.builder.specs.Inner.Plan.{today, controlOf, Known, Defined, Laid}
+use Rattle.builder.specs.declared.layout.Layout.{Layout}
+use Rattle.builder.proofs.Rows.{places-length}
+use Rattle.builder.proofs.Controls.{nodes-are}
+use Rattle.readback.specs.Inner.Standing.{spotsRight, valuesRight, heldBit, opposedAll, freedAll}
+use Rattle.readback.specs.Inner.Noting.{Placed, Room, Clear, Seeking, SpotsFound}
+use Rattle.readback.specs.Inner.Showing.{AtNodes}
+use Rattle.readback.specs.Inner.Holding.{heldAll, ValuesBelow}
+use Rattle.readback.specs.Inner.Settling.{Ready, Settling, Settled, standsIn, Settles}
+use Rattle.readback.proofs.Stands.{stands-is}
+use Rattle.readback.proofs.Owning.{at-nodes, held-bits}
+
+clear-word : (n t : ℕ) → word (replicate n 0) t ≡ 0
+clear-word zero t = refl
+clear-word (suc n) zero = refl
+clear-word (suc n) (suc t) = clear-word n t
+
+module _ (w owners homes defs rows spots : List ℕ) (plan : Layout) (Y : Ready w owners homes defs rows spots plan) where
+  pub clear-seeking : Seeking w defs spots plan (replicate 8 0) (replicate 8 0) (replicate 8 0)
+  clear-seeking = record {
+    placed = record { spotted = Y .laid .spotted; places-are = Y .laid .places-are };
+    definition-in = Y .defined .definition-in;
+    room = record { counts-enough = omega arith; places-enough = omega arith; indexes-enough = omega arith };
+    counts-clear = λ t l. clear-word 8 t;
+    places-clear = λ t l. clear-word 8 t;
+    indexes-clear = λ t l. clear-word 8 t;
+  }
+
+  pub count-is : plan .places ≡ length (Places.places (scheme w) (today w))
+  count-is = Y .laid .places-are ∙ ap (controlOf w) (sym (nodes-are w)) ∙ sym (places-length (scheme w) (today w))
+
+  module _ (m : List ℕ) (h : isMarking (plan .places) m ≡ true) where
+    abbrev S : Scheme
+    S = scheme w
+
+    pub here : isMarking (length (Places.places S (today w))) m ≡ true
+    here = rw (← count-is) h
+
+    tests : standsIn w m ≡ (spotsRight S m && (valuesRight S m (heldBit S m) && (opposedAll S m && freedAll S m)))
+    tests = stands-is S m here
+
+    pub no-spots : (places indexes values : List ℕ) → spotsRight S m ≡ false → Settles w m false places indexes values
+    no-spots places indexes values e = (sym (tests ∙ rw e), λ q. absurd (false≢true q))
+
+    module _ (places indexes : List ℕ) (e : spotsRight S m ≡ true) (f : SpotsFound w m places indexes) where
+      pub stand-at : AtNodes w places
+      stand-at = at-nodes w m places indexes (Y .known .accepted) e f
+
+      module _ (held : List ℕ) (marks : held ≡ put 1 (replicate 64 0) (heldAll w places indexes)) where
+        right-values : (b : Bool) → b ≡ valuesRight S m (word held) → valuesRight S m (heldBit S m) ≡ b
+        right-values b q = sym (q ∙ held-bits w m places indexes (Y .known .accepted) e f held marks)
+
+        pub no-values : (values : List ℕ) (b : Bool) → b ≡ valuesRight S m (word held) → b ≡ false → Settles w m false places indexes values
+        no-values values b q z = (sym (tests ∙ rw (e, right-values b q, z)), λ q. absurd (false≢true q))
+
+        pub not-opposed : (values : List ℕ) (b c : Bool) → b ≡ valuesRight S m (word held) → b ≡ true → c ≡ opposedAll S m → c ≡ false
+            → Settles w m false places indexes values
+        not-opposed values b c q z r y = (sym (tests ∙ rw (e, right-values b q, z, ← r, y)), λ q. absurd (false≢true q))
+
+        pub settles : (values : List ℕ) (b c d : Bool) → b ≡ valuesRight S m (word held) → b ≡ true → c ≡ opposedAll S m → c ≡ true → d ≡ freedAll S m
+            → ValuesBelow w m values (names w) → Settles w m d places indexes values
+        settles values b c d q z r y s v = (
+          s ∙ sym (tests ∙ rw (e, right-values b q, z, ← r, y)),
+          λ t. record { at-nodes = stand-at; spots-found = f; values-found = v },
+        )

@@ -1,0 +1,173 @@
+-- Whether a marking stands for a state, and the configuration that it has, by the numbers of places.
+use mathlib.Core.Path.{_≡_, refl, sym, ap, _∙_, fun-ext}
+use mathlib.Core.Bool.{Bool, true, false, not, _&&_, _||_}
+use mathlib.Core.Option.{Option, none, some}
+use mathlib.Core.List.{List, [], _∷_}
+use Prim.Native.Nat.{ℕ, zero, suc, _+_, _-_, _≤_, _<_}
+use native.Mathlib.Omega.{arith}
+use lib.Dec.{ltb}
+use lib.ListN.{length}
+use borrow.Author.Tests.{le-ltb}
+use Rattle.lists.specs.Lists.{pick, bit, same, from, range, every, keep, member}
+use Rattle.lists.proofs.Ranges.{from-member, every-same}
+use Rattle.lists.proofs.Members.{keep-same}
+use Rattle.table.specs.Scheme.{Scheme}
+use Rattle.net.specs.Firing.{isMarking}
+use Rattle.builder.specs.Values.{Values, allValues, privateValues}
+use Rattle.builder.specs.Places.{Place, equals, differs, free, control, places}
+use Rattle.builder.specs.Rows.{rowStart, freeStart, numberOf, Exists, has-equals, has-differs, has-free}
+use Rattle.builder.proofs.Today.{private-reached, equals-number, equals-restricted, differs-number}
+use Rattle.readback.specs.Configurations.{Spot, spot, Configuration, heldHere}
+use Rattle.readback.specs.Reading.{marked, has, spots, values, firstSpot, firstValue, configuration}
+use Rattle.readback.specs.Reading.{oneSpot, oneValue, opposite, freeRight, standsForState}
+use Rattle.readback.specs.Inner.Hits.{token}
+use Rattle.readback.specs.Inner.Standing.{firstOf, valueOf, justOne, spotsAt, valuesAt, opposedAt, opposedAll, holdersAt, freedAll}
+use Rattle.readback.specs.Inner.Standing.{spotsRight, valuesRight, heldBit}
+use Rattle.readback.proofs.Marked.{chosen, marked-keep, has-number}
+use Rattle.readback.proofs.Gathered.{spots-are, values-are}
+
+every-shift : (p : ℕ → Bool) (a b n : ℕ) → every p (from (a + b) n) ≡ every (λ i. p (a + i)) (from b n)
+unfolding every from
+every-shift p a b zero = refl
+every-shift p a b (suc n) = let e : a + b + 1 ≡ a + (b + 1) = omega arith in rw (e, every-shift p a (b + 1) n)
+
+every-from : (p : ℕ → Bool) (a n : ℕ) → every p (from a n) ≡ every (λ i. p (a + i)) (range n)
+every-from p a n = let e : a ≡ a + 0 = omega arith in ap (λ (k : ℕ). every p (from k n)) e ∙ every-shift p a 0 n
+
+just-one : (a b : Bool) → pick b (not a) a ≡ justOne a b
+just-one true true = refl
+just-one true false = refl
+just-one false true = refl
+just-one false false = refl
+
+module _ (S : Scheme) (m : List ℕ) where
+  abbrev U : Values
+  U = allValues S
+
+  abbrev ms : List Place
+  ms = keep (chosen S U m) (places S U)
+
+  -- ---- the configuration
+
+  first-spot : (l : List Spot) → firstSpot S U ms l ≡ firstOf l
+  first-spot [] = refl
+  first-spot (p ∷ ps) = refl
+
+  first-value : (l : List ℕ) → firstValue S U ms l ≡ valueOf l
+  first-value [] = refl
+  first-value (v ∷ vs) = refl
+
+  at-is : (t : ℕ) → configuration S U ms .at t ≡ firstOf (spotsAt S m t)
+  unfolding configuration
+  at-is t = rw (spots-are S m t) (first-spot (spotsAt S m t))
+
+  value-is : (x : ℕ) → S .publics ≤ x → x < S .publics + S .bounds → configuration S U ms .value x ≡ valueOf (valuesAt S m x)
+  unfolding configuration
+  value-is x lo hi = rw (le-ltb x (S .publics) lo, values-are S m x lo hi) (first-value (valuesAt S m x))
+
+  public-is : (x : ℕ) → ltb x (S .publics) ≡ true → configuration S U ms .value x ≡ some x
+  unfolding configuration
+  public-is x h = rw h
+
+  -- ---- places by their numbers
+
+  has-equal : (x i : ℕ) → S .publics ≤ x → x < S .publics + S .bounds → i < S .bounds → S .restricted x ≡ false
+      → has ms (equals x (S .publics + i)) ≡ token m (rowStart S U x + S .publics + i)
+  unfolding allValues
+  has-equal x i lo hi l r =
+      has-number S U m (equals x (S .publics + i)) (has-equals (lo, hi) (omega arith) (private-reached S x (S .publics + i) (omega arith)))
+      ∙ ap (token m) (equals-number S x (S .publics + i) r ∙ omega arith)
+
+  has-taken : (x i : ℕ) → S .publics ≤ x → x < S .publics + S .bounds → i < S .bounds → S .restricted x ≡ true
+      → has ms (equals x (S .publics + i)) ≡ token m (rowStart S U x + i)
+  unfolding allValues
+  has-taken x i lo hi l r =
+      has-number S U m (equals x (S .publics + i)) (has-equals (lo, hi) (omega arith) (private-reached S x (S .publics + i) (omega arith)))
+      ∙ ap (token m) (equals-restricted S x (S .publics + i) r (omega arith) ∙ omega arith)
+
+  has-different : (x i : ℕ) → S .publics ≤ x → x < S .publics + S .bounds → i < S .bounds → S .restricted x ≡ false
+      → has ms (differs x (S .publics + i)) ≡ token m (rowStart S U x + S .publics + S .bounds + i)
+  unfolding allValues
+  has-different x i lo hi l r =
+      has-number S U m (differs x (S .publics + i))
+      (has-differs (lo, hi) r (omega arith, omega arith) (private-reached S x (S .publics + i) (omega arith)))
+      ∙ ap (token m) (differs-number S x (S .publics + i) lo r ∙ omega arith)
+
+  has-left : (i : ℕ) → i < S .bounds → has ms (free (S .publics + i)) ≡ token m (freeStart S U + i)
+  unfolding allValues
+  has-left i l = has-number S U m (free (S .publics + i)) (has-free (omega arith, omega arith)) ∙ ap (token m) (omega arith)
+
+  -- ---- the four tests
+
+  spots-right : every (oneSpot S U ms) (range (S .threads)) ≡ spotsRight S m
+  unfolding spotsRight
+  spots-right = every-same (oneSpot S U ms) (λ t. same (length (spotsAt S m t)) 1) (range (S .threads)) (λ t i. rw (spots-are S m t))
+
+  values-right : every (oneValue S U ms) (from (S .publics) (S .bounds)) ≡ valuesRight S m (heldBit S m)
+  unfolding valuesRight
+  values-right =
+      every-same (oneValue S U ms) (λ x. same (length (valuesAt S m x)) (heldBit S m x)) (from (S .publics) (S .bounds))
+      (λ x i.
+      let b = from-member x (S .publics) (S .bounds) i in
+      rw (values-are S m x (b .0) (b .1), at-is (S .nameThread x)))
+
+  opposite-right : (x : ℕ) → S .publics ≤ x → x < S .publics + S .bounds → S .restricted x ≡ false
+      → every (opposite S U ms x) (privateValues S U) ≡ every (opposedAt S m x) (range (S .bounds))
+  unfolding allValues
+  opposite-right x lo hi r =
+      every-from (opposite S U ms x) (S .publics) (S .bounds)
+      ∙ every-same (λ i. opposite S U ms x (S .publics + i)) (opposedAt S m x) (range (S .bounds))
+      (λ i k.
+      let l : i < S .bounds = omega (arith, from-member i 0 (S .bounds) k) in
+      rw (has-different x i lo hi l r, has-equal x i lo hi l r)
+      (just-one (token m (rowStart S U x + S .publics + i)) (token m (rowStart S U x + S .publics + S .bounds + i))))
+
+  opposed-right : every (λ x. S .restricted x || every (opposite S U ms x) (privateValues S U)) (from (S .publics) (S .bounds)) ≡ opposedAll S m
+  unfolding opposedAll
+  opposed-right =
+      every-same (λ x. S .restricted x || every (opposite S U ms x) (privateValues S U))
+      (λ x. S .restricted x || every (opposedAt S m x) (range (S .bounds))) (from (S .publics) (S .bounds))
+      (λ x i. let b = from-member x (S .publics) (S .bounds) i in go x (b .0) (b .1) (S .restricted x) refl)
+    where
+      go : (x : ℕ) → S .publics ≤ x → x < S .publics + S .bounds → (b : Bool) → S .restricted x ≡ b
+          → (b || every (opposite S U ms x) (privateValues S U)) ≡ (b || every (opposedAt S m x) (range (S .bounds)))
+      go x lo hi true r = refl
+      go x lo hi false r = opposite-right x lo hi r
+
+  holders-are : (i : ℕ) → i < S .bounds → keep (λ x. S .restricted x && has ms (equals x (S .publics + i))) (from (S .publics) (S .bounds)) ≡ holdersAt S m i
+  holders-are i l =
+      keep-same (λ x. S .restricted x && has ms (equals x (S .publics + i))) (λ x. S .restricted x && token m (rowStart S U x + i))
+      (from (S .publics) (S .bounds))
+      (λ x k. let b = from-member x (S .publics) (S .bounds) k in go x (b .0) (b .1) (S .restricted x) refl)
+    where
+      go : (x : ℕ) → S .publics ≤ x → x < S .publics + S .bounds → (b : Bool) → S .restricted x ≡ b
+          → (b && has ms (equals x (S .publics + i))) ≡ (b && token m (rowStart S U x + i))
+      go x lo hi true r = has-taken x i lo hi l r
+      go x lo hi false r = refl
+
+  freed-right : every (freeRight S U ms) (privateValues S U) ≡ freedAll S m
+  unfolding freedAll allValues
+  freed-right =
+      every-from (freeRight S U ms) (S .publics) (S .bounds)
+      ∙ every-same (λ i. freeRight S U ms (S .publics + i)) (λ n. same (length (holdersAt S m n)) (pick (token m (freeStart S U + n)) 0 1)) (range (S .bounds))
+      (λ i k.
+      let l : i < S .bounds = omega (arith, from-member i 0 (S .bounds) k) in
+      rw (holders-are i l, has-left i l))
+
+  -- ---- a marking of the net
+
+  module _ (h : isMarking (length (places S U)) m ≡ true) where
+    pub stands-is : standsForState S U (marked (places S U) m)
+        ≡ (spotsRight S m && (valuesRight S m (heldBit S m) && (opposedAll S m && freedAll S m)))
+    unfolding standsForState
+    stands-is = rw (marked-keep S U m h, spots-right, values-right, opposed-right, freed-right)
+
+    pub read-at : (t : ℕ) → configuration S U (marked (places S U) m) .at t ≡ firstOf (spotsAt S m t)
+    read-at t = rw (marked-keep S U m h) (at-is t)
+
+    pub read-value : (x : ℕ) → S .publics ≤ x → x < S .publics + S .bounds
+        → configuration S U (marked (places S U) m) .value x ≡ valueOf (valuesAt S m x)
+    read-value x lo hi = rw (marked-keep S U m h) (value-is x lo hi)
+
+    pub read-public : (x : ℕ) → ltb x (S .publics) ≡ true → configuration S U (marked (places S U) m) .value x ≡ some x
+    read-public x l = rw (marked-keep S U m h) (public-is x l)

@@ -1,0 +1,91 @@
+-- `readback::names::freed` meets its contract. Loop: the private values left decide. Measure: private values left.
+use mathlib.Core.Path.{_≡_, refl, sym, ap, _∙_}
+use mathlib.Core.Bool.{true, false, false≢true}
+use Prim.Native.Nat.{ℕ, _+_, _-_, _≤_, _<_}
+use native.Mathlib.Omega.{arith}
+use borrow.Author.Tests.{not-true, not-false}
+use lib.ListN.{length}
+use Rattle.lists.specs.Lists.{pick, bit, same, word, from, range, every, keep}
+use Rattle.lists.proofs.Ranges.{every-more, every-stop, every-done}
+use Rattle.table.specs.Words.{names}
+use Rattle.table.specs.Scheme.{scheme}
+use Rattle.readback.specs.Inner.Standing.{freedFor, freedAll}
+use Rattle.readback.proofs.Valuing.{freed-start, wanted-is, differ-same, equal-same}
+use borrow.Author.Needs.{needs}
+use Rattle.readback.proofs.names.freed.Statement.{statement}
+use Rattle.readback.proofs.names.freed.Tie as tie
+
+abbrev Inv-loop : tie.InvT-loop
+Inv-loop table rows plan marking count n₀ n = freedAll (scheme table) marking ≡ every (freedFor (scheme table) marking) (from n (count - n))
+
+abbrev μ-loop : tie.MeasureT-loop
+μ-loop table rows plan marking count n₀ n = count - n
+
+loop-holds : tie.Need-loop-holds Inv-loop μ-loop
+loop-holds c =
+    let s = c .before .before .before in
+    freed-start (s .args .table .now) (s .args .rows .now) (s .args .plan) (s .pre) (s .args .marking .now)
+
+holders-requires : tie.Need-holders-requires Inv-loop μ-loop
+holders-requires c κs =
+    let s = c .before .before .before .before .before in
+    (s .pre, omega (arith, c .loop-test .taken, s .pre .privates-are, s .pre .few-bounds))
+
+wanted-requires : tie.Need-wanted-requires Inv-loop μ-loop
+wanted-requires c κs =
+    let s = c .before .before .before .before .before .before in
+    (s .pre .few-free, omega (arith, c .before .loop-test .taken, s .pre .privates-are, s .pre .few-bounds))
+
+returns : tie.Need-returns Inv-loop μ-loop
+returns c =
+    let at-holders = c .before .before in
+    let at-loop-test = at-holders .before in
+    let at-loop = at-loop-test .before in
+    let s = at-loop .before .before .before .before in
+    let l = at-loop .loop in
+    sym (l .inv ∙ every-stop (freedFor (scheme (s .args .table .now)) (s .args .marking .now)) (l .n) (s .args .plan .privates)
+    (at-loop-test .loop-test .taken) (differ-same _ _ _ _ (at-holders .holders .ensures)
+    (c .before .wanted .ensures ∙ wanted-is (s .args .table .now) (s .args .rows .now) (s .args .plan) (s .pre) (s .args .marking .now) (l .n))
+    (c .if1 .taken)))
+
+add-n : tie.Need-add-n Inv-loop μ-loop
+add-n c =
+    let at-loop-test = c .before .before .before in
+    let s = at-loop-test .before .before .before .before .before in
+    omega (arith, at-loop-test .loop-test .taken, s .pre .privates-are, s .pre .few-bounds)
+
+loop-less : tie.Need-loop-less Inv-loop μ-loop
+loop-less c = omega arith
+
+loop-again : tie.Need-loop-again Inv-loop μ-loop
+loop-again c =
+    let at-holders = c .before .before in
+    let at-loop-test = at-holders .before in
+    let at-loop = at-loop-test .before in
+    let s = at-loop .before .before .before .before in
+    let l = at-loop .loop in
+    l .inv ∙ every-more (freedFor (scheme (s .args .table .now)) (s .args .marking .now)) (l .n) (s .args .plan .privates)
+    (at-loop-test .loop-test .taken) (equal-same _ _ _ _ (at-holders .holders .ensures)
+    (c .before .wanted .ensures ∙ wanted-is (s .args .table .now) (s .args .rows .now) (s .args .plan) (s .pre) (s .args .marking .now) (l .n))
+    (c .if1 .left))
+
+returns-2 : tie.Need-returns-2 Inv-loop μ-loop
+returns-2 c =
+    let s = c .before .before .before .before .before in
+    let l = c .before .loop in
+    sym (l .inv ∙ every-done (freedFor (scheme (s .args .table .now)) (s .args .marking .now)) (l .n) (s .args .plan .privates) (c .loop-test .left))
+
+pub freed-spec : {M : Type 1} → statement M
+freed-spec =
+    tie.close
+    (tie.spec
+    Inv-loop
+    μ-loop
+    loop-holds
+    holders-requires
+    wanted-requires
+    returns
+    add-n
+    loop-less
+    loop-again
+    returns-2)

@@ -1,0 +1,338 @@
+// Names held where the threads stand, and the marked places of names' rows.
+ghost use mathlib.Core.Path.{_≡_};
+ghost use mathlib.Core.List.{_++_};
+ghost use Prim.Native.Nat.{_+_, _-_, _≤_, _<_};
+ghost use lib.ListN.{length, take};
+ghost use lib.Seq.{slice};
+ghost use lib.Dec.{ltb};
+ghost use mathlib.Core.Bool.{true};
+ghost use Rattle.lists.specs.Lists.{pick, bit, word, from, range, every};
+ghost use Rattle.table.specs.Words.{names, nodes, nodeFirst, formalCount, formals};
+ghost use Rattle.table.specs.Scheme.{scheme};
+ghost use Rattle.net.specs.Firing.{put};
+ghost use Rattle.builder.specs.Inner.Plan.{Known, Rowed, RowsBelow};
+ghost use Rattle.readback.specs.Configurations.{spot, heldHere};
+ghost use Rattle.readback.specs.Inner.Hits.{token};
+ghost use Rattle.readback.specs.Inner.Standing.{justOne, lowest, valueRight, valuesRight};
+ghost use Rattle.readback.specs.Inner.Standing.{opposedFor, opposedAll, holdsAt, holdersAt, freedAll};
+ghost use Rattle.readback.specs.Inner.Showing.{AtNodes};
+ghost use Rattle.readback.specs.Inner.Holding.{heldAll, IsName, Filled, ValuesBelow};
+use crate::found::find;
+use crate::found::is_marked;
+use builder::layout::Layout;
+use lists::store8;
+use lists::store16;
+use lists::word8;
+use lists::word16;
+use lists::word32;
+use table::fields::field3;
+use table::fields::field4;
+use table::fields::name_kind;
+
+// a - b, 0 where b is more.
+fn less(a: usize, b: usize) -> usize
+    ensures { λ r. ⌜ r ≡ a - b ⌝ }
+{
+    if a < b {
+        return 0;
+    }
+    a - b
+}
+
+fn smaller(a: usize, b: usize) -> usize
+    ensures { λ r. ⌜ r ≡ pick (ltb a b) a b ⌝ }
+{
+    if a < b {
+        return a;
+    }
+    b
+}
+
+// Marks the names of a list from place `first` up to place `end`.
+fn mark_names(names: &[u32], first: usize, end: usize, held: &mut [u8])
+    requires { ⌜ end ≤ length (now names) ⌝ }
+    ensures { λ r. ⌜ now (held .exit) ≡ put 1 (now (held .entry)) (slice first end (now (names .entry))) ⌝ }
+{
+    let mut i = first;
+    while i < end {
+        store8(held, word32(names, i), 1);
+        i += 1;
+    }
+}
+
+// Marks `count` names from `first` on.
+fn mark_span(first: usize, count: usize, held: &mut [u8])
+    requires { ⌜ (first < 65536) × (count < 65536) ⌝ }
+    ensures { λ r. ⌜ now (held .exit) ≡ put 1 (now (held .entry)) (from first count) ⌝ }
+{
+    let mut i = 0;
+    while i < count {
+        store8(held, first + i, 1);
+        i += 1;
+    }
+}
+
+// Marks the names held at control place `index` of a Call: the formals copied, then the names of the caller not released.
+fn mark_call(table: &[u16], node: usize, index: usize, names: &[u32], count: usize, held: &mut [u8])
+    requires { ⌜ count ≤ length (now names) ⌝ }
+    ensures { λ r. ⌜ now (held .exit) ≡ put 1 (now (held .entry))
+        (take (index - 1) (formals (now (table .entry)) (nodeFirst (now (table .entry)) node))
+        ++ slice (index - (1 + formalCount (now (table .entry)) (nodeFirst (now (table .entry)) node))) count (now (names .entry))) ⌝ }
+{
+    let d = field3(table, 10, node, 1);
+    let formals = field4(table, 8, d, 3);
+    mark_span(
+        field4(table, 8, d, 2),
+        smaller(less(index, 1), formals),
+        held,
+    );
+    mark_names(names, less(index, 1 + formals), count, held);
+}
+
+// Marks the names held at control place `index` of a node.
+fn mark_held(
+    table: &[u16],
+    owners: &[u32],
+    homes: &[u32],
+    node: usize,
+    index: usize,
+    held: &mut [u8],
+)
+    requires { ⌜ Known (now table) (now owners) (now homes) × (node < nodes (now table)) ⌝ }
+    ensures { λ r. ⌜ now (held .exit)
+        ≡ put 1 (now (held .entry)) (heldHere (scheme (now (table .entry))) (spot node index)) ⌝ }
+{
+    let mut names = [0u32; 64];
+    let count = table::index::held_names(table, owners, homes, node as u16, &mut names);
+    let kind = field3(table, 10, node, 0);
+    if kind == 0 {
+        return mark_names(&names, index, count, held);
+    }
+    if kind == 3 {
+        return mark_call(table, node, index, &names, count, held);
+    }
+    mark_names(&names, 0, count, held);
+}
+
+// Marks the names held where the threads stand.
+pub(crate) fn mark_all(
+    table: &[u16],
+    owners: &[u32],
+    homes: &[u32],
+    places: &[u32],
+    indexes: &[u32],
+    held: &mut [u8],
+)
+    requires { ⌜ Known (now table) (now owners) (now homes) × AtNodes (now table) (now places) ⌝ }
+    ensures { λ r. ⌜ now (held .exit)
+        ≡ put 1 (now (held .entry)) (heldAll (now (table .entry)) (now (places .entry)) (now (indexes .entry))) ⌝ }
+{
+    let threads = word16(table, 3);
+    let mut t = 0;
+    while t < threads {
+        mark_held(
+            table,
+            owners,
+            homes,
+            word32(places, t),
+            word32(indexes, t),
+            held,
+        );
+        t += 1;
+    }
+}
+
+// Whether a bound name is restricted.
+fn is_restricted(table: &[u16], name: usize) -> bool
+    requires { ⌜ IsName (now table) name ⌝ }
+    ensures { λ r. ⌜ r ≡ scheme (now (table .entry)) .restricted name ⌝ }
+{
+    name_kind(table, name) == 0
+}
+
+// The least value that a bound name may hold.
+fn low_value(table: &[u16], name: usize) -> usize
+    requires { ⌜ IsName (now table) name ⌝ }
+    ensures { λ r. ⌜ r ≡ lowest (scheme (now (table .entry))) name ⌝ }
+{
+    if is_restricted(table, name) {
+        return word16(table, 0);
+    }
+    0
+}
+
+// Fills in a name's marked value, 65535 where it has none. Whether it has one just if it is held.
+fn find_value(
+    table: &[u16],
+    rows: &[u32],
+    plan: Layout,
+    marking: &[u8],
+    held: &[u8],
+    values: &mut [u16],
+    name: usize,
+) -> bool
+    requires { ⌜ Rowed (now table) (now rows) plan × IsName (now table) name ⌝ }
+    ensures { λ r. ⌜ (r ≡ valueRight (scheme (now (table .entry))) (now (marking .entry)) (word (now (held .entry))) name)
+        × (r ≡ true → Filled (now (table .entry)) (now (marking .entry)) name (now (values .entry)) (now (values .exit))) ⌝ }
+{
+    let low = low_value(table, name);
+    let f = find(
+        marking,
+        word32(rows, name),
+        plan.publics + plan.bounds - low,
+    );
+    if f.count != word8(held, name) {
+        return false;
+    }
+    if f.count == 0 {
+        store16(values, name, 65535);
+        return true;
+    }
+    store16(values, name, (low + f.first) as u16);
+    true
+}
+
+// Just one of two.
+fn just_one(a: bool, b: bool) -> bool
+    ensures { λ r. ⌜ r ≡ justOne a b ⌝ }
+{
+    if a {
+        return !b;
+    }
+    b
+}
+
+// Whether of each of `count` places from `first` on and the one as far from `second` just one is marked.
+fn opposite(marking: &[u8], first: usize, second: usize, count: usize) -> bool
+    requires { ⌜ (first < 8589934592) × (second < 8589934592) × (count < 65536) ⌝ }
+    ensures { λ r. ⌜ r
+        ≡ every (λ i. justOne (token (now (marking .entry)) (first + i)) (token (now (marking .entry)) (second + i))) (range count) ⌝ }
+{
+    let mut i = 0;
+    while i < count {
+        if !just_one(
+            is_marked(marking, first + i),
+            is_marked(marking, second + i),
+        ) {
+            return false;
+        }
+        i += 1;
+    }
+    true
+}
+
+// One more where the test holds.
+fn plus(count: usize, more: bool) -> usize
+    requires { ⌜ count < 65536 ⌝ }
+    ensures { λ r. ⌜ r ≡ count + bit more ⌝ }
+{
+    if more {
+        return count + 1;
+    }
+    count
+}
+
+// How many restricted names are to have private value n: none where [*≠n] is marked, else one.
+fn wanted(plan: Layout, marking: &[u8], n: usize) -> usize
+    requires { ⌜ (plan .free ≤ 3072) × (n < 65536) ⌝ }
+    ensures { λ r. ⌜ r ≡ pick (token (now (marking .entry)) (plan .free + n)) 0 1 ⌝ }
+{
+    if is_marked(marking, plan.free + n) {
+        return 0;
+    }
+    1
+}
+
+// The marked value of each bound name. Whether each has one just if it is held.
+pub(crate) fn find_values(
+    table: &[u16],
+    rows: &[u32],
+    plan: Layout,
+    marking: &[u8],
+    held: &[u8],
+    values: &mut [u16],
+) -> bool
+    requires { ⌜ Rowed (now table) (now rows) plan × (64 ≤ length (now values)) ⌝ }
+    ensures { λ r. ⌜ (r ≡ valuesRight (scheme (now (table .entry))) (now (marking .entry)) (word (now (held .entry))))
+        × (r ≡ true → ValuesBelow (now (table .entry)) (now (marking .entry)) (now (values .exit)) (names (now (table .entry)))) ⌝ }
+{
+    let end = plan.publics + plan.bounds;
+    let mut x = plan.publics;
+    while x < end {
+        if !find_value(table, rows, plan, marking, held, values, x) {
+            return false;
+        }
+        x += 1;
+    }
+    true
+}
+
+// Whether [x≠n] is marked just without [x=n], for a name that is not restricted.
+fn opposed_for(table: &[u16], rows: &[u32], plan: Layout, marking: &[u8], name: usize) -> bool
+    requires { ⌜ Rowed (now table) (now rows) plan × IsName (now table) name ⌝ }
+    ensures { λ r. ⌜ r ≡ opposedFor (scheme (now (table .entry))) (now (marking .entry)) name ⌝ }
+{
+    if is_restricted(table, name) {
+        return true;
+    }
+    let private = word32(rows, name) + plan.publics;
+    opposite(marking, private, private + plan.privates, plan.privates)
+}
+
+// Whether [x≠n] is marked just without [x=n], for each name that is not restricted.
+pub(crate) fn opposed(table: &[u16], rows: &[u32], plan: Layout, marking: &[u8]) -> bool
+    requires { ⌜ Rowed (now table) (now rows) plan ⌝ }
+    ensures { λ r. ⌜ r ≡ opposedAll (scheme (now (table .entry))) (now (marking .entry)) ⌝ }
+{
+    let end = plan.publics + plan.bounds;
+    let mut x = plan.publics;
+    while x < end {
+        if !opposed_for(table, rows, plan, marking, x) {
+            return false;
+        }
+        x += 1;
+    }
+    true
+}
+
+// Whether a bound name is restricted and has private value n.
+fn holds(table: &[u16], rows: &[u32], marking: &[u8], name: usize, n: usize) -> bool
+    requires { ⌜ RowsBelow (now table) (now rows) (names (now table)) × IsName (now table) name × (n < 65536) ⌝ }
+    ensures { λ r. ⌜ r ≡ holdsAt (scheme (now (table .entry))) (now (marking .entry)) n name ⌝ }
+{
+    if !is_restricted(table, name) {
+        return false;
+    }
+    is_marked(marking, word32(rows, name) + n)
+}
+
+// How many restricted names have private value n.
+fn holders(table: &[u16], rows: &[u32], plan: Layout, marking: &[u8], n: usize) -> usize
+    requires { ⌜ Rowed (now table) (now rows) plan × (n < 65536) ⌝ }
+    ensures { λ r. ⌜ r ≡ length (holdersAt (scheme (now (table .entry))) (now (marking .entry)) n) ⌝ }
+{
+    let end = plan.publics + plan.bounds;
+    let mut count = 0;
+    let mut x = plan.publics;
+    while x < end {
+        count = plus(count, holds(table, rows, marking, x, n));
+        x += 1;
+    }
+    count
+}
+
+// Whether [*≠n] is marked just where no restricted name has n, and no two have it.
+pub(crate) fn freed(table: &[u16], rows: &[u32], plan: Layout, marking: &[u8]) -> bool
+    requires { ⌜ Rowed (now table) (now rows) plan ⌝ }
+    ensures { λ r. ⌜ r ≡ freedAll (scheme (now (table .entry))) (now (marking .entry)) ⌝ }
+{
+    let count = plan.privates;
+    let mut n = 0;
+    while n < count {
+        if holders(table, rows, plan, marking, n) != wanted(plan, marking, n) {
+            return false;
+        }
+        n += 1;
+    }
+    true
+}
