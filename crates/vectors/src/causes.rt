@@ -29,18 +29,7 @@ pub fn refused(cause: u64) -> Outcome {
 
 // The number of a table's cause.
 pub fn of_table(verdict: Verdict) -> u64 {
-    match verdict {
-        Verdict::Accepted => 0,
-        Verdict::Short => 1,
-        Verdict::Counts => 2,
-        Verdict::Layout => 3,
-        Verdict::Kinds => 4,
-        Verdict::Ranges => 5,
-        Verdict::Shape => 6,
-        Verdict::Binding => 7,
-        Verdict::Scope => 8,
-        Verdict::Calls => 9,
-    }
+    table::number(verdict) as u64
 }
 
 // What building answered.

@@ -17,7 +17,7 @@ pub fn least(a: usize, b: usize) -> usize
 }
 
 // Where the line that starts at `from` ends, after its line feed; `from` itself if there is none.
-pub fn end_from(input: &[u8], from: usize) -> usize
+pub(crate) fn end_from(input: &[u8], from: usize) -> usize
     requires { ⌜ from ≤ length (now input) ⌝ }
     ensures { λ r. ⌜ (from ≤ r) × (r ≤ length (now (input .entry))) ⌝ }
 {
