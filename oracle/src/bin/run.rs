@@ -1,7 +1,5 @@
-//! `run TABLE LIMIT` runs the net of a table file from its initial marking, for at most LIMIT
-//! firings. It prints a line for each firing (the transition's number and label, the kind in
-//! words), then why the run ended and the count of firings, then the words of the state that the
-//! marking stands for.
+//! `run TABLE LIMIT` builds the net of a table file, runs it from its initial marking for at most
+//! LIMIT firings, and reads the state back. It prints what examples/c/run.c prints with the library.
 
 use std::io::Write;
 use std::process::ExitCode;
@@ -12,9 +10,6 @@ use oracle::table::accept;
 use oracle::{build, listing::words_of, read, replay, run, Reason, Refusal, RunAnswer};
 
 const USAGE: &str = "usage: run TABLE LIMIT";
-
-/// The kinds of labels in words.
-const KINDS: [&str; 6] = ["copy", "release", "new", "silent", "communication", "call"];
 
 fn main() -> ExitCode {
     let arguments: Vec<String> = std::env::args().skip(1).collect();
@@ -41,7 +36,7 @@ fn run_file(path: &str, limit: &str) -> Result<String, String> {
     let bytes = std::fs::read(path).map_err(|error| format!("{path}: {error}"))?;
     words_of(&bytes)
         .and_then(|table| run_table(&table, limit))
-        .map_err(|cause| format!("refused {cause}"))
+        .map_err(|cause| format!("refused: cause {cause}"))
 }
 
 /// The text of a run, or the cause of a refusal.
@@ -54,13 +49,12 @@ fn run_table(table: &[u16], limit: u32) -> Result<String, u32> {
     let answer = run(&image, &mut marking, limit.into(), &mut history).map_err(alone)?;
     let mut state = vec![0; usize::from(table[1] + table[3])];
     read(table, &marking, &mut state)?;
-    let mut lines: Vec<String> = history[..answer.firings as usize]
-        .iter()
-        .map(|&number| firing_line(&image, number))
-        .collect();
+    let mut lines = vec![net_line(table, &image)];
+    let made = &history[..answer.firings as usize];
+    lines.extend(made.iter().map(|&number| firing_line(&image, number)));
     lines.push(ending_line(answer));
-    lines.push(state_line(&state));
-    Ok(lines.concat())
+    lines.extend(state_lines(table, &state));
+    Ok(lines.join("\n") + "\n")
 }
 
 fn image_of(words: &[u16]) -> Result<Vec<u32>, u32> {
@@ -72,26 +66,53 @@ fn image_of(words: &[u16]) -> Result<Vec<u32>, u32> {
     Ok(image)
 }
 
-/// `7 communication 0 1`.
+fn net_line(table: &[u16], image: &[u32]) -> String {
+    format!(
+        "table of {} words: net of {} places and {} transitions in {} words",
+        table.len(),
+        image[0],
+        image[1],
+        image.len()
+    )
+}
+
+/// A firing, by what its label says.
 fn firing_line(image: &[u32], number: u32) -> String {
     let record = image[6] as usize + 6 * number as usize;
-    let kind = KINDS[image[record] as usize];
-    let (a, b) = (image[record + 1], image[record + 2]);
-    format!("{number} {kind} {a} {b}\n")
+    let (kind, a, b) = (image[record], image[record + 1], image[record + 2]);
+    let what = match kind {
+        0 => format!("node {a} copies a value to formal {b}"),
+        1 => format!("node {a} releases name {b}"),
+        2 => format!("node {a} makes a new value for name {b}"),
+        3 => format!("branch {a} goes on silently"),
+        4 => format!("branch {a} sends to branch {b}"),
+        _ => format!("node {a} calls its definition"),
+    };
+    format!("fired {number} ({kind} {a} {b}): {what}")
 }
 
-/// `nothing enabled 4`.
 fn ending_line(answer: RunAnswer) -> String {
     let reason = match answer.reason {
-        Reason::LimitReached => "limit reached",
-        Reason::HistoryFull => "history full",
-        Reason::NothingEnabled => "nothing enabled",
+        Reason::LimitReached => "limit reached (200)",
+        Reason::HistoryFull => "history full (201)",
+        Reason::NothingEnabled => "nothing enabled (202)",
     };
-    format!("{reason} {}\n", answer.firings)
+    format!("firings made: {}, {reason}", answer.firings)
 }
 
-/// `state 2 4 65535 65535`.
-fn state_line(state: &[u16]) -> String {
-    let words: Vec<String> = state.iter().map(u16::to_string).collect();
-    format!("state {}\n", words.join(" "))
+/// The node of each thread, then the value of each bound name.
+fn state_lines(table: &[u16], state: &[u16]) -> Vec<String> {
+    let publics = table[0];
+    let (nodes, values) = state.split_at(usize::from(table[3]));
+    let thread_line =
+        |(thread, node): (usize, &u16)| format!("thread {thread} stands at node {node}");
+    let name_line = |(name, &value): (u16, &u16)| match value {
+        65535 => format!("name {name} is not held"),
+        _ if value < publics => format!("name {name} has the public value {value}"),
+        _ => format!("name {name} has the private value {value}"),
+    };
+    let threads = nodes.iter().enumerate().map(thread_line);
+    threads
+        .chain((publics..).zip(values).map(name_line))
+        .collect()
 }
