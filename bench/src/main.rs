@@ -42,17 +42,17 @@ fn main() -> ExitCode {
 fn print_method() {
     println!(
         "Both engines gave the same answers and outputs before they were timed. Each figure is the best of {ROUNDS}\n\
-         rounds; in each round the library and the oracle have their turns. Buffers are written once before, and\n\
-         not cleared between calls. Before each run, and before each row of single firings, the initial marking is\n\
-         copied. A plain write puts a changing word in each of as many words as the image has: wide, in a loop that\n\
-         the compiler may turn into wide stores; single, with one store for each word."
+         rounds, by the thread's processor time; in each round the library and the oracle have their turns. Buffers\n\
+         are written once before, and not cleared between calls. Before each run, and before each row of single\n\
+         firings, the initial marking is copied. A plain write puts a changing word in each of as many words as the\n\
+         image has: wide, in a loop that the compiler may turn into wide stores; single, with one store a word."
     );
 }
 
 fn report(both: &Both, case: &Case) {
     println!("\n{}\n{}", case.title, counts(&case.table));
     println!(
-        "{} places, {} transitions, {} image words, a history of {} firings",
+        "places {}, transitions {}, image words {}, firings of the run {}",
         case.image[0],
         case.image[1],
         case.image.len(),
@@ -84,7 +84,7 @@ fn counts(words: &[u16]) -> String {
     let names = |kind| table.names.iter().filter(|&&name| name == kind).count();
     let send = |branch: &&Branch| matches!(branch, Branch::Send { .. });
     format!(
-        "{} threads, {} nodes, {} public names, {} restricted, {} inputs, {} formals, {} sends",
+        "threads {}, nodes {}, public names {}, restricted {}, inputs {}, formals {}, sends {}",
         table.entries.len(),
         table.nodes.len(),
         table.publics,
@@ -110,7 +110,7 @@ fn report_build(both: &Both, case: &Case) {
     print_rates(&BUILD, case, &seconds);
     for (title, write) in [("wide", seconds[2]), ("single", seconds[3])] {
         println!(
-            "{:22} {:>15.0} {:>31.3} of it: the library's build",
+            "{:22} {:>15.0}   the library builds at {:.3} of this speed",
             format!("plain write, {title}"),
             case.image.len() as f64 / write,
             write / seconds[0]
