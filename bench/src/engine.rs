@@ -1,0 +1,27 @@
+//! The calls that both engines have, with answers of one form.
+
+/// A call's answer: a value, and a code that is 0, the number of a cause, or a run's reason.
+#[derive(Clone, Copy, Debug, PartialEq, Eq)]
+pub struct Answer {
+    pub value: u64,
+    pub code: u8,
+}
+
+pub const LIMIT_REACHED: u8 = 200;
+pub const HISTORY_FULL: u8 = 201;
+pub const NOTHING_ENABLED: u8 = 202;
+
+/// A label: kind, a, b.
+pub type Label = [u32; 3];
+
+pub trait Engine {
+    fn check(&self, table: &[u16]) -> Answer;
+    fn build(&self, table: &[u16], out: &mut [u32]) -> Answer;
+    fn fire(&self, image: &[u32], marking: &mut [u8], transition: u32) -> Answer;
+    fn replay(&self, image: &[u32], marking: &mut [u8], numbers: &[u32]) -> Answer;
+    fn run(&self, image: &[u32], marking: &mut [u8], limit: u64, history: &mut [u32]) -> Answer;
+    fn read(&self, table: &[u16], marking: &[u8], state: &mut [u16]) -> Answer;
+    fn start(&self, table: &[u16], state: &mut [u16]) -> Answer;
+    fn open_steps(&self, table: &[u16], state: &[u16], labels: &mut [u32]) -> Answer;
+    fn step(&self, table: &[u16], state: &[u16], label: Label, next: &mut [u16]) -> Answer;
+}
