@@ -1,0 +1,110 @@
+-- A word has its whole value where the value fits 56 bits, and what `build`, `start`, `step` and `read` count always does. The other calls count no more
+-- than the elements of a buffer.
+use mathlib.Core.Path.{_≡_, refl}
+use mathlib.Core.Bool.{Bool, true, false, not}
+use mathlib.Core.List.{List, _++_}
+use Prim.Native.Nat.{ℕ, _+_, _*_, _<_, _^_}
+use native.Mathlib.Nat.{mod-eq-of-lt}
+use native.Mathlib.Omega.{arith}
+use lib.Dec.{ltb}
+use lib.ListN.{length, drop}
+use Rattle.lists.specs.Lists.{pick, same}
+use Rattle.lists.proofs.Tests.{same-true}
+use Rattle.table.specs.Words.{threads, bounds}
+use Rattle.table.specs.Causes.{cause}
+use Rattle.table.specs.Scheme.{scheme}
+use Rattle.table.proofs.Accepted.{accepted}
+use Rattle.net.specs.Firing.{isMarking}
+use Rattle.builder.specs.Values.{allValues}
+use Rattle.builder.specs.Places.{places}
+use Rattle.builder.specs.Image.{imageOf}
+use Rattle.builder.specs.Answer as Build
+use Rattle.builder.specs.Answer.{buildOutcome}
+use Rattle.builder.proofs.Size.{image-below}
+use Rattle.process.specs.States.{State}
+use Rattle.process.specs.Steps.{take, isOpen}
+use Rattle.process.specs.Labels.{stepOf}
+use Rattle.process.specs.StateWords.{stateWords, stateOf, wellFormed}
+use Rattle.process.specs.Outcomes.{Outcome, refusal, answered, checked, startOutcome, stepOutcome}
+use Rattle.process.proofs.Stepping.{state-words-length}
+use Rattle.readback.specs.Answers.{readInto, readOutcome}
+use Rattle.readback.specs.Configurations.{stateShown}
+use Rattle.readback.specs.Reading.{refused, words, marked, configuration, standsForState, readBack}
+use Rattle.capi.specs.Returned.{packed, valueOr0}
+
+pub whole : (value code : ℕ) → value < 2 ^ 56 → packed value code ≡ value * 256 + code
+unfolding packed
+whole value code h = rw (mod-eq-of-lt h)
+
+pub build-fits : (w lent : List ℕ) → buildOutcome w lent .words < 2 ^ 56
+unfolding buildOutcome
+build-fits w lent = go (same (cause w) 0) refl
+  where
+    laid : cause w ≡ 0 → (b : Bool) →
+        pick b (Build.outcome 10 0 lent) (Build.outcome 0 (length (imageOf w)) (imageOf w ++ drop (length (imageOf w)) lent)) .words < 2 ^ 56
+    laid h true = omega arith
+    laid h false = omega (arith, image-below w h)
+
+    go : (b : Bool) → same (cause w) 0 ≡ b → pick b (Build.laidOutcome w lent) (Build.outcome (cause w) 0 lent) .words < 2 ^ 56
+    go true e = laid (same-true (cause w) 0 e) (ltb (length lent) (length (imageOf w)))
+    go false e = omega arith
+
+-- ---- calls on states
+
+pub record Fits (o : Outcome) : Type 0 where
+  pub fits : valueOr0 (o .value) < 2 ^ 56
+
+either : (b : Bool) {x y : Outcome} → Fits x → Fits y → Fits (pick b x y)
+either true fx fy = fx
+either false fx fy = fy
+
+refusal-fits : (number : ℕ) (lent : List ℕ) → Fits (refusal number lent)
+refusal-fits number lent = record { fits = omega arith }
+
+answered-fits : (value : ℕ) (ws lent : List ℕ) → value < 2 ^ 56 → Fits (answered value ws lent)
+unfolding answered
+answered-fits value ws lent h = either (ltb (length lent) (length ws)) (refusal-fits 10 lent) (record { fits = h })
+
+checked-fits : (w lent : List ℕ) (rest : Outcome) → (cause w ≡ 0 → Fits rest) → Fits (checked w lent rest)
+checked-fits w lent rest f = go (same (cause w) 0) refl
+  where
+    go : (b : Bool) → same (cause w) 0 ≡ b → Fits (pick b rest (refusal (cause w) lent))
+    go true e = f (same-true (cause w) 0 e)
+    go false e = refusal-fits (cause w) lent
+
+state-fits : (w : List ℕ) → cause w ≡ 0 → threads w + bounds w < 2 ^ 56
+unfolding scheme
+state-fits w h = omega (arith, accepted w h .few-threads, accepted w h .few-bounds)
+
+pub start-fits : (w lent : List ℕ) → Fits (startOutcome w lent)
+unfolding startOutcome scheme
+start-fits w lent = checked-fits w lent _ (λ h. answered-fits _ _ lent (state-fits w h))
+
+pub step-fits : (w ws : List ℕ) (kind a b : ℕ) (lent : List ℕ) → Fits (stepOutcome w ws kind a b lent)
+unfolding stepOutcome scheme
+step-fits w ws kind a b lent =
+    let S = scheme w in
+    let x = stepOf S kind a b in
+    let after = stateWords S (take S x (stateOf S ws)) in
+    checked-fits w lent _ (λ h.
+    either (wellFormed S ws)
+    (either (isOpen S (stateOf S ws) x) (answered-fits (S .threads + S .bounds) after lent (state-fits w h)) (refusal-fits 19 lent))
+    (refusal-fits 18 lent))
+
+words-fit : (w : List ℕ) (s : State) → cause w ≡ 0 → length (stateWords (scheme w) s) < 2 ^ 56
+words-fit w s h = omega (arith, state-words-length w s, state-fits w h)
+
+into : (lent : List ℕ) (b c : Bool) (ws : List ℕ) → length ws < 2 ^ 56 → Fits (readInto lent (pick b (refused 13) (pick c (refused 17) (words ws))))
+into lent true c ws h = refusal-fits 13 lent
+into lent false true ws h = refusal-fits 17 lent
+into lent false false ws h = answered-fits (length ws) ws lent h
+
+pub read-fits : (w m lent : List ℕ) → Fits (readOutcome w m lent)
+unfolding readOutcome readBack
+read-fits w m lent =
+    let S = scheme w in
+    let U = allValues S in
+    let ms = marked (places S U) m in
+    let shown = stateShown S (S .publics + U .privates) (configuration S U ms) in
+    checked-fits w lent (readInto lent (readBack w m)) (λ h.
+    into lent (not (isMarking (length (places S U)) m)) (not (standsForState S U ms)) (stateWords S shown) (words-fit w shown h))

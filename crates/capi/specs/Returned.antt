@@ -1,0 +1,52 @@
+-- What a call of the C interface returns and leaves (include/dekohuna.h): one word, value·256 + code, and each lent buffer.
+use mathlib.Core.Path.{_≡_}
+use mathlib.Core.Option.{Option, none, some}
+use mathlib.Core.List.{List, _++_}
+use Prim.Native.Nat.{ℕ, _+_, _*_, _%_, _^_}
+use lib.ListN.{drop}
+use Rattle.builder.specs.Answer.{BuildOutcome}
+use Rattle.net.specs.Firing.{Ending, limitReached, historyFull, nothingEnabled, stopped, RunOutcome}
+use Rattle.net.specs.Firing as Net
+use Rattle.process.specs.Outcomes.{Outcome}
+
+-- value·256 + code. A value has 56 bits: no machine has room for a buffer of more elements than that.
+unfoldable pub packed : ℕ → ℕ → ℕ
+packed value code = value % 2 ^ 56 * 256 + code
+
+-- the word returned, and the lent buffer afterwards
+pub record Returned : Type 0 where
+  pub word : ℕ
+  pub buffer : List ℕ
+
+abbrev pub returned : ℕ → List ℕ → Returned
+returned word buffer = record { word = word; buffer = buffer }
+
+-- code 0 is success, 1 to 10 the cause; value is the words written
+abbrev pub ofBuild : BuildOutcome → Returned
+ofBuild o = returned (packed (o .words) (o .number)) (o .buffer)
+
+-- code 0 is success, 11 to 16 the cause; value is the firings made
+abbrev pub ofFirings : Net.Outcome → Returned
+ofFirings o = returned (packed (o .firings) (o .cause)) (o .marking)
+
+-- a refusal has no value
+abbrev pub valueOr0 : Option ℕ → ℕ
+valueOr0 none = 0
+valueOr0 (some n) = n
+
+-- code 0 is success, 1 to 10, 13 and 17 to 19 the cause; value is the words written, or the labels listed
+abbrev pub ofOutcome : Outcome → Returned
+ofOutcome o = returned (packed (valueOr0 (o .value)) (o .number)) (o .left)
+
+-- a run's reasons: 200 limit reached, 201 history full, 202 nothing enabled; else the cause
+abbrev pub endingCode : Ending → ℕ
+endingCode limitReached = 200
+endingCode historyFull = 201
+endingCode nothingEnabled = 202
+endingCode (stopped cause) = cause
+
+-- a run's word, the marking and the history that it left; value is the firings made, and of the history just as many words change
+pub record RunReturned (r : RunOutcome) (word : ℕ) (marking history lent : List ℕ) : Type 0 where
+  pub word-is : word ≡ packed (r .firings) (endingCode (r .reason))
+  pub marking-is : marking ≡ r .marking
+  pub history-is : history ≡ r .history ++ drop (r .firings) lent

@@ -1,0 +1,208 @@
+// The C interface (include/dekohuna.h): each call of the library under a plain name.
+//
+// A call returns one word, value·256 + code. The code is 0, the number of a cause, or the reason that ended a run.
+ghost use mathlib.Core.Path.{_≡_};
+ghost use mathlib.Core.List.{[]};
+ghost use Prim.Native.Nat.{_<_};
+ghost use lib.ListN.{length};
+ghost use Rattle.table.specs.Causes.{cause};
+ghost use Rattle.builder.specs.Answer.{builtOutcome, buildOutcome};
+ghost use Rattle.net.specs.Answers.{causeNumber, firingNumber, firingsMade, ending};
+ghost use Rattle.net.specs.Firing.{fire, replay, run};
+ghost use Rattle.process.specs.Answers.{answerNumber, answerValue};
+ghost use Rattle.process.specs.Outcomes.{startOutcome, openOutcome, stepOutcome};
+ghost use Rattle.readback.specs.Answers.{readOutcome};
+ghost use Rattle.readback.specs.Answers as Read;
+ghost use Rattle.capi.specs.Returned.{packed, valueOr0, endingCode};
+ghost use Rattle.capi.specs.Returned.{returned, ofBuild, ofFirings, ofOutcome, RunReturned};
+use builder::Built;
+use net::Cause;
+use net::Firing;
+use net::Reason;
+
+// value·256 + code.
+fn pack(value: usize, code: usize) -> u64
+    requires { ⌜ code < 256 ⌝ }
+    ensures { λ r. ⌜ r ≡ packed value code ⌝ }
+{
+    (value % 72057594037927936 * 256 + code) as u64
+}
+
+// The number of a cause that a net is refused for.
+fn cause_code(cause: Cause) -> usize
+    ensures { λ r. ⌜ (r ≡ causeNumber cause) × (r < 256) ⌝ }
+{
+    match cause {
+        Cause::ImageWrong => 11,
+        Cause::RecordWrong => 12,
+        Cause::MarkingWrong => 13,
+        Cause::NoTransition => 14,
+        Cause::NotEnabled => 15,
+        Cause::Contact => 16,
+    }
+}
+
+// The number of a firing's cause, 0 where it was made.
+fn firing_code(firing: Firing) -> usize
+    ensures { λ r. ⌜ (r ≡ firingNumber firing) × (r < 256) ⌝ }
+{
+    match firing {
+        Firing::Made => 0,
+        Firing::Refused(cause) => cause_code(cause),
+    }
+}
+
+// The number of the reason that ended a run, or of its cause.
+fn reason_code(reason: Reason) -> usize
+    ensures { λ r. ⌜ (r ≡ endingCode (ending reason)) × (r < 256) ⌝ }
+{
+    match reason {
+        Reason::LimitReached => 200,
+        Reason::HistoryFull => 201,
+        Reason::NothingEnabled => 202,
+        Reason::Stopped(cause) => cause_code(cause),
+    }
+}
+
+// The word of what a build answered.
+fn built_word(built: Built) -> u64
+    ensures { λ r. ⌜ r ≡ ofBuild (builtOutcome built []) .word ⌝ }
+{
+    match built {
+        Built::Words(words) => pack(words, 0),
+        Built::Refused(verdict) => pack(0, table::number(verdict)),
+        Built::Room => pack(0, 10),
+    }
+}
+
+// The word of what a call on states answered.
+fn answer_word(answer: process::Answer) -> u64
+    ensures { λ r. ⌜ r ≡ packed (valueOr0 (answerValue answer)) (answerNumber answer) ⌝ }
+{
+    match answer {
+        process::Answer::Done(count) => pack(count, 0),
+        process::Answer::Refused(verdict) => pack(0, table::number(verdict)),
+        process::Answer::Malformed => pack(0, 18),
+        process::Answer::NotOpen => pack(0, 19),
+        process::Answer::NoRoom => pack(0, 10),
+    }
+}
+
+// The word of what reading a marking back answered.
+fn read_word(answer: readback::Answer) -> u64
+    ensures { λ r. ⌜ r ≡ packed (valueOr0 (Read.answerValue answer)) (Read.answerNumber answer) ⌝ }
+{
+    match answer {
+        readback::Answer::Done(words) => pack(words, 0),
+        readback::Answer::Refused(verdict) => pack(0, table::number(verdict)),
+        readback::Answer::NoMarking => pack(0, 13),
+        readback::Answer::NoState => pack(0, 17),
+        readback::Answer::NoRoom => pack(0, 10),
+    }
+}
+
+// The word of a single firing, which makes one or none.
+fn fired_word(firing: Firing) -> u64
+    ensures { λ r. ⌜ r ≡ packed (firingsMade firing) (firingNumber firing) ⌝ }
+{
+    match firing {
+        Firing::Made => pack(1, 0),
+        Firing::Refused(cause) => pack(0, cause_code(cause)),
+    }
+}
+
+// Checks a table.
+#[no_mangle]
+pub extern "C" fn dekohuna_check(table: &[u16]) -> u64
+    ensures { λ r. ⌜ r ≡ packed 0 (cause (now (table .entry))) ⌝ }
+{
+    pack(0, table::number(table::check(table)))
+}
+
+// Writes the image of a table's net to the start of `out`.
+#[no_mangle]
+pub extern "C" fn dekohuna_build(table: &[u16], out: &mut [u32]) -> u64
+    ensures { λ r. ⌜ returned r (now (out .exit)) ≡ ofBuild (buildOutcome (now (table .entry)) (now (out .entry))) ⌝ }
+{
+    built_word(builder::build(table, out))
+}
+
+// Fires a transition by its number.
+#[no_mangle]
+pub extern "C" fn dekohuna_fire(image: &[u32], marking: &mut [u8], transition: u32) -> u64
+    ensures { λ r. ⌜ returned r (now (marking .exit))
+        ≡ ofFirings (fire (now (image .entry)) (now (marking .entry)) transition) ⌝ }
+{
+    fired_word(net::fire(image, marking, transition))
+}
+
+// Fires numbers in turn from the initial marking.
+#[no_mangle]
+pub extern "C" fn dekohuna_replay(image: &[u32], marking: &mut [u8], numbers: &[u32]) -> u64
+    ensures { λ r. ⌜ returned r (now (marking .exit))
+        ≡ ofFirings (replay (now (image .entry)) (now (marking .entry)) (now (numbers .entry))) ⌝ }
+{
+    let replayed = net::replay(image, marking, numbers);
+    let outcome = replayed.outcome;
+    pack(replayed.firings, firing_code(outcome))
+}
+
+// Fires the lowest enabled transition over and over, and writes the numbers to `history`.
+#[no_mangle]
+pub extern "C" fn dekohuna_run(
+    image: &[u32],
+    marking: &mut [u8],
+    limit: u64,
+    history: &mut [u32],
+) -> u64
+    ensures { λ r. ⌜ RunReturned
+        (run (now (image .entry)) (now (marking .entry)) limit (length (now (history .entry))))
+        r (now (marking .exit)) (now (history .exit)) (now (history .entry)) ⌝ }
+{
+    let ran = net::run(image, marking, limit, history);
+    let reason = ran.reason;
+    pack(ran.firings, reason_code(reason))
+}
+
+// Writes the words of the state that a marking stands for.
+#[no_mangle]
+pub extern "C" fn dekohuna_read(table: &[u16], marking: &[u8], state: &mut [u16]) -> u64
+    ensures { λ r. ⌜ returned r (now (state .exit))
+        ≡ ofOutcome (readOutcome (now (table .entry)) (now (marking .entry)) (now (state .entry))) ⌝ }
+{
+    read_word(readback::read(table, marking, state))
+}
+
+// Writes the words of the starting state.
+#[no_mangle]
+pub extern "C" fn dekohuna_start(table: &[u16], state: &mut [u16]) -> u64
+    ensures { λ r. ⌜ returned r (now (state .exit))
+        ≡ ofOutcome (startOutcome (now (table .entry)) (now (state .entry))) ⌝ }
+{
+    answer_word(process::start(table, state))
+}
+
+// Lists the labels of the open steps, three words each.
+#[no_mangle]
+pub extern "C" fn dekohuna_open_steps(table: &[u16], state: &[u16], labels: &mut [u32]) -> u64
+    ensures { λ r. ⌜ returned r (now (labels .exit))
+        ≡ ofOutcome (openOutcome (now (table .entry)) (now (state .entry)) (now (labels .entry))) ⌝ }
+{
+    answer_word(process::open_steps(table, state, labels))
+}
+
+// Writes the words of the state after the step that a label names.
+#[no_mangle]
+pub extern "C" fn dekohuna_step(
+    table: &[u16],
+    state: &[u16],
+    kind: u32,
+    a: u32,
+    b: u32,
+    next: &mut [u16],
+) -> u64
+    ensures { λ r. ⌜ returned r (now (next .exit))
+        ≡ ofOutcome (stepOutcome (now (table .entry)) (now (state .entry)) kind a b (now (next .entry))) ⌝ }
+{
+    answer_word(process::step(table, state, kind, a, b, next))
+}

@@ -1,0 +1,161 @@
+/* Builds the net of a table, runs it from its initial marking, and reads the state back.
+ *
+ *     run [TABLE-FILE [LIMIT]]
+ *
+ * A table file has 16-bit words, low byte first. With no file it is table E, a new name sent from one thread to
+ * another; the limit is 5 firings unless it is given. Ends with 1 where the library refuses, with 2 where the program
+ * cannot do what it was asked. */
+#include "dekohuna.h"
+
+#include <inttypes.h>
+#include <stdio.h>
+#include <stdlib.h>
+
+static const uint16_t table_e[48] = {
+    1, 2, 2, 2, 5, 2, 0, 13, 15, 23, 25, 40, 48,     /* counts and offsets */
+    0, 1,                                            /* names */
+    0, 0, 0, 0, 1, 3, 0, 0,                          /* definitions */
+    0, 1,                                            /* threads */
+    2, 1, 1, 1, 0, 1, 0, 0, 0, 1, 1, 1, 0, 0, 0,     /* nodes */
+    1, 0, 1, 2, 2, 0, 2, 4,                          /* branches */
+};
+
+struct table {
+    const uint16_t *words;
+    size_t count;
+};
+
+struct image {
+    uint32_t *words;
+    size_t count;
+};
+
+static void fail(const char *what) {
+    fprintf(stderr, "run: %s\n", what);
+    exit(2);
+}
+
+/* Room for some elements, at least one, so that no pointer is null. */
+static void *room(size_t count, size_t size) {
+    void *space = calloc(count == 0 ? 1 : count, size);
+    if (space == NULL)
+        fail("no memory");
+    return space;
+}
+
+/* The value of a word; ends the program where the call was refused. */
+static size_t accepted(uint64_t word) {
+    if (DEKOHUNA_CODE(word) != DEKOHUNA_DONE) {
+        printf("refused: cause %u\n", DEKOHUNA_CODE(word));
+        exit(1);
+    }
+    return (size_t)DEKOHUNA_VALUE(word);
+}
+
+/* The words of a file. A table has fewer than 4,096: more are cut off, and the library refuses what is left. */
+static struct table read_table(const char *path) {
+    static uint8_t bytes[8192];
+    static uint16_t words[4096];
+    FILE *file = fopen(path, "rb");
+    if (file == NULL)
+        fail("the table cannot be opened");
+    size_t length = fread(bytes, 1, sizeof bytes, file);
+    if (ferror(file) || length % 2 != 0)
+        fail("the table cannot be read as 16-bit words");
+    fclose(file);
+    for (size_t i = 0; i < length / 2; i++)
+        words[i] = (uint16_t)(bytes[2 * i] | bytes[2 * i + 1] << 8);
+    struct table table = {words, length / 2};
+    return table;
+}
+
+/* The image of a table, in a buffer that is doubled until it is long enough. */
+static struct image build(struct table table) {
+    for (size_t words = 64;; words *= 2) {
+        uint32_t *out = room(words, sizeof(uint32_t));
+        uint64_t word = dekohuna_build(table.words, table.count, out, words);
+        if (DEKOHUNA_CODE(word) != DEKOHUNA_OUTPUT_SHORT) {
+            struct image image = {out, accepted(word)};
+            return image;
+        }
+        free(out);
+    }
+}
+
+/* A firing, by what its label says. */
+static void print_firing(struct image image, uint32_t number) {
+    const uint32_t *label = image.words + image.words[6] + 6 * (size_t)number;
+    uint32_t a = label[1], b = label[2];
+    printf("fired %" PRIu32 " (%" PRIu32 " %" PRIu32 " %" PRIu32 "): ", number, label[0], a, b);
+    switch (label[0]) {
+    case 0: printf("node %" PRIu32 " copies a value to formal %" PRIu32 "\n", a, b); break;
+    case 1: printf("node %" PRIu32 " releases name %" PRIu32 "\n", a, b); break;
+    case 2: printf("node %" PRIu32 " makes a new value for name %" PRIu32 "\n", a, b); break;
+    case 3: printf("branch %" PRIu32 " goes on silently\n", a); break;
+    case 4: printf("branch %" PRIu32 " sends to branch %" PRIu32 "\n", a, b); break;
+    default: printf("node %" PRIu32 " calls its definition\n", a); break;
+    }
+}
+
+static const char *reason(unsigned code) {
+    switch (code) {
+    case DEKOHUNA_LIMIT_REACHED: return "limit reached";
+    case DEKOHUNA_HISTORY_FULL: return "history full";
+    case DEKOHUNA_NOTHING_ENABLED: return "nothing enabled";
+    default: return "stopped by a cause";
+    }
+}
+
+/* The node of each thread, then the value of each bound name. */
+static void print_state(struct table table, const uint16_t *state) {
+    size_t publics = table.words[0], bounds = table.words[1], threads = table.words[3];
+    for (size_t t = 0; t < threads; t++)
+        printf("thread %zu stands at node %u\n", t, state[t]);
+    for (size_t i = 0; i < bounds; i++) {
+        unsigned value = state[threads + i];
+        if (value == 65535)
+            printf("name %zu is not held\n", publics + i);
+        else
+            printf("name %zu has the %s value %u\n", publics + i, value < publics ? "public" : "private", value);
+    }
+}
+
+static void run(struct table table, uint64_t limit) {
+    struct image image = build(table);
+    printf("table of %zu words: net of %" PRIu32 " places and %" PRIu32 " transitions in %zu words\n", table.count,
+           image.words[0], image.words[1], image.count);
+
+    size_t places = image.words[0];
+    uint8_t *marking = room(places, 1);
+    uint32_t *history = room((size_t)limit, sizeof(uint32_t));
+    accepted(dekohuna_replay(image.words, image.count, marking, places, history, 0));
+    uint64_t word = dekohuna_run(image.words, image.count, marking, places, limit, history, (size_t)limit);
+    size_t firings = (size_t)DEKOHUNA_VALUE(word);
+    for (size_t i = 0; i < firings; i++)
+        print_firing(image, history[i]);
+    printf("firings made: %zu, %s (%u)\n", firings, reason(DEKOHUNA_CODE(word)), DEKOHUNA_CODE(word));
+
+    uint16_t state[40]; /* at most 8 threads and 32 bound names */
+    accepted(dekohuna_read(table.words, table.count, marking, places, state, 40));
+    print_state(table, state);
+    free(history);
+    free(marking);
+    free(image.words);
+}
+
+int main(int argc, char **argv) {
+    if (argc > 3)
+        fail("usage: run [TABLE-FILE [LIMIT]]");
+    uint64_t limit = 5;
+    if (argc == 3) {
+        char *end;
+        limit = strtoull(argv[2], &end, 10);
+        if (*end != '\0' || argv[2][0] < '0' || argv[2][0] > '9' || limit > 10000000)
+            fail("the limit is a number up to 10000000");
+    }
+    struct table table = {table_e, 48};
+    if (argc > 1)
+        table = read_table(argv[1]);
+    run(table, limit);
+    return 0;
+}

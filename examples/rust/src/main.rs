@@ -1,0 +1,142 @@
+//! Builds the net of a table, runs it from its initial marking, and reads the state back.
+//!
+//!     run [TABLE-FILE [LIMIT]]
+//!
+//! A table file has 16-bit words, low byte first. With no file it is table E, a new name sent from one thread to
+//! another; the limit is 5 firings unless it is given. Ends with 1 where the library refuses, with 2 where the program
+//! cannot do what it was asked.
+mod dekohuna;
+
+use dekohuna::Word;
+use std::process::exit;
+
+const TABLE_E: [u16; 48] = [
+    1, 2, 2, 2, 5, 2, 0, 13, 15, 23, 25, 40, 48, // counts and offsets
+    0, 1, // names
+    0, 0, 0, 0, 1, 3, 0, 0, // definitions
+    0, 1, // threads
+    2, 1, 1, 1, 0, 1, 0, 0, 0, 1, 1, 1, 0, 0, 0, // nodes
+    1, 0, 1, 2, 2, 0, 2, 4, // branches
+];
+
+fn fail(what: &str) -> ! {
+    eprintln!("run: {what}");
+    exit(2);
+}
+
+/// The value of a word; ends the program where the call was refused.
+fn accepted(word: Word) -> usize {
+    if word.code != dekohuna::DONE {
+        println!("refused: cause {}", word.code);
+        exit(1);
+    }
+    word.value
+}
+
+/// The words of a file. A table has fewer than 4,096: more are cut off, and the library refuses what is left.
+fn read_table(path: &str) -> Vec<u16> {
+    let bytes = std::fs::read(path).unwrap_or_else(|_| fail("the table cannot be opened"));
+    let kept = &bytes[..bytes.len().min(8192)];
+    if kept.len() % 2 != 0 {
+        fail("the table cannot be read as 16-bit words");
+    }
+    kept.chunks(2)
+        .map(|pair| u16::from_le_bytes([pair[0], pair[1]]))
+        .collect()
+}
+
+/// The image of a table, in a buffer that is doubled until it is long enough.
+fn build(table: &[u16]) -> Vec<u32> {
+    let mut image = vec![0; 64];
+    loop {
+        let word = dekohuna::build(table, &mut image);
+        if word.code != dekohuna::OUTPUT_SHORT {
+            image.truncate(accepted(word));
+            return image;
+        }
+        image.resize(2 * image.len(), 0);
+    }
+}
+
+/// A firing, by what its label says.
+fn print_firing(image: &[u32], number: u32) {
+    let record = image[6] as usize + 6 * number as usize;
+    let (kind, a, b) = (image[record], image[record + 1], image[record + 2]);
+    let what = match kind {
+        0 => format!("node {a} copies a value to formal {b}"),
+        1 => format!("node {a} releases name {b}"),
+        2 => format!("node {a} makes a new value for name {b}"),
+        3 => format!("branch {a} goes on silently"),
+        4 => format!("branch {a} sends to branch {b}"),
+        _ => format!("node {a} calls its definition"),
+    };
+    println!("fired {number} ({kind} {a} {b}): {what}");
+}
+
+fn reason(code: u8) -> &'static str {
+    match code {
+        dekohuna::LIMIT_REACHED => "limit reached",
+        dekohuna::HISTORY_FULL => "history full",
+        dekohuna::NOTHING_ENABLED => "nothing enabled",
+        _ => "stopped by a cause",
+    }
+}
+
+/// The node of each thread, then the value of each bound name.
+fn print_state(table: &[u16], state: &[u16]) {
+    let (publics, threads) = (table[0], table[3] as usize);
+    for (thread, node) in state[..threads].iter().enumerate() {
+        println!("thread {thread} stands at node {node}");
+    }
+    for (name, &value) in (publics..).zip(&state[threads..]) {
+        if value == 65535 {
+            println!("name {name} is not held");
+        } else {
+            let kind = if value < publics { "public" } else { "private" };
+            println!("name {name} has the {kind} value {value}");
+        }
+    }
+}
+
+fn run(table: &[u16], limit: usize) {
+    let image = build(table);
+    let (places, transitions) = (image[0], image[1]);
+    let (words, written) = (table.len(), image.len());
+    println!("table of {words} words: net of {places} places and {transitions} transitions in {written} words");
+
+    let mut marking = vec![0; places as usize];
+    accepted(dekohuna::replay(&image, &mut marking, &[]));
+    let mut history = vec![0; limit];
+    let word = dekohuna::run(&image, &mut marking, limit as u64, &mut history);
+    for &number in &history[..word.value] {
+        print_firing(&image, number);
+    }
+    println!(
+        "firings made: {}, {} ({})",
+        word.value,
+        reason(word.code),
+        word.code
+    );
+
+    let mut state = [0; 40]; // at most 8 threads and 32 bound names
+    let held = accepted(dekohuna::read(table, &marking, &mut state));
+    print_state(table, &state[..held]);
+}
+
+fn main() {
+    let arguments: Vec<String> = std::env::args().skip(1).collect();
+    if arguments.len() > 2 {
+        fail("usage: run [TABLE-FILE [LIMIT]]");
+    }
+    let limit = match arguments.get(1) {
+        None => 5,
+        Some(given) => match given.parse() {
+            Ok(limit) if limit <= 10000000 => limit,
+            _ => fail("the limit is a number up to 10000000"),
+        },
+    };
+    let table = arguments
+        .first()
+        .map_or(TABLE_E.to_vec(), |path| read_table(path));
+    run(&table, limit);
+}

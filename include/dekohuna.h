@@ -1,0 +1,139 @@
+/* Dekohuna: from a process table to a Petri net, its firings, and back to states of the process.
+ *
+ * For x86-64 Linux. `rt staticlib capi` writes target/staticlib/libcapi.a; link that archive and the C library, of
+ * which it uses memset alone. What each call returns and what it leaves in each buffer is proved in crates/capi.
+ *
+ * What a call returns. One word: DEKOHUNA_CODE(word) is how the call ended, an enum dekohuna_code;
+ * DEKOHUNA_VALUE(word) is what was counted, as said at each call, and 0 where a call counts nothing.
+ *
+ * Buffers. A buffer is a pointer and its length in elements, not bytes. The pointer is aligned for its elements, is
+ * valid for the whole length, and is not null, also where the length is 0. A buffer that a call may write overlaps no
+ * other buffer of that call. Pointers are the caller's duty and no call checks them; every content of a buffer, and
+ * every number, is allowed: what does not fit is refused.
+ *
+ * Where a call is refused by cause 1 to 11, 13, or 17 to 19, no buffer changes. Causes 12, 14, 15 and 16 leave the
+ * marking, and a run's history, as after the firings made before the refusal; the value says how many these are.
+ * Where the answer is shorter than the buffer lent for it, the rest of the buffer does not change.
+ *
+ * No call keeps anything for the next, allocates, or does input or output. Calls on buffers of their own may be made
+ * at the same time.
+ *
+ * Words. A table has 16-bit words, an image and labels 32-bit words, a marking a byte for each place, 0 or 1. A state
+ * has a word for each thread, its node, then one for each bound name, its value or 65535 where it is not held. A label
+ * is three words, kind, a, b: 0 copy, node, formal; 1 release, node, name; 2 new, node, name; 3 silent, branch, 0;
+ * 4 communication, send branch, receive branch; 5 call, node, 0.
+ */
+#ifndef DEKOHUNA_H
+#define DEKOHUNA_H
+
+#include <stddef.h>
+#include <stdint.h>
+
+#ifdef __cplusplus
+extern "C" {
+#endif
+
+#define DEKOHUNA_VALUE(word) ((uint64_t)(word) >> 8)
+#define DEKOHUNA_CODE(word) ((unsigned)((uint64_t)(word) & 255u))
+
+enum dekohuna_code {
+    /* nothing is refused */
+    DEKOHUNA_DONE = 0,
+
+    /* a table under 13 words */
+    DEKOHUNA_TABLE_SHORT = 1,
+    /* a count beyond its bound */
+    DEKOHUNA_TABLE_COUNTS = 2,
+    /* an offset or the table's length not as the counts give */
+    DEKOHUNA_TABLE_LAYOUT = 3,
+    /* unknown kind; a field that must be 0 is not; choice of 0 branches */
+    DEKOHUNA_TABLE_KINDS = 4,
+    /* a number or range outside its section; New, receive or formal names no bound name */
+    DEKOHUNA_TABLE_RANGES = 5,
+    /* a node not exactly once a root or child; child not above its parent; branch ranges, or non-empty argument
+       ranges, not consecutive from 0 to the count in node order */
+    DEKOHUNA_TABLE_SHAPE = 6,
+    /* a bound name not bound exactly once, by its own kind */
+    DEKOHUNA_TABLE_BINDING = 7,
+    /* a name used where not held (publics are held everywhere) */
+    DEKOHUNA_TABLE_SCOPE = 8,
+    /* entry definition of another thread or with formals; call into another thread or to the caller's own
+       definition */
+    DEKOHUNA_TABLE_CALLS = 9,
+    /* lent output shorter than the answer */
+    DEKOHUNA_OUTPUT_SHORT = 10,
+    /* net header, length or initial list wrong */
+    DEKOHUNA_IMAGE_WRONG = 11,
+    /* record or arcs of the transition wrong */
+    DEKOHUNA_RECORD_WRONG = 12,
+    /* marking length not the place count, or a byte above 1 */
+    DEKOHUNA_MARKING_WRONG = 13,
+    /* transition number not below the count */
+    DEKOHUNA_NO_TRANSITION = 14,
+    /* not enabled */
+    DEKOHUNA_NOT_ENABLED = 15,
+    /* an output place marked that is not also an input */
+    DEKOHUNA_CONTACT = 16,
+    /* marking stands for no state */
+    DEKOHUNA_NO_STATE = 17,
+    /* state words malformed */
+    DEKOHUNA_STATE_MALFORMED = 18,
+    /* step not open */
+    DEKOHUNA_NOT_OPEN = 19,
+
+    /* why a run ended where no cause stopped it */
+    DEKOHUNA_LIMIT_REACHED = 200,
+    DEKOHUNA_HISTORY_FULL = 201,
+    DEKOHUNA_NOTHING_ENABLED = 202
+};
+
+/* Checks a table: 0, or the first of the causes 1 to 9 that applies. */
+uint64_t dekohuna_check(const uint16_t *table, size_t table_words);
+
+/* Writes the image of a table's net to the start of `out`; the value is the words written. Causes 1 to 10. After 10,
+ * call again with more room. The image's first five words count places, transitions, input arcs, output arcs and
+ * initial tokens; the sixth and seventh are where the initial places and the transitions start. A transition has six
+ * words, of which the first three are its label. */
+uint64_t dekohuna_build(const uint16_t *table, size_t table_words, uint32_t *out, size_t out_words);
+
+/* Fires a transition by its number; the value is 1 if it was made, else 0. Causes 11, 13, 14, 12, 15 and 16, looked at
+ * in this order. Any image may be lent, also one that no table has. */
+uint64_t dekohuna_fire(const uint32_t *image, size_t image_words, uint8_t *marking, size_t marking_bytes,
+                       uint32_t transition);
+
+/* Sets the marking to the image's initial one, whatever it held, and fires the numbers in turn; the value is the
+ * firings made. Causes 11, 13 (for the length alone), then those of a firing. A replay of no numbers leaves the
+ * initial marking. */
+uint64_t dekohuna_replay(const uint32_t *image, size_t image_words, uint8_t *marking, size_t marking_bytes,
+                         const uint32_t *numbers, size_t number_count);
+
+/* Fires the lowest enabled transition over and over, and writes the numbers to the history; the value is the firings
+ * made, and just as many words of the history change. Before each firing it looks, in this order, whether `limit`
+ * firings are made (200), whether the history is full (201) and whether nothing is enabled (202). Causes 11 and 13
+ * before any firing; 12 at a malformed record met in the search; 16 where the lowest enabled transition has it. */
+uint64_t dekohuna_run(const uint32_t *image, size_t image_words, uint8_t *marking, size_t marking_bytes,
+                      uint64_t limit, uint32_t *history, size_t history_words);
+
+/* Writes the words of the state that a marking of the table's net stands for; the value is the words written. Causes
+ * 1 to 9, 13, 17, then 10. */
+uint64_t dekohuna_read(const uint16_t *table, size_t table_words, const uint8_t *marking, size_t marking_bytes,
+                       uint16_t *state, size_t state_words);
+
+/* Writes the words of the starting state; the value is the words written. Causes 1 to 10. */
+uint64_t dekohuna_start(const uint16_t *table, size_t table_words, uint16_t *state, size_t state_words);
+
+/* Lists the steps that are open in a state as labels, in the image's label order; the value is the number of labels,
+ * which take three words each. Causes 1 to 9, 18, then 10. */
+uint64_t dekohuna_open_steps(const uint16_t *table, size_t table_words, const uint16_t *state, size_t state_words,
+                             uint32_t *labels, size_t label_words);
+
+/* Writes the words of the state after the step that the label (kind, a, b) names; the value is the words written.
+ * Causes 1 to 9, 18, 19, then 10. */
+uint64_t dekohuna_step(const uint16_t *table, size_t table_words, const uint16_t *state, size_t state_words,
+                       uint32_t kind, uint32_t a, uint32_t b, uint16_t *next, size_t next_words);
+
+#ifdef __cplusplus
+}
+#endif
+
+#endif
