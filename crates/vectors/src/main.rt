@@ -47,8 +47,19 @@ mod text;
 
 use crate::sizes::cut8;
 
+// What kind of request a letter stands for: 0 sets the image or the marking, 1 builds or fires, 2 sets the table or the
+// state, 3 asks for a state or its open steps.
+fn group(letter: u8) -> u8 {
+    match letter {
+        b'w' | b'j' | b'i' | b'p' | b'l' | b'm' => 0,
+        b'b' | b'f' | b'r' | b'h' | b'u' => 1,
+        b't' | b'x' | b'y' => 2,
+        _ => 3,
+    }
+}
+
 // Answers a request in `out`, and tells how many bytes that took. What is lent: the request's fields and its count of
-// numbers, the lengths of what is kept, what is kept, and room for a state and for numbers or labels.
+// numbers, the lengths of what is kept, and what is kept.
 fn answer(
     fields: &[u64],
     count: usize,
@@ -58,52 +69,44 @@ fn answer(
     marking: &mut [u8],
     history: &mut [u32],
     state: &mut [u16],
-    next: &mut [u16],
-    space: &mut [u32],
     out: &mut [u8],
 ) -> usize {
     let letter = line::letter(fields);
     let at = text::put(out, 0, letter);
-    match letter {
-        b't' => states::take_table(fields, count, sizes, table, out, at),
-        b'b' => nets::build(fields, sizes, table, image, out, at),
-        b'w' => nets::take_image(fields, count, sizes, image, out, at),
-        b'j' => nets::resize_image(fields, sizes, image, out, at),
-        b'i' => nets::set_image(fields, sizes, image, out, at),
-        b'p' => nets::take_marking(fields, count, sizes, marking, out, at),
-        b'l' => nets::resize_marking(fields, sizes, marking, out, at),
-        b'm' => nets::set_marking(fields, sizes, marking, out, at),
-        b'f' => nets::fire(fields, sizes, image, marking, out, at),
-        b'r' => nets::replay(fields, count, sizes, image, marking, space, out, at),
-        b'h' => nets::replay_history(fields, sizes, image, marking, history, out, at),
-        b'u' => nets::run(fields, sizes, image, marking, history, out, at),
-        b'g' => states::read(fields, sizes, table, marking, state, next, out, at),
-        b's' => states::start(fields, sizes, table, state, next, out, at),
-        b'x' => states::take_state(fields, count, sizes, state, out, at),
-        b'y' => states::set_state(fields, sizes, state, out, at),
-        b'o' => states::open_steps(fields, sizes, table, state, space, out, at),
-        b'k' => states::step(fields, sizes, table, state, next, out, at),
-        _ => at,
+    match group(letter) {
+        0 => nets::set(letter, fields, count, sizes, image, marking, out, at),
+        1 => nets::fire(
+            letter,
+            fields,
+            count,
+            sizes,
+            table,
+            image,
+            marking,
+            history,
+            out,
+            at,
+        ),
+        2 => states::set(letter, fields, count, sizes, table, state, out, at),
+        _ => states::answer(letter, fields, sizes, table, marking, state, out, at),
     }
 }
 
 // Answers the request of one line.
 fn answer_line(
     request: &[u8],
-    fields: &mut [u64],
     sizes: &mut [u64],
     table: &mut [u16],
     image: &mut [u32],
     marking: &mut [u8],
     history: &mut [u32],
     state: &mut [u16],
-    next: &mut [u16],
-    space: &mut [u32],
-    out: &mut [u8],
 ) {
-    let count = line::fields_of(request, fields);
+    let mut fields = [0u64; 4096];
+    let mut out = [0u8; 8192];
+    let count = line::fields_of(request, &mut fields);
     let at = answer(
-        fields,
+        &fields,
         count,
         sizes,
         table,
@@ -111,27 +114,21 @@ fn answer_line(
         marking,
         history,
         state,
-        next,
-        space,
-        out,
+        &mut out,
     );
-    let end = text::put(out, at, b'\n');
-    text::write(out, end);
+    let end = text::put(&mut out, at, b'\n');
+    text::write(&out, end);
 }
 
 // Answers the request of each whole line, and tells where the rest starts.
 fn answer_lines(
     input: &[u8],
-    fields: &mut [u64],
     sizes: &mut [u64],
     table: &mut [u16],
     image: &mut [u32],
     marking: &mut [u8],
     history: &mut [u32],
     state: &mut [u16],
-    next: &mut [u16],
-    space: &mut [u32],
-    out: &mut [u8],
 ) -> usize {
     let mut at: usize = 0;
     while at < input.len() {
@@ -141,142 +138,69 @@ fn answer_lines(
         }
         answer_line(
             &input[at..end],
-            fields,
             sizes,
             table,
             image,
             marking,
             history,
             state,
-            next,
-            space,
-            out,
         );
         at = end;
     }
     at
 }
 
-// Answers the request of each whole line, moves the rest to the start, and tells how many bytes that is.
-fn answer_part(
-    input: &mut [u8],
-    fields: &mut [u64],
-    sizes: &mut [u64],
-    table: &mut [u16],
-    image: &mut [u32],
-    marking: &mut [u8],
-    history: &mut [u32],
-    state: &mut [u16],
-    next: &mut [u16],
-    space: &mut [u32],
-    out: &mut [u8],
-) -> usize {
-    let rest = answer_lines(
-        input,
-        fields,
-        sizes,
-        table,
-        image,
-        marking,
-        history,
-        state,
-        next,
-        space,
-        out,
-    );
-    line::move_down(input, rest)
-}
-
-// Reads once and answers what is there. Bytes of a line that was begun stand at the start, before and after.
+// Reads once, answers each whole line, moves the rest to the start, and tells how many bytes that is. Bytes of a line
+// that was begun stand at the start.
 fn answer_turn(
     kept: usize,
     input: &mut [u8],
-    fields: &mut [u64],
     sizes: &mut [u64],
     table: &mut [u16],
     image: &mut [u32],
     marking: &mut [u8],
     history: &mut [u32],
     state: &mut [u16],
-    next: &mut [u16],
-    space: &mut [u32],
-    out: &mut [u8],
 ) -> usize {
     let read = line::read_more(input, kept);
     let end = cut8(read, input);
-    answer_part(
-        &mut input[..end],
-        fields,
-        sizes,
-        table,
-        image,
-        marking,
-        history,
-        state,
-        next,
-        space,
-        out,
-    )
+    let rest = answer_lines(&input[..end], sizes, table, image, marking, history, state);
+    line::move_down(&mut input[..end], rest)
 }
 
 // Reads and answers all of the input.
 fn answer_all(
     input: &mut [u8],
-    fields: &mut [u64],
     sizes: &mut [u64],
     table: &mut [u16],
     image: &mut [u32],
     marking: &mut [u8],
     history: &mut [u32],
     state: &mut [u16],
-    next: &mut [u16],
-    space: &mut [u32],
-    out: &mut [u8],
 ) {
     let mut kept: usize = 0;
     let mut turns: usize = 64;
     while turns > 0 {
-        kept = answer_turn(
-            kept,
-            input,
-            fields,
-            sizes,
-            table,
-            image,
-            marking,
-            history,
-            state,
-            next,
-            space,
-            out,
-        );
+        kept = answer_turn(kept, input, sizes, table, image, marking, history, state);
         turns -= 1;
     }
 }
 
 fn main() {
     let mut input = io::large_buffer();
-    let mut fields = [0u64; 4096];
     let mut sizes = [0u64; 5];
     let mut table = [0u16; 4096];
     let mut image = [0u32; 131072];
     let mut marking = [0u8; 32768];
     let mut history = [0u32; 4096];
     let mut state = [0u16; 64];
-    let mut next = [0u16; 64];
-    let mut space = [0u32; 4096];
-    let mut out = [0u8; 8192];
     answer_all(
         &mut input,
-        &mut fields,
         &mut sizes,
         &mut table,
         &mut image,
         &mut marking,
         &mut history,
         &mut state,
-        &mut next,
-        &mut space,
-        &mut out,
     );
 }

@@ -57,7 +57,7 @@ fn build_in(
 }
 
 // b: builds the table's image.
-pub fn build(
+fn build(
     fields: &[u64],
     sizes: &mut [u64],
     table: &[u16],
@@ -71,7 +71,7 @@ pub fn build(
 }
 
 // w: the image's words.
-pub fn take_image(
+fn take_image(
     fields: &[u64],
     count: usize,
     sizes: &mut [u64],
@@ -86,7 +86,7 @@ pub fn take_image(
 }
 
 // j: the image's length.
-pub fn resize_image(
+fn resize_image(
     fields: &[u64],
     sizes: &mut [u64],
     image: &mut [u32],
@@ -100,20 +100,14 @@ pub fn resize_image(
 }
 
 // i: a word of the image.
-pub fn set_image(
-    fields: &[u64],
-    sizes: &[u64],
-    image: &mut [u32],
-    out: &mut [u8],
-    at: usize,
-) -> usize {
+fn set_image(fields: &[u64], sizes: &[u64], image: &mut [u32], out: &mut [u8], at: usize) -> usize {
     let words = cut32(size(sizes, IMAGE), image);
     store32(&mut image[..words], count_at(fields, 1), word_at(fields, 2));
     put_value(out, at, words as u64)
 }
 
 // p: the marking's bytes.
-pub fn take_marking(
+fn take_marking(
     fields: &[u64],
     count: usize,
     sizes: &mut [u64],
@@ -128,7 +122,7 @@ pub fn take_marking(
 }
 
 // l: the marking's length.
-pub fn resize_marking(
+fn resize_marking(
     fields: &[u64],
     sizes: &mut [u64],
     marking: &mut [u8],
@@ -142,7 +136,7 @@ pub fn resize_marking(
 }
 
 // m: a byte of the marking.
-pub fn set_marking(
+fn set_marking(
     fields: &[u64],
     sizes: &[u64],
     marking: &mut [u8],
@@ -166,7 +160,7 @@ fn fire_in(image: &[u32], marking: &mut [u8], number: u32, out: &mut [u8], at: u
 }
 
 // f: fires by number.
-pub fn fire(
+fn fire_one(
     fields: &[u64],
     sizes: &[u64],
     image: &[u32],
@@ -214,19 +208,19 @@ fn replay_given(
 }
 
 // r: replays the numbers given.
-pub fn replay(
+fn replay(
     fields: &[u64],
     count: usize,
     sizes: &[u64],
     image: &[u32],
     marking: &mut [u8],
-    space: &mut [u32],
     out: &mut [u8],
     at: usize,
 ) -> usize {
+    let mut space = [0u32; 4096];
     let words = cut32(size(sizes, IMAGE), image);
     let bytes = cut8(size(sizes, MARKING), marking);
-    let end = cut32(count, space);
+    let end = cut32(count, &space);
     replay_given(
         fields,
         &image[..words],
@@ -238,7 +232,7 @@ pub fn replay(
 }
 
 // h: replays the first words of the history.
-pub fn replay_history(
+fn replay_history(
     fields: &[u64],
     sizes: &[u64],
     image: &[u32],
@@ -279,7 +273,7 @@ fn run_in(
 }
 
 // u: runs.
-pub fn run(
+fn run(
     fields: &[u64],
     sizes: &mut [u64],
     image: &[u32],
@@ -300,4 +294,49 @@ pub fn run(
         out,
         at,
     )
+}
+
+// Requests that set the image or the marking.
+pub fn set(
+    letter: u8,
+    fields: &[u64],
+    count: usize,
+    sizes: &mut [u64],
+    image: &mut [u32],
+    marking: &mut [u8],
+    out: &mut [u8],
+    at: usize,
+) -> usize {
+    match letter {
+        b'w' => take_image(fields, count, sizes, image, out, at),
+        b'j' => resize_image(fields, sizes, image, out, at),
+        b'i' => set_image(fields, sizes, image, out, at),
+        b'p' => take_marking(fields, count, sizes, marking, out, at),
+        b'l' => resize_marking(fields, sizes, marking, out, at),
+        b'm' => set_marking(fields, sizes, marking, out, at),
+        _ => at,
+    }
+}
+
+// Requests that build or fire.
+pub fn fire(
+    letter: u8,
+    fields: &[u64],
+    count: usize,
+    sizes: &mut [u64],
+    table: &[u16],
+    image: &mut [u32],
+    marking: &mut [u8],
+    history: &mut [u32],
+    out: &mut [u8],
+    at: usize,
+) -> usize {
+    match letter {
+        b'b' => build(fields, sizes, table, image, out, at),
+        b'f' => fire_one(fields, sizes, image, marking, out, at),
+        b'r' => replay(fields, count, sizes, image, marking, out, at),
+        b'h' => replay_history(fields, sizes, image, marking, history, out, at),
+        b'u' => run(fields, sizes, image, marking, history, out, at),
+        _ => at,
+    }
 }

@@ -62,7 +62,7 @@ fn keep(
 }
 
 // t: the table's words.
-pub fn take_table(
+fn take_table(
     fields: &[u64],
     count: usize,
     sizes: &mut [u64],
@@ -97,19 +97,19 @@ fn read_in(
 }
 
 // g: reads the marking back.
-pub fn read(
+fn read(
     fields: &[u64],
     sizes: &mut [u64],
     table: &[u16],
     marking: &[u8],
     state: &mut [u16],
-    next: &mut [u16],
     out: &mut [u8],
     at: usize,
 ) -> usize {
+    let mut next = [0u16; 64];
     let words = cut16(size(sizes, TABLE), table);
     let bytes = cut8(size(sizes, MARKING), marking);
-    let room = cut16(count_at(fields, 1), next);
+    let room = cut16(count_at(fields, 1), &next);
     read_in(
         sizes,
         &table[..words],
@@ -136,22 +136,22 @@ fn start_in(
 }
 
 // s: the starting state.
-pub fn start(
+fn start(
     fields: &[u64],
     sizes: &mut [u64],
     table: &[u16],
     state: &mut [u16],
-    next: &mut [u16],
     out: &mut [u8],
     at: usize,
 ) -> usize {
+    let mut next = [0u16; 64];
     let words = cut16(size(sizes, TABLE), table);
-    let room = cut16(count_at(fields, 1), next);
+    let room = cut16(count_at(fields, 1), &next);
     start_in(sizes, &table[..words], state, &mut next[..room], out, at)
 }
 
 // x: the state's words.
-pub fn take_state(
+fn take_state(
     fields: &[u64],
     count: usize,
     sizes: &mut [u64],
@@ -166,13 +166,7 @@ pub fn take_state(
 }
 
 // y: a word of the state.
-pub fn set_state(
-    fields: &[u64],
-    sizes: &[u64],
-    state: &mut [u16],
-    out: &mut [u8],
-    at: usize,
-) -> usize {
+fn set_state(fields: &[u64], sizes: &[u64], state: &mut [u16], out: &mut [u8], at: usize) -> usize {
     let words = cut16(size(sizes, STATE), state);
     store16(&mut state[..words], count_at(fields, 1), half_at(fields, 2));
     put_value(out, at, words as u64)
@@ -188,18 +182,18 @@ fn open_in(table: &[u16], state: &[u16], room: &mut [u32], out: &mut [u8], at: u
 }
 
 // o: the open steps.
-pub fn open_steps(
+fn open_steps(
     fields: &[u64],
     sizes: &[u64],
     table: &[u16],
     state: &[u16],
-    space: &mut [u32],
     out: &mut [u8],
     at: usize,
 ) -> usize {
+    let mut space = [0u32; 4096];
     let words = cut16(size(sizes, TABLE), table);
     let held = cut16(size(sizes, STATE), state);
-    let room = cut32(count_at(fields, 1), space);
+    let room = cut32(count_at(fields, 1), &space);
     open_in(&table[..words], &state[..held], &mut space[..room], out, at)
 }
 
@@ -232,17 +226,17 @@ fn step_in(
 }
 
 // k: a step.
-pub fn step(
+fn step(
     fields: &[u64],
     sizes: &mut [u64],
     table: &[u16],
     state: &mut [u16],
-    next: &mut [u16],
     out: &mut [u8],
     at: usize,
 ) -> usize {
+    let mut next = [0u16; 64];
     let words = cut16(size(sizes, TABLE), table);
-    let room = cut16(count_at(fields, 4), next);
+    let room = cut16(count_at(fields, 4), &next);
     step_in(
         fields,
         sizes,
@@ -252,4 +246,43 @@ pub fn step(
         out,
         at,
     )
+}
+
+// Requests that set the table or the state.
+pub fn set(
+    letter: u8,
+    fields: &[u64],
+    count: usize,
+    sizes: &mut [u64],
+    table: &mut [u16],
+    state: &mut [u16],
+    out: &mut [u8],
+    at: usize,
+) -> usize {
+    match letter {
+        b't' => take_table(fields, count, sizes, table, out, at),
+        b'x' => take_state(fields, count, sizes, state, out, at),
+        b'y' => set_state(fields, sizes, state, out, at),
+        _ => at,
+    }
+}
+
+// Requests for a state or its open steps.
+pub fn answer(
+    letter: u8,
+    fields: &[u64],
+    sizes: &mut [u64],
+    table: &[u16],
+    marking: &[u8],
+    state: &mut [u16],
+    out: &mut [u8],
+    at: usize,
+) -> usize {
+    match letter {
+        b'g' => read(fields, sizes, table, marking, state, out, at),
+        b's' => start(fields, sizes, table, state, out, at),
+        b'o' => open_steps(fields, sizes, table, state, out, at),
+        b'k' => step(fields, sizes, table, state, out, at),
+        _ => at,
+    }
 }

@@ -7,7 +7,7 @@ use Rattle.vectors.proofs.answer_all.Statement.{statement}
 use Rattle.vectors.proofs.answer_all.Tie as tie
 
 abbrev Inv-loop : tie.InvT-loop
-Inv-loop a₀ b₀ c₀ d₀ e₀ f₀ g₀ h₀ i₀ j₀ k₀ kept₀ turns₀ a b c d e f g h i j k kept turns =
+Inv-loop a₀ b₀ c₀ d₀ e₀ f₀ g₀ kept₀ turns₀ a b c d e f g kept turns =
     (length a ≡ length a₀)
     × (length b ≡ length b₀)
     × (length c ≡ length c₀)
@@ -15,13 +15,9 @@ Inv-loop a₀ b₀ c₀ d₀ e₀ f₀ g₀ h₀ i₀ j₀ k₀ kept₀ turns₀
     × (length e ≡ length e₀)
     × (length f ≡ length f₀)
     × (length g ≡ length g₀)
-    × (length h ≡ length h₀)
-    × (length i ≡ length i₀)
-    × (length j ≡ length j₀)
-    × (length k ≡ length k₀)
 
 abbrev μ-loop : tie.MeasureT-loop
-μ-loop a₀ b₀ c₀ d₀ e₀ f₀ g₀ h₀ i₀ j₀ k₀ kept₀ turns₀ a b c d e f g h i j k kept turns =
+μ-loop a₀ b₀ c₀ d₀ e₀ f₀ g₀ kept₀ turns₀ a b c d e f g kept turns =
     turns
 
 loop-holds : tie.Need-loop-holds Inv-loop μ-loop
@@ -60,18 +56,6 @@ same-length-6 c = search needs
 same-length-7 : tie.Need-same-length-7 Inv-loop μ-loop
 same-length-7 c = search needs
 
-same-length-8 : tie.Need-same-length-8 Inv-loop μ-loop
-same-length-8 c = search needs
-
-same-length-9 : tie.Need-same-length-9 Inv-loop μ-loop
-same-length-9 c = search needs
-
-same-length-10 : tie.Need-same-length-10 Inv-loop μ-loop
-same-length-10 c = search needs
-
-same-length-11 : tie.Need-same-length-11 Inv-loop μ-loop
-same-length-11 c = search needs
-
 returns : tie.Need-returns Inv-loop μ-loop
 returns c = search needs
 
@@ -93,8 +77,4 @@ answer-all-spec =
     same-length-5
     same-length-6
     same-length-7
-    same-length-8
-    same-length-9
-    same-length-10
-    same-length-11
     returns)

@@ -8,7 +8,7 @@ use Rattle.vectors.proofs.answer_lines.Statement.{statement}
 use Rattle.vectors.proofs.answer_lines.Tie as tie
 
 abbrev Inv-loop : tie.InvT-loop
-Inv-loop input a₀ b₀ c₀ d₀ e₀ f₀ g₀ h₀ i₀ j₀ at₀ a b c d e f g h i j at =
+Inv-loop input a₀ b₀ c₀ d₀ e₀ f₀ at₀ a b c d e f at =
     (at ≤ length input)
     × (length a ≡ length a₀)
     × (length b ≡ length b₀)
@@ -16,13 +16,9 @@ Inv-loop input a₀ b₀ c₀ d₀ e₀ f₀ g₀ h₀ i₀ j₀ at₀ a b c d e
     × (length d ≡ length d₀)
     × (length e ≡ length e₀)
     × (length f ≡ length f₀)
-    × (length g ≡ length g₀)
-    × (length h ≡ length h₀)
-    × (length i ≡ length i₀)
-    × (length j ≡ length j₀)
 
 abbrev μ-loop : tie.MeasureT-loop
-μ-loop input a₀ b₀ c₀ d₀ e₀ f₀ g₀ h₀ i₀ j₀ at₀ a b c d e f g h i j at =
+μ-loop input a₀ b₀ c₀ d₀ e₀ f₀ at₀ a b c d e f at =
     length input - at
 
 loop-holds : tie.Need-loop-holds Inv-loop μ-loop
@@ -49,18 +45,6 @@ same-length-5 c = search needs
 same-length-6 : tie.Need-same-length-6 Inv-loop μ-loop
 same-length-6 c = search needs
 
-same-length-7 : tie.Need-same-length-7 Inv-loop μ-loop
-same-length-7 c = search needs
-
-same-length-8 : tie.Need-same-length-8 Inv-loop μ-loop
-same-length-8 c = search needs
-
-same-length-9 : tie.Need-same-length-9 Inv-loop μ-loop
-same-length-9 c = search needs
-
-same-length-10 : tie.Need-same-length-10 Inv-loop μ-loop
-same-length-10 c = search needs
-
 returns : tie.Need-returns Inv-loop μ-loop
 returns c = search needs
 
@@ -82,35 +66,23 @@ loop-less c = search needs
 loop-again : tie.Need-loop-again Inv-loop μ-loop
 loop-again c = search needs
 
+same-length-7 : tie.Need-same-length-7 Inv-loop μ-loop
+same-length-7 c = search needs
+
+same-length-8 : tie.Need-same-length-8 Inv-loop μ-loop
+same-length-8 c = search needs
+
+same-length-9 : tie.Need-same-length-9 Inv-loop μ-loop
+same-length-9 c = search needs
+
+same-length-10 : tie.Need-same-length-10 Inv-loop μ-loop
+same-length-10 c = search needs
+
 same-length-11 : tie.Need-same-length-11 Inv-loop μ-loop
 same-length-11 c = search needs
 
 same-length-12 : tie.Need-same-length-12 Inv-loop μ-loop
 same-length-12 c = search needs
-
-same-length-13 : tie.Need-same-length-13 Inv-loop μ-loop
-same-length-13 c = search needs
-
-same-length-14 : tie.Need-same-length-14 Inv-loop μ-loop
-same-length-14 c = search needs
-
-same-length-15 : tie.Need-same-length-15 Inv-loop μ-loop
-same-length-15 c = search needs
-
-same-length-16 : tie.Need-same-length-16 Inv-loop μ-loop
-same-length-16 c = search needs
-
-same-length-17 : tie.Need-same-length-17 Inv-loop μ-loop
-same-length-17 c = search needs
-
-same-length-18 : tie.Need-same-length-18 Inv-loop μ-loop
-same-length-18 c = search needs
-
-same-length-19 : tie.Need-same-length-19 Inv-loop μ-loop
-same-length-19 c = search needs
-
-same-length-20 : tie.Need-same-length-20 Inv-loop μ-loop
-same-length-20 c = search needs
 
 returns-2 : tie.Need-returns-2 Inv-loop μ-loop
 returns-2 c = search needs
@@ -129,10 +101,6 @@ answer-lines-spec =
     same-length-4
     same-length-5
     same-length-6
-    same-length-7
-    same-length-8
-    same-length-9
-    same-length-10
     returns
     sub-answer-line
     part-answer-line-start
@@ -140,14 +108,10 @@ answer-lines-spec =
     answer-line-requires
     loop-less
     loop-again
+    same-length-7
+    same-length-8
+    same-length-9
+    same-length-10
     same-length-11
     same-length-12
-    same-length-13
-    same-length-14
-    same-length-15
-    same-length-16
-    same-length-17
-    same-length-18
-    same-length-19
-    same-length-20
     returns-2)
