@@ -37,7 +37,7 @@ fn accepted(word: Word) -> usize {
 fn read_table(path: &str) -> Vec<u16> {
     let bytes = std::fs::read(path).unwrap_or_else(|_| fail("the table cannot be opened"));
     let kept = &bytes[..bytes.len().min(8192)];
-    if kept.len() % 2 != 0 {
+    if kept.len() % 2 == 1 {
         fail("the table cannot be read as 16-bit words");
     }
     kept.chunks(2)
