@@ -1,10 +1,11 @@
 //! A table with all that is measured on it, found to be the same by both engines.
 
+use dekohuna::{Answer, Label};
 use oracle::places::Places;
 use oracle::size::Size;
 use oracle::table::accept;
 
-use crate::engine::{Answer, Engine, Label};
+use crate::engine::Engine;
 use crate::inputs::Input;
 
 /// The most open steps that are asked for.

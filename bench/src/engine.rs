@@ -1,18 +1,6 @@
-//! The calls that both engines have, with answers of one form.
+//! The calls that both engines have, with answers of one form: that of the C interface.
 
-/// A call's answer: a value, and a code that is 0, the number of a cause, or a run's reason.
-#[derive(Clone, Copy, Debug, PartialEq, Eq)]
-pub struct Answer {
-    pub value: u64,
-    pub code: u8,
-}
-
-pub const LIMIT_REACHED: u8 = 200;
-pub const HISTORY_FULL: u8 = 201;
-pub const NOTHING_ENABLED: u8 = 202;
-
-/// A label: kind, a, b.
-pub type Label = [u32; 3];
+use dekohuna::{Answer, Label};
 
 pub trait Engine {
     fn check(&self, table: &[u16]) -> Answer;

@@ -1,8 +1,9 @@
 //! The oracle, with its answers in the form of the C interface.
 
+use dekohuna::{Answer, Label, HISTORY_FULL, LIMIT_REACHED, NOTHING_ENABLED};
 use oracle::{Reason, Refusal};
 
-use crate::engine::{Answer, Engine, Label, HISTORY_FULL, LIMIT_REACHED, NOTHING_ENABLED};
+use crate::engine::Engine;
 
 pub struct Oracle;
 

@@ -5,9 +5,7 @@
 //! A table file has 16-bit words, low byte first. With no file it is table E, a new name sent from one thread to
 //! another; the limit is 5 firings unless it is given. Ends with 1 where the library refuses, with 2 where the program
 //! cannot do what it was asked.
-mod dekohuna;
-
-use dekohuna::Word;
+use dekohuna::Answer;
 use std::process::exit;
 
 const TABLE_E: [u16; 48] = [
@@ -24,13 +22,13 @@ fn fail(what: &str) -> ! {
     exit(2);
 }
 
-/// The value of a word; ends the program where the call was refused.
-fn accepted(word: Word) -> usize {
-    if word.code != dekohuna::DONE {
-        println!("refused: cause {}", word.code);
+/// What a call counted; ends the program where it was refused.
+fn accepted(answer: Answer) -> usize {
+    if answer.code != dekohuna::DONE {
+        println!("refused: cause {}", answer.code);
         exit(1);
     }
-    word.value
+    answer.value as usize
 }
 
 /// The words of a file. A table has fewer than 4,096: more are cut off, and the library refuses what is left.
@@ -49,9 +47,9 @@ fn read_table(path: &str) -> Vec<u16> {
 fn build(table: &[u16]) -> Vec<u32> {
     let mut image = vec![0; 64];
     loop {
-        let word = dekohuna::build(table, &mut image);
-        if word.code != dekohuna::OUTPUT_SHORT {
-            image.truncate(accepted(word));
+        let built = dekohuna::build(table, &mut image);
+        if built.code != dekohuna::OUTPUT_SHORT {
+            image.truncate(accepted(built));
             return image;
         }
         image.resize(2 * image.len(), 0);
@@ -107,15 +105,15 @@ fn run(table: &[u16], limit: usize) {
     let mut marking = vec![0; places as usize];
     accepted(dekohuna::replay(&image, &mut marking, &[]));
     let mut history = vec![0; limit];
-    let word = dekohuna::run(&image, &mut marking, limit as u64, &mut history);
-    for &number in &history[..word.value] {
+    let ran = dekohuna::run(&image, &mut marking, limit as u64, &mut history);
+    for &number in &history[..ran.value as usize] {
         print_firing(&image, number);
     }
     println!(
         "firings made: {}, {} ({})",
-        word.value,
-        reason(word.code),
-        word.code
+        ran.value,
+        reason(ran.code),
+        ran.code
     );
 
     let mut state = [0; 40]; // at most 8 threads and 32 bound names
