@@ -4,26 +4,85 @@ use mathlib.Core.Bool.{Bool, true, false, not, _&&_, _||_}
 use mathlib.Core.List.{List, [], _∷_}
 use Prim.Native.Nat.{ℕ, _+_, _≤_, _<_}
 use native.Mathlib.Omega.{arith}
-use lib.Dec.{leb}
+use native.Mathlib.Decide.{decLt}
+use lib.Dec.{leb, ltb}
 use lib.ListN.{length, getD, set, drop, length-set}
 use lib.Seq.{slice}
-use borrow.Author.Tests.{le-leb, lt-leb}
+use borrow.Author.Tests.{le-leb, lt-leb, lt-ltb, le-ltb}
 use Rattle.lists.specs.Lists.{same, word, every, some, member, ascends}
-use Rattle.lists.proofs.Tests.{or-none, or-false, same-yes, same-self, same-no, same-sym}
-use Rattle.lists.proofs.Slices.{slice-step, slice-none, drop-step}
+use Rattle.lists.proofs.Tests.{and-true, and-false, or-none, or-false, same-yes, same-self, same-no, same-sym}
+use Rattle.lists.proofs.Slices.{slice-step, slice-none, drop-step, drop-none}
 use Rattle.lists.proofs.Ascending.{ascends-rest, not-below, rising-first}
 use Rattle.net.specs.Firing.{isMarked, isEnabled, hasContact, put}
 
 -- ---- bytes of a marking
 
-module _ (m : List ℕ) (i : ℕ) (h : i < length m) where
-  pub bytes-not : 1 < getD m i 0 → every (λ byte. leb byte 1) (drop i m) ≡ false
-  unfolding every
-  bytes-not p = rw (drop-step m i, lt-leb (getD m i 0) 1)
+-- the higher of two numbers tells whether one is above 1
+higher-tells : (a b : ℕ) (r : Bool) → a ≤ b → (leb a 1 && (leb b 1 && r)) ≡ (leb b 1 && r)
+higher-tells a b r p = go (decLt 1 b)
+  where
+    go : Dec (1 < b) → (leb a 1 && (leb b 1 && r)) ≡ (leb b 1 && r)
+    go (yes q) = rw (lt-leb b 1 q) (and-false (leb a 1))
+    go (no q) = let u : b ≤ 1 = omega arith in rw (le-leb a 1 (omega arith), le-leb b 1 u) refl
 
-  pub bytes-more : getD m i 0 ≤ 1 → every (λ byte. leb byte 1) (drop i m) ≡ every (λ byte. leb byte 1) (drop (i + 1) m)
+lower-adds-nothing : (a b : ℕ) (r : Bool) → b ≤ a → (leb a 1 && (leb b 1 && r)) ≡ (leb a 1 && r)
+lower-adds-nothing a b r p = go (decLt 1 a)
+  where
+    go : Dec (1 < a) → (leb a 1 && (leb b 1 && r)) ≡ (leb a 1 && r)
+    go (yes q) = rw (lt-leb a 1 q) refl
+    go (no q) = let u : a ≤ 1 = omega arith in rw (le-leb a 1 u, le-leb b 1 (omega arith)) refl
+
+-- no byte is above 1, of the highest seen and those from i on
+abbrev pub lowFrom : ℕ → List ℕ → ℕ → Bool
+lowFrom highest m i = leb highest 1 && every (λ byte. leb byte 1) (drop i m)
+
+module _ (m : List ℕ) (i : ℕ) (h : i < length m) (highest next : ℕ) where
+  pub highest-rises : next ≡ getD m i 0 → highest < getD m i 0 → lowFrom highest m i ≡ lowFrom next m (i + 1)
   unfolding every
-  bytes-more p = rw (drop-step m i, le-leb (getD m i 0) 1)
+  highest-rises e p = rw (e, drop-step m i h) (higher-tells highest (getD m i 0) (every (λ byte. leb byte 1) (drop (i + 1) m)) (omega arith))
+
+  pub highest-stays : next ≡ highest → getD m i 0 ≤ highest → lowFrom highest m i ≡ lowFrom next m (i + 1)
+  unfolding every
+  highest-stays e p = rw (e, drop-step m i h) (lower-adds-nothing highest (getD m i 0) (every (λ byte. leb byte 1) (drop (i + 1) m)) p)
+
+pub highest-last : (m : List ℕ) (i highest : ℕ) → length m ≤ i → lowFrom highest m i ≡ leb highest 1
+unfolding every
+highest-last m i highest h = rw (drop-none m i h) (and-true (leb highest 1))
+
+-- ---- neighbours in a part of the words that ends at e
+
+-- the word at i lies below n, and what follows it ascends from there
+abbrev pub risesOn : List ℕ → ℕ → ℕ → ℕ → Bool
+risesOn w n i e = ltb (getD w i 0) n && ascends n (getD w i 0 + 1) (slice (i + 1) e w)
+
+pub rises-first : (w : List ℕ) (n i e : ℕ) → i < e → e ≤ length w → ascends n 0 (slice i e w) ≡ risesOn w n i e
+unfolding ascends
+rises-first w n i e h k = rw (slice-step w i e h k, le-leb 0 (getD w i 0) (omega arith)) refl
+
+module _ (w : List ℕ) (n i e : ℕ) (h : i + 1 < e) (k : e ≤ length w) (right next : Bool) where
+  pub rises-next : next ≡ right → getD w i 0 < getD w (i + 1) 0 → (right && risesOn w n i e) ≡ (next && risesOn w n (i + 1) e)
+  unfolding ascends
+  rises-next q p =
+      rw (q, slice-step w (i + 1) e h k, le-leb (getD w i 0 + 1) (getD w (i + 1) 0) (omega arith)) (ap (λ (b : Bool). right && b) (go (decLt (getD w (i + 1) 0) n)))
+    where
+      go : Dec (getD w (i + 1) 0 < n) → (ltb (getD w i 0) n && risesOn w n (i + 1) e) ≡ risesOn w n (i + 1) e
+      go (yes l) = rw (lt-ltb (getD w i 0) n (omega arith)) refl
+      go (no l) = rw (le-ltb (getD w (i + 1) 0) n (omega arith)) (and-false (ltb (getD w i 0) n))
+
+  pub rises-no-more : next ≡ false → getD w (i + 1) 0 ≤ getD w i 0 → (right && risesOn w n i e) ≡ (next && risesOn w n (i + 1) e)
+  unfolding ascends
+  rises-no-more q p =
+      rw (q, slice-step w (i + 1) e h k, lt-leb (getD w i 0 + 1) (getD w (i + 1) 0) (omega arith), and-false (ltb (getD w i 0) n)) (and-false right)
+
+pub rises-last : (w : List ℕ) (n i e : ℕ) → e ≤ i + 1 → risesOn w n i e ≡ ltb (getD w i 0) n
+unfolding ascends
+rises-last w n i e h = rw (slice-none w (i + 1) e h) (and-true (ltb (getD w i 0) n))
+
+pub rises-whole : (w : List ℕ) (n i last e : ℕ) (right : Bool) → i ≤ last → last ≤ i → e ≤ last + 1 → right ≡ true
+    → (right && risesOn w n i e) ≡ ltb (getD w last 0) n
+rises-whole w n i last e right a b h q =
+    let p : i ≡ last = omega arith in
+    rw (q, p) (rises-last w n last e h)
 
 -- ---- the places that the words from i to e list
 

@@ -61,25 +61,28 @@ enum Record {
     Wrong,
 }
 
-// Whether the words from `start` to `end` ascend strictly and lie below `places`.
+// Whether the words from `start` to `end` ascend strictly and lie below `places`: each pair of neighbours is looked at,
+// and the last word.
 fn rising(words: &[u32], start: usize, end: usize, places: usize) -> bool
     requires { ⌜ end ≤ length (now words) ⌝ }
     ensures { λ r. ⌜ r ≡ ascends places 0 (slice start end (now (words .entry))) ⌝ }
 {
-    let mut least: usize = 0;
+    if end <= start {
+        return true;
+    }
+    let last = end - 1;
+    let mut right = true;
     let mut i = start;
-    while i < end {
-        let place = words[i] as usize;
-        if place < least {
-            return false;
+    while i < last {
+        if words[i + 1] <= words[i] {
+            right = false;
         }
-        if places <= place {
-            return false;
-        }
-        least = place + 1;
         i += 1;
     }
-    true
+    if right {
+        return (words[last] as usize) < places;
+    }
+    false
 }
 
 // Where the arcs start: 8+m+6t.
@@ -178,21 +181,22 @@ fn record_at(image: &[u32], transition: usize, known: bool) -> Record
     Record::Arcs(inputs, outputs, end)
 }
 
-// Whether the list has a byte for each place, none above 1.
+// Whether the list has a byte for each place, none above 1: the highest byte tells.
 pub fn marking_right(marking: &[u8], places: usize) -> bool
     ensures { λ r. ⌜ r ≡ isMarking places (now (marking .entry)) ⌝ }
 {
     if marking.len() != places {
         return false;
     }
+    let mut highest: u8 = 0;
     let mut i = 0;
     while i < marking.len() {
-        if 1 < marking[i] {
-            return false;
+        if highest < marking[i] {
+            highest = marking[i];
         }
         i += 1;
     }
-    true
+    highest <= 1
 }
 
 // Whether every place that the words from `start` to `end` list has its token.
