@@ -11,7 +11,7 @@ use Rattle.lists.proofs.Ranges.{from-length}
 use Rattle.lists.proofs.Tests.{same-true, same-yes, false-true}
 use Rattle.table.specs.Words.{nodes, branches, definitions}
 use Rattle.table.specs.Owners.{owner, home, definition}
-use Rattle.table.specs.Index.{ownerNumber, definitionIn}
+use Rattle.table.specs.Index.{ownerNumber, FirstDefinitions}
 use Rattle.table.specs.Scheme.{scheme}
 use Rattle.table.specs.Causes.{cause}
 use Rattle.table.proofs.Accepted.{accepted}
@@ -32,8 +32,8 @@ accepted-here w n e h = sym e ∙ same-true n 0 h
 pub refused-here : (w : List ℕ) (n : ℕ) (b : Bool) → n ≡ cause w → b ≡ same n 0 → not b ≡ true → (n ≡ cause w) × (cause w ≡ 0 → ⊥)
 refused-here w n b e t r = (e, λ z. false-true (sym t ∙ not-true b r) (same-yes n 0 (e ∙ z)))
 
-module _ (w owners homes defs : List ℕ) (n m k : ℕ) (ok : cause w ≡ 0) (o : owners ≡ map (λ k. ownerNumber (owner w k)) (range n))
-    (h : homes ≡ map (home w) (range m)) (d : defs ≡ map (definitionIn owners homes) (range k)) (few-o : 256 ≤ n) (few-h : 256 ≤ m) (few-d : 256 ≤ k) where
+module _ (w owners homes defs : List ℕ) (n m k : ℕ) (all : k ≡ nodes w) (ok : cause w ≡ 0) (o : owners ≡ map (λ k. ownerNumber (owner w k)) (range n))
+    (h : homes ≡ map (home w) (range m)) (lent : List ℕ) (d : FirstDefinitions owners homes k lent defs) (few-o : 256 ≤ n) (few-h : 256 ≤ m) (few-d : 256 ≤ length lent) where
   owners-length : length owners ≡ n
   owners-length = ap length o ∙ length-map (range n) (λ k. ownerNumber (owner w k)) ∙ from-length 0 n
 
@@ -65,7 +65,7 @@ module _ (w owners homes defs : List ℕ) (n m k : ℕ) (ok : cause w ≡ 0) (o 
   defined = record {
     accepted = ok;
     home-in = λ b l. ap (λ (hs : List ℕ). word hs b) h ∙ word-range (home w) m b (omega (arith, few-branches));
-    definition-in = λ i l. ap (λ (ds : List ℕ). word ds i) d ∙ word-range (definitionIn owners homes) k i (omega (arith, few-nodes)) ∙
+    definition-in = λ i l. d .filled i (omega (arith, all)) (omega (arith, few-nodes)) ∙
         definition-indexed w owners homes i (known .owners-are) (known .homes-are) (omega (arith, owners-length, few-nodes))
         (omega (arith, homes-length, few-branches)) (omega (arith, few-definitions)) (omega (arith, few-nodes));
   }

@@ -2,7 +2,7 @@
 ghost use mathlib.Core.Path.{_≡_};
 ghost use Rattle.builder.specs.Answer.{builtOutcome, laidOutcome, buildOutcome};
 ghost use Rattle.builder.specs.Inner.Plan.{Known, Defined, Laid};
-ghost use Rattle.builder.specs.Inner.Planning.{PlanRight};
+ghost use Rattle.builder.specs.Inner.Planning.{Room, PlanRight};
 
 mod chain;
 mod communications;
@@ -14,6 +14,7 @@ mod nodes;
 mod write;
 
 use layout::Layout;
+use lists::word16;
 use table::Verdict;
 use write::Heads;
 
@@ -31,6 +32,25 @@ pub enum Built {
     Room,
 }
 
+// Whether lists of these lengths have room for every table's index and layout.
+fn is_room(owners: usize, homes: usize, definitions: usize, rows: usize, spots: usize) -> bool
+    ensures { λ r. ⌜ Room owners homes definitions rows spots r ⌝ }
+{
+    if owners < 256 {
+        return false;
+    }
+    if homes < 256 {
+        return false;
+    }
+    if definitions < 256 {
+        return false;
+    }
+    if rows < 64 {
+        return false;
+    }
+    256 <= spots
+}
+
 // Checks a table and fills in its index and where its places stand: 256 words for owners, homes, definitions and control places, 64 for rows.
 pub fn plan(
     table: &[u16],
@@ -46,24 +66,18 @@ pub fn plan(
     if !table::is_accepted(verdict) {
         return Planned::Refused(verdict);
     }
-    if owners.len() < 256 {
-        return Planned::Short;
-    }
-    if homes.len() < 256 {
-        return Planned::Short;
-    }
-    if definitions.len() < 256 {
-        return Planned::Short;
-    }
-    if rows.len() < 64 {
-        return Planned::Short;
-    }
-    if spots.len() < 256 {
+    if !is_room(
+        owners.len(),
+        homes.len(),
+        definitions.len(),
+        rows.len(),
+        spots.len(),
+    ) {
         return Planned::Short;
     }
     table::index::owners(table, owners);
     table::index::homes(table, homes);
-    table::index::definitions(owners, homes, definitions);
+    table::index::first_definitions(owners, homes, word16(table, 4), definitions);
     Planned::Places(layout::lay_out(table, owners, homes, rows, spots))
 }
 

@@ -2,7 +2,7 @@
 use mathlib.Core.Path.{_≡_}
 use mathlib.Core.Bool.{Bool, true, false}
 use mathlib.Core.List.{List, [], _∷_}
-use Prim.Native.Nat.{ℕ, suc, _+_, _-_}
+use Prim.Native.Nat.{ℕ, suc, _+_, _-_, _≤_, _<_}
 use lib.Dec.{ltb}
 use lib.ListN.{length}
 use lib.Seq.{sets}
@@ -54,6 +54,12 @@ definitionNext own at below n = definitionStep below (parentOf own at n)
 -- a node's definition and held names by lent owners and homes
 unfoldable pub definitionIn : List ℕ → List ℕ → ℕ → ℕ
 definitionIn owners homes n = definitionBy [] (ownerIn owners) (homeIn homes) (suc n) n
+
+-- lent words with the definitions of the first nodes; what follows stays
+pub record FirstDefinitions (owners homes : List ℕ) (count : ℕ) (lent out : List ℕ) : Type 0 where
+  pub long : length out ≡ length lent
+  pub filled : (k : ℕ) → k < count → k < length lent → word out k ≡ definitionIn owners homes k
+  pub rest : (k : ℕ) → count ≤ k → word out k ≡ word lent k
 
 -- the thread of a node by lent definitions
 abbrev pub threadIn : List ℕ → List ℕ → ℕ → ℕ

@@ -7,7 +7,7 @@ ghost use Rattle.table.specs.Causes.{entryRight, callRightIn, callsRight
 use crate::fields::field1;
 use crate::fields::field3;
 use crate::fields::field4;
-use crate::index::definitions;
+use crate::index::first_definitions;
 use crate::index::homes;
 use crate::index::owners;
 use crate::tests::Item;
@@ -65,6 +65,6 @@ pub(crate) fn calls_right(table: &[u16]) -> bool
     let mut definition = [0u16; 256];
     owners(table, &mut owner);
     homes(table, &mut home);
-    definitions(&owner, &home, &mut definition);
+    first_definitions(&owner, &home, word16(table, 4), &mut definition);
     all_calls_right(table, &definition)
 }

@@ -9,6 +9,7 @@ ghost use lib.Seq.{sets};
 ghost use Rattle.lists.specs.Lists.{from, range};
 ghost use Rattle.table.specs.Owners.{owner, home};
 ghost use Rattle.table.specs.Index.{ownerNumber, ownerIn, homeIn, parentOf, definitionIn, definitionNext, threadIn, heldIn, HeldNames};
+ghost use Rattle.table.specs.Index.{FirstDefinitions};
 ghost use Rattle.table.specs.Index.{binderNumber, binderThreadIn};
 ghost use Rattle.table.specs.Scheme.{binderOf};
 ghost use Rattle.lists.specs.Lists.{word};
@@ -94,16 +95,26 @@ fn definition_of(owners: &[u32], homes: &[u32], node: usize, below: &[u16]) -> u
     }
 }
 
-// The definition of each node, by lent owners and homes, as far as `out` reaches.
-pub fn definitions(owners: &[u32], homes: &[u32], out: &mut [u16])
-    ensures { λ r. ⌜ now (out .exit) ≡ map (definitionIn (now (owners .entry)) (now (homes .entry))) (range (length (now (out .entry)))) ⌝ }
+// The definitions of the first `count` nodes, by lent owners and homes, as far as `out` reaches. The rest of `out` stays.
+pub fn first_definitions(owners: &[u32], homes: &[u32], count: usize, out: &mut [u16])
+    ensures { λ r. ⌜ FirstDefinitions (now (owners .entry)) (now (homes .entry)) count (now (out .entry)) (now (out .exit)) ⌝ }
 {
     let mut n = 0;
-    while n < out.len() {
+    while n < count {
+        if out.len() <= n {
+            return;
+        }
         let d = definition_of(owners, homes, n, out);
         out[n] = d;
         n += 1;
     }
+}
+
+// The definition of each node, by lent owners and homes, as far as `out` reaches.
+pub fn definitions(owners: &[u32], homes: &[u32], out: &mut [u16])
+    ensures { λ r. ⌜ now (out .exit) ≡ map (definitionIn (now (owners .entry)) (now (homes .entry))) (range (length (now (out .entry)))) ⌝ }
+{
+    first_definitions(owners, homes, out.len(), out);
 }
 
 // The thread of a node, by lent definitions.

@@ -1,5 +1,6 @@
 -- What `plan` leaves in the lent words.
 use mathlib.Core.Path.{_≡_}
+use mathlib.Core.Bool.{Bool, true, false}
 use mathlib.Core.List.{List}
 use Prim.Native.Nat.{ℕ, _≤_}
 use lib.ListN.{length}
@@ -8,6 +9,18 @@ use Rattle.table.specs.Causes.{cause}
 use Rattle.builder.specs.Inner.Plan.{Known, Defined, Laid}
 use Rattle.builder.specs.declared.Planned.{Planned}
 use Rattle.builder.specs.declared.Planned.the-variants.{Places, Refused, Short}
+
+-- lengths of lists that have room for every table's index and layout
+pub record Enough (owners homes definitions rows spots : ℕ) : Type 0 where
+  pub owners-fit : 256 ≤ owners
+  pub homes-fit : 256 ≤ homes
+  pub definitions-fit : 256 ≤ definitions
+  pub rows-fit : 64 ≤ rows
+  pub spots-fit : 256 ≤ spots
+
+pub record Room (owners homes definitions rows spots : ℕ) (r : Bool) : Type 0 where
+  pub yes : r ≡ true → Enough owners homes definitions rows spots
+  pub no : r ≡ false → Enough owners homes definitions rows spots → ⊥
 
 abbrev pub PlanRight : List ℕ → List ℕ → List ℕ → List ℕ → List ℕ → List ℕ → Planned → Type 0
 PlanRight w owners homes definitions rows spots (Places plan) = Known w owners homes × Defined w homes definitions × Laid w rows spots plan

@@ -11,9 +11,8 @@ use Rattle.lists.proofs.Ranges.{every-same, from-member, from-length}
 use Rattle.table.specs.Words.{definitions, nodes, branches}
 use Rattle.table.specs.Owners.{owner, home, definition}
 use Rattle.table.specs.Causes.{callRightIn, callRight, callsRight}
-use Rattle.table.specs.Index.{ownerNumber, definitionIn}
+use Rattle.table.specs.Index.{ownerNumber, FirstDefinitions}
 use Rattle.table.specs.declared.tests.Item.the-variants.{EntryRight}
-use Rattle.table.proofs.Scatter.{word-range}
 use Rattle.table.proofs.Indexed.{definition-indexed}
 use Rattle.table.proofs.Parts.{part}
 use borrow.Author.Needs.{needs}
@@ -22,7 +21,7 @@ use Rattle.table.proofs.calls.calls_right.Tie as tie
 
 -- the definitions that the index gives, at every node
 module _ (w owners homes defs : List ℕ) (few : (nodes w ≤ 256) × (branches w ≤ 256) × (definitions w ≤ 32)) (o : owners ≡ map (λ k. ownerNumber (owner w k)) (range 256))
-    (h : homes ≡ map (home w) (range 256)) (d : defs ≡ map (definitionIn owners homes) (range 256)) where
+    (h : homes ≡ map (home w) (range 256)) (count : ℕ) (all : count ≡ nodes w) (lent : List ℕ) (enough : 256 ≤ length lent) (d : FirstDefinitions owners homes count lent defs) where
   long : (l : List ℕ) (g : ℕ → ℕ) → l ≡ map g (range 256) → length l ≡ 256
   long l g e = rw e (length-map (range 256) g ∙ from-length 0 256)
 
@@ -30,7 +29,7 @@ module _ (w owners homes defs : List ℕ) (few : (nodes w ≤ 256) × (branches 
   at-node n l =
       let p : length owners ≡ 256 = long owners (λ k. ownerNumber (owner w k)) o in
       let q : length homes ≡ 256 = long homes (home w) h in
-      rw d (word-range (definitionIn owners homes) 256 n (omega (arith, few .0))) ∙
+      d .filled n (omega (arith, all)) (omega (arith, few .0, enough)) ∙
       definition-indexed w owners homes n (o ∙ rw p) (h ∙ rw q) (omega (arith, few .0)) (omega (arith, few .1)) (omega (arith, few .2)) (omega (arith, few .0))
 
   all-calls : (r : Bool) → r ≡ every (λ n. callRightIn w (word defs n) n) (range (nodes w)) → r ≡ every (callRight w) (range (nodes w))
@@ -60,17 +59,20 @@ slice-aggregate-homes c = search needs
 homes-requires : tie.Need-homes-requires
 homes-requires c κs = search needs
 
-slice-aggregate-definitions : tie.Need-slice-aggregate-definitions
-slice-aggregate-definitions c = search needs
+slice-aggregate-first-definitions : tie.Need-slice-aggregate-first-definitions
+slice-aggregate-first-definitions c = search needs
 
-slice-aggregate-definitions-2 : tie.Need-slice-aggregate-definitions-2
-slice-aggregate-definitions-2 c = search needs
+slice-aggregate-first-definitions-2 : tie.Need-slice-aggregate-first-definitions-2
+slice-aggregate-first-definitions-2 c = search needs
 
-slice-aggregate-definitions-3 : tie.Need-slice-aggregate-definitions-3
-slice-aggregate-definitions-3 c = search needs
+word16-requires-2 : tie.Need-word16-requires-2
+word16-requires-2 c κs = search needs
 
-definitions-requires : tie.Need-definitions-requires
-definitions-requires c κs = search needs
+slice-aggregate-first-definitions-3 : tie.Need-slice-aggregate-first-definitions-3
+slice-aggregate-first-definitions-3 c = search needs
+
+first-definitions-requires : tie.Need-first-definitions-requires
+first-definitions-requires c κs = search needs
 
 slice-aggregate-all-calls-right : tie.Need-slice-aggregate-all-calls-right
 slice-aggregate-all-calls-right c = search needs
@@ -80,7 +82,16 @@ all-calls-right-requires c κs = search needs
 
 returns-2 : tie.Need-returns-2
 unfolding callsRight
-returns-2 c = rw (part _ EntryRight _ _ _ _ (c .before .before .before .before .before .before .before .before .before .before .before .before .before .before .before .word16 .ensures .is) (c .before .before .before .before .before .before .before .before .before .before .before .before .before .before .all-pass .ensures) (not-false _ (c .before .before .before .before .before .before .before .before .before .before .before .before .before .if1 .left))) (all-calls _ _ _ _ (c .before .before .before .before .before .before .before .before .before .before .before .before .before .before .before .before .before .pre) (c .before .before .before .before .before .before .before .before .before .before .before .owners .ensures) (c .before .before .before .before .before .before .before .before .homes .ensures) (c .before .before .before .definitions .ensures) _ (c .all-calls-right .ensures))
+returns-2 c =
+    let filled = c .before .before .before in
+    let counted = filled .before .before in
+    let found = counted .before .before .before .before in
+    let owned = found .before .before .before in
+    let tested = owned .before .before in
+    let start = tested .before .before .before .before in
+    rw (part _ EntryRight _ _ _ _ (tested .before .before .word16 .ensures .is) (tested .before .all-pass .ensures) (not-false _ (tested .if1 .left)))
+    (all-calls _ _ _ _ (start .pre) (owned .owners .ensures) (found .homes .ensures) _ (counted .word162 .ensures .is) _ (omega arith)
+    (filled .first-definitions .ensures) _ (c .all-calls-right .ensures))
 
 pub calls-right-spec : {M : Type 1} → statement M
 calls-right-spec =
@@ -93,10 +104,11 @@ calls-right-spec =
     owners-requires
     slice-aggregate-homes
     homes-requires
-    slice-aggregate-definitions
-    slice-aggregate-definitions-2
-    slice-aggregate-definitions-3
-    definitions-requires
+    slice-aggregate-first-definitions
+    slice-aggregate-first-definitions-2
+    word16-requires-2
+    slice-aggregate-first-definitions-3
+    first-definitions-requires
     slice-aggregate-all-calls-right
     all-calls-right-requires
     returns-2)
