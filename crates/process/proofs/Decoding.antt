@@ -1,22 +1,19 @@
 -- What the code reads of a table, and what a Scheme says of it.
-use mathlib.Core.Path.{_≡_, refl, sym, ap, _∙_}
-use mathlib.Core.Bool.{Bool, true, false, not, _&&_}
-use mathlib.Core.List.{List, [], _∷_}
-use mathlib.Core.Logic.{_⊎_, inl, inr}
-use Prim.Native.Nat.{ℕ, _+_, _-_, _≤_, _<_}
-use native.Mathlib.Decide.{decLt, decLe, ℕ-discrete}
-use native.Mathlib.Omega.{arith}
-use lib.Dec.{ltb, leb}
-use borrow.Author.Tests.{lt-ltb, le-ltb, ltb-true}
-use Rattle.lists.specs.Lists.{pick, same, word, from, member, firstFrom}
-use Rattle.lists.proofs.Tests.{same-yes, same-no, same-true, same-false, and-left, and-right, not-true-false}
-use Rattle.lists.proofs.Ranges.{member-from, from-member}
-use Rattle.table.specs.Words.{publics, bounds, threads, nodes, branches, definitions, formals, definitionThread, nodeKind, branchKind, isChoice, isNew, isCall, isSilent, isSend, isReceive, nodeFirst, nodeSecond, channel, branchName, next}
-use Rattle.table.specs.Owners.{home, definition}
-use Rattle.table.specs.Scheme.{scheme, Node, stop, choice, new, call, Branch, absent, silent, send, receive, nodeAt, branchAt, Binder, byNew, byReceive, byFormal, unbound, pickBinder, binderOf, binderThread}
+use mathlib.Core.Path.{_≡_, refl, _∙_}
+use mathlib.Core.Bool.{Bool, true, false, _&&_}
+use mathlib.Core.List.{List}
+use Prim.Native.Nat.{ℕ, _<_}
+use lib.Dec.{ltb}
+use Rattle.lists.specs.Lists.{pick, word}
+use Rattle.lists.proofs.Tests.{and-left, and-right}
+use Rattle.table.specs.Words.{nodes, branches, definitionThread, isChoice, isNew, isCall, isSilent, isSend, isReceive}
+use Rattle.table.specs.Words.{nodeFirst, nodeSecond, channel, branchName, next}
+use Rattle.table.specs.Scheme.{scheme, stop, new, call, silent, send, receive, nodeAt, branchAt}
+use Rattle.table.specs.Index.{binderThreadIn}
 use Rattle.table.specs.Kinds
 use Rattle.table.proofs.Inside
-use Rattle.process.specs.Inner.Index.{Indexed}
+use Rattle.table.proofs.NameThreads.{name-thread-in}
+use Rattle.process.specs.Inner.Index.{Indexed, Bound}
 use Rattle.process.specs.Inner.Values.{Number}
 
 -- ---- kinds
@@ -168,44 +165,8 @@ module _ (w homes defs : List ℕ) (I : Indexed w homes defs) where
   unfolding scheme
   home-thread b n r p q = record { is = q .is ∙ rw (p, I .home-right b); small = q .small }
 
--- the thread of a name by the first that binds it
-module _ (w : List ℕ) (x : ℕ) where
-  abbrev pub firstNew : ℕ
-  firstNew = firstFrom (nodes w) (λ n. isNew w n && same (nodeFirst w n) x) 0 (nodes w)
-
-  abbrev pub firstReceive : ℕ
-  firstReceive = firstFrom (branches w) (λ b. isReceive w b && same (branchName w b) x) 0 (branches w)
-
-  abbrev pub firstFormal : ℕ
-  firstFormal = firstFrom (definitions w) (λ d. member x (formals w d)) 0 (definitions w)
-
-  module _ (n b d r : ℕ) (p : n ≡ firstNew) where
-    pub by-new : n < nodes w → Number (scheme w .thread n) r → Number (scheme w .nameThread x) r
-    unfolding scheme binderOf pickBinder
-    by-new h k = record { is = k .is ∙ rw (← p, lt-ltb n (nodes w) h); small = k .small }
-
-    pub by-receive : nodes w ≤ n → b ≡ firstReceive → b < branches w → Number (scheme w .thread (scheme w .home b)) r → Number (scheme w .nameThread x) r
-    unfolding scheme binderOf pickBinder
-    by-receive h q i k = record { is = k .is ∙ rw (← p, le-ltb n (nodes w) h, ← q, lt-ltb b (branches w) i); small = k .small }
-
-    pub by-formal : nodes w ≤ n → b ≡ firstReceive → branches w ≤ b → d ≡ firstFormal → d < definitions w → r ≡ definitionThread w d → r < 65536
-        → Number (scheme w .nameThread x) r
-    unfolding scheme binderOf pickBinder
-    by-formal h q i o j k u = record { is = k ∙ rw (← p, le-ltb n (nodes w) h, ← q, le-ltb b (branches w) i, ← o, lt-ltb d (definitions w) j); small = u }
-
-    pub by-none : nodes w ≤ n → b ≡ firstReceive → branches w ≤ b → d ≡ firstFormal → definitions w ≤ d → r ≡ threads w → r < 65536
-        → Number (scheme w .nameThread x) r
-    unfolding scheme binderOf pickBinder
-    by-none h q i o j k u = record { is = k ∙ rw (← p, le-ltb n (nodes w) h, ← q, le-ltb b (branches w) i, ← o, le-ltb d (definitions w) j); small = u }
-
--- ---- formals are a span
-
-pub span-below : (x a n : ℕ) → x < a → member x (from a n) ≡ false
-span-below x a n h = not-true-false (member x (from a n)) (λ e. let k = from-member x a n e in omega arith)
-
-pub span-inside : (x a n : ℕ) → a ≤ x → ltb x (a + n) ≡ member x (from a n)
-span-inside x a n h = go (decLt x (a + n))
-  where
-    go : Dec (x < a + n) → ltb x (a + n) ≡ member x (from a n)
-    go (yes l) = lt-ltb x (a + n) l ∙ sym (member-from x a n h l)
-    go (no d) = le-ltb x (a + n) (omega arith) ∙ sym (not-true-false (member x (from a n)) (λ e. let k = from-member x a n e in omega arith))
+pub name-thread-right : (w homes defs binders : List ℕ) → Bound w homes defs binders → (x : ℕ)
+    → binderThreadIn w homes defs (word binders x) ≡ scheme w .nameThread x
+name-thread-right w homes defs binders B x =
+    let I = B .indexed in
+    rw (B .binder-right x) (name-thread-in w homes defs (I .ok) (λ b h. I .home-right b) (λ n h. I .definition-right n) x)

@@ -16,15 +16,16 @@ use Rattle.lists.proofs.Tests.{true-or-false, false-true, not-true-false, same-
 use Rattle.lists.proofs.Ranges.{from-length, from-member}
 use Rattle.lists.proofs.First.{first-none}
 use Rattle.lists.proofs.Members.{member-nil}
-use Rattle.table.specs.Words.{publics, bounds, threads, nodes, branches, definitions, branchesOf, isChoice, nodeFirst, nodeSecond}
+use Rattle.table.specs.Words.{publics, bounds, names, threads, nodes, branches, definitions, branchesOf, isChoice, nodeFirst, nodeSecond}
 use Rattle.table.specs.Owners.{owner, home, definition}
-use Rattle.table.specs.Index.{ownerNumber, definitionIn}
+use Rattle.table.specs.Index.{ownerNumber, binderNumber, definitionIn}
 use Rattle.table.specs.Causes.{cause}
-use Rattle.table.specs.Scheme.{Scheme, scheme}
+use Rattle.table.specs.Scheme.{Scheme, scheme, binderOf}
 use Rattle.table.proofs.Accepted.{accepted}
 use Rattle.table.proofs.Passed.{passed}
 use Rattle.table.proofs.Inside
 use Rattle.table.proofs.Trees
+use Rattle.table.proofs.Binders.{outside-unbound}
 use Rattle.table.proofs.Scatter.{word-range}
 use Rattle.table.proofs.Indexed.{definition-indexed}
 use Rattle.process.specs.States.{State}
@@ -32,8 +33,8 @@ use Rattle.process.specs.Steps.{Step, noStep, isOpen, take}
 use Rattle.process.specs.Labels.{stepOf}
 use Rattle.process.specs.StateWords.{stateOf, stateWords, valueWords, noted, wellFormed}
 use Rattle.process.specs.Outcomes.{Outcome, answered, stepOutcome, refusal}
-use Rattle.process.specs.Inner.Index.{Indexed, Owned, Known}
-use Rattle.process.specs.Inner.Codes.{ifOpen, meant, Going}
+use Rattle.process.specs.Inner.Index.{Indexed, Owned, Bound, Known}
+use Rattle.process.specs.Inner.Codes.{ifOpen, meant, Valuing}
 use Rattle.process.specs.declared.labels.Step as code
 use Rattle.process.specs.declared.labels.Step.the-variants.{New, Silent, Communicate, Call}
 use Rattle.process.proofs.Sets.{sets-append, sets-whole}
@@ -44,6 +45,10 @@ module _ (w : List ℕ) (ok : cause w ≡ 0) where
   few : (nodes w ≤ 256) × (branches w ≤ 256) × (definitions w ≤ 32)
   unfolding scheme
   few = let A = accepted w ok in (A .few-nodes, A .few-branches, A .few-definitions)
+
+  few-names : names w ≤ 64
+  unfolding scheme
+  few-names = omega (arith, accepted w ok .few-publics, accepted w ok .few-bounds)
 
   -- a branch that the table does not have is no node's
   home-outside : (b : ℕ) → branches w ≤ b → home w b ≡ 0
@@ -85,11 +90,22 @@ module _ (w : List ℕ) (ok : cause w ≡ 0) where
     definition-right n (no k) =
         List·getD-eq-default defs 0 (omega (arith, defs-length)) ∙ sym (Trees.outside-definition w (passed w ok .ranges) (passed w ok .shape) n (omega (arith, few .0)))
 
-    pub known : Known w owners homes defs
-    known = record {
-      indexed = record { ok = ok; home-right = λ b. home-right b (decLt b 256); definition-right = λ n. definition-right n (decLt n 256) };
-      owned = owned;
-    }
+    indexed : Indexed w homes defs
+    indexed = record { ok = ok; home-right = λ b. home-right b (decLt b 256); definition-right = λ n. definition-right n (decLt n 256) }
+
+    module _ (binders : List ℕ) (β : binders ≡ map (λ x. binderNumber (binderOf w x)) (range 64)) where
+      binders-length : length binders ≡ 64
+      binders-length = ap length β ∙ length-map (range 64) (λ x. binderNumber (binderOf w x)) ∙ from-length 0 64
+
+      -- nothing binds a name that the table does not have
+      binder-right : (x : ℕ) → Dec (x < 64) → word binders x ≡ binderNumber (binderOf w x)
+      binder-right x (yes l) = ap (λ (k : List ℕ). word k x) β ∙ word-range (λ y. binderNumber (binderOf w y)) 64 x l
+      binder-right x (no k) =
+          List·getD-eq-default binders 0 (omega (arith, binders-length))
+          ∙ sym (ap binderNumber (outside-unbound w (passed w ok .ranges) (passed w ok .binding) x (inr (omega (arith, few-names)))))
+
+      pub known : Known w owners homes defs binders
+      known = record { bound = record { indexed = indexed; binder-right = λ x. binder-right x (decLt x 64) }; owned = owned }
 
 pub accepted-here : (w : List ℕ) (n : ℕ) → same n 0 ≡ true → n ≡ cause w → cause w ≡ 0
 accepted-here w n h e = sym e ∙ same-true n 0 h
@@ -187,7 +203,7 @@ module _ (w ws : List ℕ) (kind a b : ℕ) (lent : List ℕ) where
             let i : sets lent 0 (stateWords (scheme w) after) ≡ left = sym (g ∙ rw (t .1)) in
             rw (sym e, h, f, t .0, le-ltb (length lent) (length (stateWords (scheme w) after)) k, q, counted w, ← sets-whole lent (stateWords (scheme w) after) k, i)
 
-        pub step-going : (homes defs : List ℕ) → Indexed w homes defs → Going w homes defs ws (meant y)
-        step-going homes defs I =
+        pub step-going : (homes defs binders : List ℕ) → Bound w homes defs binders → Valuing w homes defs binders ws (meant y)
+        step-going homes defs binders B =
             let t = taken (scheme w) (stateOf (scheme w) ws) (stepOf (scheme w) kind a b) y o in
-            record { indexed = I; is-open = rw (t .1) (t .0) }
+            record { going = record { indexed = B .indexed; is-open = rw (t .1) (t .0) }; bound = B }

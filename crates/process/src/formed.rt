@@ -56,13 +56,14 @@ fn is_held(
     owners: &[u32],
     homes: &[u32],
     definitions: &[u16],
+    binders: &[u32],
     state: &[u16],
     name: usize,
 ) -> bool
-    requires { ⌜ Known (now table) (now owners) (now homes) (now definitions) ⌝ }
+    requires { ⌜ Known (now table) (now owners) (now homes) (now definitions) (now binders) ⌝ }
     ensures { λ r. ⌜ r ≡ holdsAt (scheme (now (table .entry))) (stateOf (scheme (now (table .entry))) (now (state .entry))) name ⌝ }
 {
-    let thread = name_thread(table, homes, definitions, name);
+    let thread = name_thread(table, homes, definitions, binders, name);
     holds(table, owners, homes, word16(state, thread), name)
 }
 
@@ -72,14 +73,15 @@ fn name_right(
     owners: &[u32],
     homes: &[u32],
     definitions: &[u16],
+    binders: &[u32],
     state: &[u16],
     name: usize,
 ) -> bool
-    requires { ⌜ Known (now table) (now owners) (now homes) (now definitions) ⌝ }
+    requires { ⌜ Known (now table) (now owners) (now homes) (now definitions) (now binders) ⌝ }
     ensures { λ r. ⌜ r ≡ nameRight (scheme (now (table .entry))) (stateOf (scheme (now (table .entry))) (now (state .entry))) name ⌝ }
 {
     let value = value_of(table, state, name);
-    let held = is_held(table, owners, homes, definitions, state, name);
+    let held = is_held(table, owners, homes, definitions, binders, state, name);
     if value == 65535 {
         return !held;
     }
@@ -94,16 +96,17 @@ fn names_right(
     owners: &[u32],
     homes: &[u32],
     definitions: &[u16],
+    binders: &[u32],
     state: &[u16],
 ) -> bool
-    requires { ⌜ Known (now table) (now owners) (now homes) (now definitions) ⌝ }
+    requires { ⌜ Known (now table) (now owners) (now homes) (now definitions) (now binders) ⌝ }
     ensures { λ r. ⌜ r ≡ every (nameRight (scheme (now (table .entry))) (stateOf (scheme (now (table .entry))) (now (state .entry)))) (from (publics (now (table .entry))) (bounds (now (table .entry)))) ⌝ }
 {
     let first = word16(table, 0);
     let end = first + word16(table, 1);
     let mut x = first;
     while x < end {
-        if !name_right(table, owners, homes, definitions, state, x) {
+        if !name_right(table, owners, homes, definitions, binders, state, x) {
             return false;
         }
         x += 1;
@@ -260,9 +263,10 @@ pub(crate) fn well_formed(
     owners: &[u32],
     homes: &[u32],
     definitions: &[u16],
+    binders: &[u32],
     state: &[u16],
 ) -> bool
-    requires { ⌜ Known (now table) (now owners) (now homes) (now definitions) ⌝ }
+    requires { ⌜ Known (now table) (now owners) (now homes) (now definitions) (now binders) ⌝ }
     ensures { λ r. ⌜ r ≡ wellFormed (scheme (now (table .entry))) (now (state .entry)) ⌝ }
 {
     if state.len() != word16(table, 3) + word16(table, 1) {
@@ -271,7 +275,7 @@ pub(crate) fn well_formed(
     if !nodes_right(table, homes, definitions, state) {
         return false;
     }
-    if !names_right(table, owners, homes, definitions, state) {
+    if !names_right(table, owners, homes, definitions, binders, state) {
         return false;
     }
     if !is_numbered(table, state) {

@@ -214,13 +214,13 @@ pub(crate) fn open_step(
     definitions: &[u16],
     state: &[u16],
     kind: u32,
-    a: usize,
-    b: usize,
+    a: u32,
+    b: u32,
 ) -> Open
     requires { ⌜ Indexed (now table) (now homes) (now definitions) ⌝ }
     ensures { λ r. ⌜ opened r ≡ ifOpen (scheme (now (table .entry))) (stateOf (scheme (now (table .entry))) (now (state .entry))) (stepOf (scheme (now (table .entry))) kind a b) ⌝ }
 {
-    match step_named(table, homes, definitions, kind, a, b) {
+    match step_named(table, homes, definitions, kind, a as usize, b as usize) {
         Named::Process(s) => {
             if is_open(table, homes, definitions, state, s) {
                 return Open::Taken(s);

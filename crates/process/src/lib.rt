@@ -17,6 +17,7 @@ ghost use Rattle.lists.specs.Lists.{range};
 ghost use Rattle.table.specs.Words.{threads, bounds, root, entry};
 ghost use Rattle.process.specs.Answers.{outcomeOf};
 ghost use Rattle.process.specs.Outcomes.{startOutcome, openOutcome, stepOutcome};
+ghost use Rattle.process.specs.Inner.Index.{Indexable, Known};
 use crate::formed::well_formed;
 use crate::labels::Open;
 use crate::labels::open_step;
@@ -78,6 +79,24 @@ pub fn start(table: &[u16], state: &mut [u16]) -> Answer
     Answer::Done(size)
 }
 
+// Fills in the index of an accepted table: owners and definitions of nodes, homes of branches, binders of names.
+fn fill_index(
+    table: &[u16],
+    owners: &mut [u32],
+    homes: &mut [u32],
+    definitions: &mut [u16],
+    binders: &mut [u32],
+)
+    requires { ⌜ Indexable (now table) (now owners) (now homes) (now definitions) (now binders) ⌝ }
+    ensures { λ r. ⌜ Known (now (table .entry)) (now (owners .exit)) (now (homes .exit)) (now (definitions .exit))
+        (now (binders .exit)) ⌝ }
+{
+    table::index::owners(table, owners);
+    table::index::homes(table, homes);
+    table::index::definitions(owners, homes, definitions);
+    table::index::binders(table, binders);
+}
+
 // The labels of the open steps, three words each.
 pub fn open_steps(table: &[u16], state: &[u16], labels: &mut [u32]) -> Answer
     ensures { λ r. ⌜ outcomeOf r (now (labels .exit)) ≡ openOutcome (now (table .entry)) (now (state .entry)) (now (labels .entry)) ⌝ }
@@ -89,10 +108,15 @@ pub fn open_steps(table: &[u16], state: &[u16], labels: &mut [u32]) -> Answer
     let mut owners = [0u32; 256];
     let mut homes = [0u32; 256];
     let mut definitions = [0u16; 256];
-    table::index::owners(table, &mut owners);
-    table::index::homes(table, &mut homes);
-    table::index::definitions(&owners, &homes, &mut definitions);
-    if !well_formed(table, &owners, &homes, &definitions, state) {
+    let mut binders = [0u32; 64];
+    fill_index(
+        table,
+        &mut owners,
+        &mut homes,
+        &mut definitions,
+        &mut binders,
+    );
+    if !well_formed(table, &owners, &homes, &definitions, &binders, state) {
         return Answer::Malformed;
     }
     let size = list_open(table, &homes, &definitions, state, labels);
@@ -113,27 +137,24 @@ pub fn step(table: &[u16], state: &[u16], kind: u32, a: u32, b: u32, next: &mut 
     let mut owners = [0u32; 256];
     let mut homes = [0u32; 256];
     let mut definitions = [0u16; 256];
-    table::index::owners(table, &mut owners);
-    table::index::homes(table, &mut homes);
-    table::index::definitions(&owners, &homes, &mut definitions);
-    if !well_formed(table, &owners, &homes, &definitions, state) {
+    let mut binders = [0u32; 64];
+    fill_index(
+        table,
+        &mut owners,
+        &mut homes,
+        &mut definitions,
+        &mut binders,
+    );
+    if !well_formed(table, &owners, &homes, &definitions, &binders, state) {
         return Answer::Malformed;
     }
-    let Open::Taken(taken) = open_step(
-        table,
-        &homes,
-        &definitions,
-        state,
-        kind,
-        a as usize,
-        b as usize,
-    ) else {
+    let Open::Taken(taken) = open_step(table, &homes, &definitions, state, kind, a, b) else {
         return Answer::NotOpen;
     };
     let size = word16(table, 3) + word16(table, 1);
     if next.len() < size {
         return Answer::NoRoom;
     }
-    write_state(table, &homes, &definitions, state, taken, next);
+    write_state(table, &homes, &definitions, &binders, state, taken, next);
     Answer::Done(size)
 }

@@ -11,9 +11,9 @@ ghost use Rattle.table.specs.Kinds.{isStop};
 ghost use Rattle.table.specs.Scheme.{scheme};
 ghost use Rattle.process.specs.Steps.{take, isOpen, passed, newStep, silentStep, communication, callStep};
 ghost use Rattle.process.specs.StateWords.{stateOf, valueWords, stateWords};
-ghost use Rattle.process.specs.Inner.Index.{Indexed};
+ghost use Rattle.process.specs.Inner.Index.{Bound};
 ghost use Rattle.process.specs.Inner.Values.{Number, Valued, valueAt};
-ghost use Rattle.process.specs.Inner.Codes.{meant, Going};
+ghost use Rattle.process.specs.Inner.Codes.{meant, Going, Valuing};
 use crate::labels::Pair;
 use crate::labels::Step;
 use crate::threads::branch_thread;
@@ -33,15 +33,16 @@ fn ends(
     table: &[u16],
     homes: &[u32],
     definitions: &[u16],
+    binders: &[u32],
     thread: usize,
     node: usize,
     name: usize,
 ) -> bool
-    requires { ⌜ Indexed (now table) (now homes) (now definitions) ⌝ }
+    requires { ⌜ Bound (now table) (now homes) (now definitions) (now binders) ⌝ }
     ensures { λ r. ⌜ r ≡ (isStop (scheme (now (table .entry)) .node node) && same (scheme (now (table .entry)) .nameThread name) thread) ⌝ }
 {
     if is_stop(table, node) {
-        return name_thread(table, homes, definitions, name) == thread;
+        return name_thread(table, homes, definitions, binders, name) == thread;
     }
     false
 }
@@ -51,11 +52,12 @@ fn value_after_new(
     table: &[u16],
     homes: &[u32],
     definitions: &[u16],
+    binders: &[u32],
     state: &[u16],
     node: usize,
     name: usize,
 ) -> usize
-    requires { ⌜ Going (now table) (now homes) (now definitions) (now state) (newStep node) ⌝ }
+    requires { ⌜ Valuing (now table) (now homes) (now definitions) (now binders) (now state) (newStep node) ⌝ }
     ensures { λ r. ⌜ Valued (take (scheme (now (table .entry))) (newStep node) (stateOf (scheme (now (table .entry))) (now (state .entry))) .value name) r ⌝ }
 {
     let thread = node_thread(table, homes, definitions, node);
@@ -63,6 +65,7 @@ fn value_after_new(
         table,
         homes,
         definitions,
+        binders,
         thread,
         field3(table, 10, node, 2),
         name,
@@ -79,11 +82,12 @@ fn value_after_silent(
     table: &[u16],
     homes: &[u32],
     definitions: &[u16],
+    binders: &[u32],
     state: &[u16],
     branch: usize,
     name: usize,
 ) -> usize
-    requires { ⌜ Going (now table) (now homes) (now definitions) (now state) (silentStep branch) ⌝ }
+    requires { ⌜ Valuing (now table) (now homes) (now definitions) (now binders) (now state) (silentStep branch) ⌝ }
     ensures { λ r. ⌜ Valued (take (scheme (now (table .entry))) (silentStep branch) (stateOf (scheme (now (table .entry))) (now (state .entry))) .value name) r ⌝ }
 {
     let thread = branch_thread(table, homes, definitions, branch);
@@ -91,6 +95,7 @@ fn value_after_silent(
         table,
         homes,
         definitions,
+        binders,
         thread,
         field4(table, 11, branch, 3),
         name,
@@ -105,12 +110,14 @@ fn value_after_meeting(
     table: &[u16],
     homes: &[u32],
     definitions: &[u16],
+    binders: &[u32],
     state: &[u16],
     send: usize,
     receive: usize,
     name: usize,
 ) -> usize
-    requires { ⌜ Going (now table) (now homes) (now definitions) (now state) (communication send receive) ⌝ }
+    requires { ⌜ Valuing (now table) (now homes) (now definitions) (now binders) (now state)
+        (communication send receive) ⌝ }
     ensures { λ r. ⌜ Valued (take (scheme (now (table .entry))) (communication send receive) (stateOf (scheme (now (table .entry))) (now (state .entry))) .value name) r ⌝ }
 {
     let sender = branch_thread(table, homes, definitions, send);
@@ -119,6 +126,7 @@ fn value_after_meeting(
         table,
         homes,
         definitions,
+        binders,
         sender,
         field4(table, 11, send, 3),
         name,
@@ -129,6 +137,7 @@ fn value_after_meeting(
         table,
         homes,
         definitions,
+        binders,
         receiver,
         field4(table, 11, receive, 3),
         name,
@@ -146,15 +155,16 @@ fn value_after_call(
     table: &[u16],
     homes: &[u32],
     definitions: &[u16],
+    binders: &[u32],
     state: &[u16],
     node: usize,
     name: usize,
 ) -> usize
-    requires { ⌜ Going (now table) (now homes) (now definitions) (now state) (callStep node) ⌝ }
+    requires { ⌜ Valuing (now table) (now homes) (now definitions) (now binders) (now state) (callStep node) ⌝ }
     ensures { λ r. ⌜ Valued (take (scheme (now (table .entry))) (callStep node) (stateOf (scheme (now (table .entry))) (now (state .entry))) .value name) r ⌝ }
 {
     let thread = node_thread(table, homes, definitions, node);
-    if name_thread(table, homes, definitions, name) != thread {
+    if name_thread(table, homes, definitions, binders, name) != thread {
         return value_of(table, state, name);
     }
     let called = field3(table, 10, node, 1);
@@ -180,26 +190,28 @@ fn value_after(
     table: &[u16],
     homes: &[u32],
     definitions: &[u16],
+    binders: &[u32],
     state: &[u16],
     step: Step,
     name: usize,
 ) -> usize
-    requires { ⌜ Going (now table) (now homes) (now definitions) (now state) (meant step) ⌝ }
+    requires { ⌜ Valuing (now table) (now homes) (now definitions) (now binders) (now state) (meant step) ⌝ }
     ensures { λ r. ⌜ Valued (take (scheme (now (table .entry))) (meant step) (stateOf (scheme (now (table .entry))) (now (state .entry))) .value name) r ⌝ }
 {
     match step {
-        Step::New(n) => value_after_new(table, homes, definitions, state, n, name),
-        Step::Silent(b) => value_after_silent(table, homes, definitions, state, b, name),
+        Step::New(n) => value_after_new(table, homes, definitions, binders, state, n, name),
+        Step::Silent(b) => value_after_silent(table, homes, definitions, binders, state, b, name),
         Step::Communicate(p) => value_after_meeting(
             table,
             homes,
             definitions,
+            binders,
             state,
             p.send,
             p.receive,
             name,
         ),
-        Step::Call(n) => value_after_call(table, homes, definitions, state, n, name),
+        Step::Call(n) => value_after_call(table, homes, definitions, binders, state, n, name),
     }
 }
 
@@ -297,11 +309,13 @@ fn fill_values(
     table: &[u16],
     homes: &[u32],
     definitions: &[u16],
+    binders: &[u32],
     state: &[u16],
     step: Step,
     values: &mut [u16],
 )
-    requires { ⌜ Going (now table) (now homes) (now definitions) (now state) (meant step) × (32 ≤ length (now values)) ⌝ }
+    requires { ⌜ Valuing (now table) (now homes) (now definitions) (now binders) (now state) (meant step)
+        × (32 ≤ length (now values)) ⌝ }
     ensures { λ r. ⌜ map valueAt (slice 0 (bounds (now (table .entry))) (now (values .exit))) ≡ map (take (scheme (now (table .entry))) (meant step) (stateOf (scheme (now (table .entry))) (now (state .entry))) .value) (from (publics (now (table .entry))) (bounds (now (table .entry)))) ⌝ }
 {
     let publics = word16(table, 0);
@@ -311,7 +325,7 @@ fn fill_values(
         store16(
             values,
             i,
-            value_after(table, homes, definitions, state, step, publics + i) as u16,
+            value_after(table, homes, definitions, binders, state, step, publics + i) as u16,
         );
         i += 1;
     }
@@ -322,18 +336,19 @@ fn write_values(
     table: &[u16],
     homes: &[u32],
     definitions: &[u16],
+    binders: &[u32],
     state: &[u16],
     step: Step,
     out: &mut [u16],
 )
-    requires { ⌜ Going (now table) (now homes) (now definitions) (now state) (meant step) ⌝ }
+    requires { ⌜ Valuing (now table) (now homes) (now definitions) (now binders) (now state) (meant step) ⌝ }
     ensures { λ r. ⌜ now (out .exit) ≡ sets (now (out .entry)) (threads (now (table .entry))) (valueWords (publics (now (table .entry))) [] (map (take (scheme (now (table .entry))) (meant step) (stateOf (scheme (now (table .entry))) (now (state .entry))) .value) (from (publics (now (table .entry))) (bounds (now (table .entry)))))) ⌝ }
 {
     let publics = word16(table, 0);
     let bounds = word16(table, 1);
     let threads = word16(table, 3);
     let mut values = [0u16; 32];
-    fill_values(table, homes, definitions, state, step, &mut values);
+    fill_values(table, homes, definitions, binders, state, step, &mut values);
     number_values(publics as u16, &values, bounds as u16, threads as u16, out);
 }
 
@@ -342,13 +357,14 @@ pub(crate) fn write_state(
     table: &[u16],
     homes: &[u32],
     definitions: &[u16],
+    binders: &[u32],
     state: &[u16],
     step: Step,
     out: &mut [u16],
 )
-    requires { ⌜ Going (now table) (now homes) (now definitions) (now state) (meant step) ⌝ }
+    requires { ⌜ Valuing (now table) (now homes) (now definitions) (now binders) (now state) (meant step) ⌝ }
     ensures { λ r. ⌜ now (out .exit) ≡ sets (now (out .entry)) 0 (stateWords (scheme (now (table .entry))) (take (scheme (now (table .entry))) (meant step) (stateOf (scheme (now (table .entry))) (now (state .entry))))) ⌝ }
 {
     write_nodes(table, homes, definitions, state, step, out);
-    write_values(table, homes, definitions, state, step, out);
+    write_values(table, homes, definitions, binders, state, step, out);
 }

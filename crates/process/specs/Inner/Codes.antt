@@ -9,7 +9,7 @@ use Rattle.process.specs.States.{State}
 use Rattle.process.specs.Steps
 use Rattle.process.specs.Steps.{newStep, silentStep, communication, callStep, noStep, isOpen}
 use Rattle.process.specs.StateWords.{stateOf}
-use Rattle.process.specs.Inner.Index.{Indexed}
+use Rattle.process.specs.Inner.Index.{Indexed, Bound}
 use Rattle.process.specs.declared.labels.Pair.{Pair}
 use Rattle.process.specs.declared.labels.Step.{Step}
 use Rattle.process.specs.declared.labels.Step.the-variants.{New, Silent, Communicate, Call}
@@ -42,3 +42,8 @@ ifOpen S s x = pick (isOpen S s x) x noStep
 pub record Going (w homes definitions ws : List ℕ) (x : Steps.Step) : Type 0 where
   pub indexed : Indexed w homes definitions
   pub is-open : isOpen (scheme w) (stateOf (scheme w) ws) x ≡ true
+
+-- moreover the words have what binds each name
+pub record Valuing (w homes definitions binders ws : List ℕ) (x : Steps.Step) : Type 0 where
+  pub going : Going w homes definitions ws x
+  pub bound : Bound w homes definitions binders

@@ -1,4 +1,4 @@
--- Owners, homes and definitions kept in local words.
+-- Owners, homes, definitions and binders kept in local words.
 use mathlib.Core.Path.{_≡_}
 use mathlib.Core.List.{List, map}
 use Prim.Native.Nat.{ℕ, _+_, _≤_, _<_}
@@ -6,7 +6,8 @@ use lib.ListN.{length}
 use Rattle.lists.specs.Lists.{word, range}
 use Rattle.table.specs.Words.{publics, bounds, threads}
 use Rattle.table.specs.Owners.{owner, home, definition}
-use Rattle.table.specs.Index.{ownerNumber}
+use Rattle.table.specs.Scheme.{binderOf}
+use Rattle.table.specs.Index.{ownerNumber, binderNumber}
 use Rattle.table.specs.Causes.{cause}
 
 -- the table is accepted, and the words have the node of each branch and the definition of each node
@@ -23,10 +24,23 @@ pub record Owned (w owners homes : List ℕ) : Type 0 where
   pub owners-reach : length owners ≡ 256
   pub homes-reach : length homes ≡ 256
 
--- both
-pub record Known (w owners homes definitions : List ℕ) : Type 0 where
+-- the index of branches and nodes, and the words have what binds each name
+pub record Bound (w homes definitions binders : List ℕ) : Type 0 where
   pub indexed : Indexed w homes definitions
+  pub binder-right : (x : ℕ) → word binders x ≡ binderNumber (binderOf w x)
+
+-- all of them
+pub record Known (w owners homes definitions binders : List ℕ) : Type 0 where
+  pub bound : Bound w homes definitions binders
   pub owned : Owned w owners homes
+
+-- the table is accepted, and the words have room for its index
+pub record Indexable (w owners homes definitions binders : List ℕ) : Type 0 where
+  pub ok : cause w ≡ 0
+  pub owners-reach : length owners ≡ 256
+  pub homes-reach : length homes ≡ 256
+  pub definitions-reach : length definitions ≡ 256
+  pub binders-reach : length binders ≡ 64
 
 -- as many words as a state has, and few names
 pub record Sized (w ws : List ℕ) : Type 0 where

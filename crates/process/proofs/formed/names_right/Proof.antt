@@ -1,4 +1,5 @@
 -- `process::formed::names_right` meets its contract. Loop: what is left decides. Measure: what is left.
+-- `cN` is the place N steps before `c`.
 use mathlib.Core.Path.{_≡_, refl, sym, ap, _∙_}
 use Prim.Native.Nat.{ℕ, suc, _+_, _-_, _*_, _≤_, _<_}
 use native.Mathlib.Omega.{arith}
@@ -15,10 +16,12 @@ use Rattle.process.proofs.formed.names_right.Statement.{statement}
 use Rattle.process.proofs.formed.names_right.Tie as tie
 
 abbrev Inv-loop : tie.InvT-loop
-Inv-loop table owners homes definitions state first end x₀ x = every (nameRight (scheme table) (stateOf (scheme table) state)) (from (publics table) (bounds table)) ≡ every (nameRight (scheme table) (stateOf (scheme table) state)) (from x (end - x))
+Inv-loop table owners homes definitions binders state first end x₀ x =
+    every (nameRight (scheme table) (stateOf (scheme table) state)) (from (publics table) (bounds table))
+    ≡ every (nameRight (scheme table) (stateOf (scheme table) state)) (from x (end - x))
 
 abbrev μ-loop : tie.MeasureT-loop
-μ-loop table owners homes definitions state first end x₀ x = end - x
+μ-loop table owners homes definitions binders state first end x₀ x = end - x
 
 word16-requires : tie.Need-word16-requires Inv-loop μ-loop
 word16-requires c κs = search needs
@@ -36,7 +39,11 @@ name-right-requires : tie.Need-name-right-requires Inv-loop μ-loop
 name-right-requires c κs = search needs
 
 returns : tie.Need-returns Inv-loop μ-loop
-returns c = sym (c .before .before .before .loop .inv ∙ every-stop _ _ _ (c .before .before .loop-test .taken) (sym (c .before .name-right .ensures) ∙ not-true _ (c .if1 .taken)))
+returns c =
+    let c1 = c .before in
+    let c2 = c1 .before in
+    let c3 = c2 .before in
+    sym (c3 .loop .inv ∙ every-stop _ _ _ (c2 .loop-test .taken) (sym (c1 .name-right .ensures) ∙ not-true _ (c .if1 .taken)))
 
 add-x : tie.Need-add-x Inv-loop μ-loop
 add-x c = omega arith
@@ -45,7 +52,11 @@ loop-less : tie.Need-loop-less Inv-loop μ-loop
 loop-less c = omega arith
 
 loop-again : tie.Need-loop-again Inv-loop μ-loop
-loop-again c = c .before .before .before .loop .inv ∙ every-more _ _ _ (c .before .before .loop-test .taken) (sym (c .before .name-right .ensures) ∙ not-false _ (c .if1 .left))
+loop-again c =
+    let c1 = c .before in
+    let c2 = c1 .before in
+    let c3 = c2 .before in
+    c3 .loop .inv ∙ every-more _ _ _ (c2 .loop-test .taken) (sym (c1 .name-right .ensures) ∙ not-false _ (c .if1 .left))
 
 returns-2 : tie.Need-returns-2 Inv-loop μ-loop
 returns-2 c = sym (c .before .loop .inv ∙ every-done _ _ _ (c .loop-test .left))

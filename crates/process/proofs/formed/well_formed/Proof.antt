@@ -1,4 +1,5 @@
 -- `process::formed::well_formed` meets its contract: the first test that fails decides.
+-- `cN` is the place N steps before `c`.
 use mathlib.Core.Path.{_≡_, refl, sym, ap, _∙_}
 use native.Mathlib.Omega.{arith}
 use borrow.Author.Tests.{lt-ltb, le-ltb, lt-leb, le-leb, eq-eqb, ne-eqb, not-true, not-false}
@@ -24,36 +25,107 @@ add-if1 c = search needs
 
 returns : tie.Need-returns
 unfolding wellFormed scheme
-returns c = rw (same-no (length (c .before .before .before .before .before .before .before .before .args .state .now)) (word (c .before .before .before .before .before .before .before .before .args .table .now) 3 + word (c .before .before .before .before .before .before .before .before .args .table .now) 1) (λ e. c .if1 .taken (e ∙ rw (c .before .before .word16 .ensures .is, c .before .word162 .ensures .is))))
+returns c =
+    let c1 = c .before in
+    let c2 = c1 .before in
+    let c9 = c2 .before .before .before .before .before .before .before in
+    rw (same-no (length (c9 .args .state .now)) (word (c9 .args .table .now) 3 + word (c9 .args .table .now) 1)
+    (λ e. c .if1 .taken (e ∙ rw (c2 .word16 .ensures .is, c1 .word162 .ensures .is))))
 
 nodes-right-requires : tie.Need-nodes-right-requires
-nodes-right-requires c κs = c .before .before .before .before .before .before .before .before .pre .indexed
+nodes-right-requires c κs = c .before .before .before .before .before .before .before .before .before .pre .bound .indexed
 
 returns-2 : tie.Need-returns-2
 unfolding wellFormed scheme
-returns-2 c = rw (same-yes (length (c .before .before .before .before .before .before .before .before .before .before .args .state .now)) (word (c .before .before .before .before .before .before .before .before .before .before .args .table .now) 3 + word (c .before .before .before .before .before .before .before .before .before .before .args .table .now) 1) (c .before .before .if1 .left ∙ rw (c .before .before .before .before .word16 .ensures .is, c .before .before .before .word162 .ensures .is)), sym (c .before .nodes-right .ensures) ∙ not-true _ (c .if2 .taken))
+returns-2 c =
+    let c1 = c .before in
+    let c2 = c1 .before in
+    let c3 = c2 .before in
+    let c4 = c3 .before in
+    let c11 = c4 .before .before .before .before .before .before .before in
+    rw (
+      same-yes (length (c11 .args .state .now)) (word (c11 .args .table .now) 3 + word (c11 .args .table .now) 1)
+          (c2 .if1 .left ∙ rw (c4 .word16 .ensures .is, c3 .word162 .ensures .is)),
+      sym (c1 .nodes-right .ensures) ∙ not-true _ (c .if2 .taken),
+    )
 
 names-right-requires : tie.Need-names-right-requires
 names-right-requires c κs = search needs
 
 returns-3 : tie.Need-returns-3
 unfolding wellFormed scheme
-returns-3 c = rw (same-yes (length (c .before .before .before .before .before .before .before .before .before .before .before .before .args .state .now)) (word (c .before .before .before .before .before .before .before .before .before .before .before .before .args .table .now) 3 + word (c .before .before .before .before .before .before .before .before .before .before .before .before .args .table .now) 1) (c .before .before .before .before .if1 .left ∙ rw (c .before .before .before .before .before .before .word16 .ensures .is, c .before .before .before .before .before .word162 .ensures .is)), sym (c .before .before .before .nodes-right .ensures) ∙ not-false _ (c .before .before .if2 .left), sym (c .before .names-right .ensures) ∙ not-true _ (c .if3 .taken))
+returns-3 c =
+    let c1 = c .before in
+    let c2 = c1 .before in
+    let c3 = c2 .before in
+    let c4 = c3 .before in
+    let c5 = c4 .before in
+    let c6 = c5 .before in
+    let c13 = c6 .before .before .before .before .before .before .before in
+    rw (
+      same-yes (length (c13 .args .state .now)) (word (c13 .args .table .now) 3 + word (c13 .args .table .now) 1)
+          (c4 .if1 .left ∙ rw (c6 .word16 .ensures .is, c5 .word162 .ensures .is)),
+      sym (c3 .nodes-right .ensures) ∙ not-false _ (c2 .if2 .left),
+      sym (c1 .names-right .ensures) ∙ not-true _ (c .if3 .taken),
+    )
 
 is-numbered-requires : tie.Need-is-numbered-requires
 unfolding scheme
-is-numbered-requires c κs = record { size = c .before .before .before .before .if1 .left ∙ rw (c .before .before .before .before .before .before .word16 .ensures .is, c .before .before .before .before .before .word162 .ensures .is); few-publics = accepted _ (c .before .before .before .before .before .before .before .before .before .before .before .before .pre .indexed .ok) .few-publics; few-bounds = accepted _ (c .before .before .before .before .before .before .before .before .before .before .before .before .pre .indexed .ok) .few-bounds }
+is-numbered-requires c κs =
+    let c4 = c .before .before .before .before in
+    let c5 = c4 .before in
+    let c6 = c5 .before in
+    let c13 = c6 .before .before .before .before .before .before .before in
+    record {
+      size = c4 .if1 .left ∙ rw (c6 .word16 .ensures .is, c5 .word162 .ensures .is);
+      few-publics = accepted _ (c13 .pre .bound .indexed .ok) .few-publics;
+      few-bounds = accepted _ (c13 .pre .bound .indexed .ok) .few-bounds;
+    }
 
 returns-4 : tie.Need-returns-4
 unfolding wellFormed scheme
-returns-4 c = rw (same-yes (length (c .before .before .before .before .before .before .before .before .before .before .before .before .before .before .args .state .now)) (word (c .before .before .before .before .before .before .before .before .before .before .before .before .before .before .args .table .now) 3 + word (c .before .before .before .before .before .before .before .before .before .before .before .before .before .before .args .table .now) 1) (c .before .before .before .before .before .before .if1 .left ∙ rw (c .before .before .before .before .before .before .before .before .word16 .ensures .is, c .before .before .before .before .before .before .before .word162 .ensures .is)), sym (c .before .before .before .before .before .nodes-right .ensures) ∙ not-false _ (c .before .before .before .before .if2 .left), sym (c .before .before .before .names-right .ensures) ∙ not-false _ (c .before .before .if3 .left), sym (c .before .is-numbered .ensures) ∙ not-true _ (c .if4 .taken))
+returns-4 c =
+    let c1 = c .before in
+    let c2 = c1 .before in
+    let c3 = c2 .before in
+    let c4 = c3 .before in
+    let c5 = c4 .before in
+    let c6 = c5 .before in
+    let c7 = c6 .before in
+    let c8 = c7 .before in
+    let c15 = c8 .before .before .before .before .before .before .before in
+    rw (
+      same-yes (length (c15 .args .state .now)) (word (c15 .args .table .now) 3 + word (c15 .args .table .now) 1)
+          (c6 .if1 .left ∙ rw (c8 .word16 .ensures .is, c7 .word162 .ensures .is)),
+      sym (c5 .nodes-right .ensures) ∙ not-false _ (c4 .if2 .left),
+      sym (c3 .names-right .ensures) ∙ not-false _ (c2 .if3 .left),
+      sym (c1 .is-numbered .ensures) ∙ not-true _ (c .if4 .taken),
+    )
 
 all-restricted-right-requires : tie.Need-all-restricted-right-requires
 all-restricted-right-requires c κs = search needs
 
 returns-5 : tie.Need-returns-5
 unfolding wellFormed scheme
-returns-5 c = rw (same-yes (length (c .before .before .before .before .before .before .before .before .before .before .before .before .before .before .before .args .state .now)) (word (c .before .before .before .before .before .before .before .before .before .before .before .before .before .before .before .args .table .now) 3 + word (c .before .before .before .before .before .before .before .before .before .before .before .before .before .before .before .args .table .now) 1) (c .before .before .before .before .before .before .before .if1 .left ∙ rw (c .before .before .before .before .before .before .before .before .before .word16 .ensures .is, c .before .before .before .before .before .before .before .before .word162 .ensures .is)), sym (c .before .before .before .before .before .before .nodes-right .ensures) ∙ not-false _ (c .before .before .before .before .before .if2 .left), sym (c .before .before .before .before .names-right .ensures) ∙ not-false _ (c .before .before .before .if3 .left), sym (c .before .before .is-numbered .ensures) ∙ not-false _ (c .before .if4 .left), ← c .all-restricted-right .ensures)
+returns-5 c =
+    let c1 = c .before in
+    let c2 = c1 .before in
+    let c3 = c2 .before in
+    let c4 = c3 .before in
+    let c5 = c4 .before in
+    let c6 = c5 .before in
+    let c7 = c6 .before in
+    let c8 = c7 .before in
+    let c9 = c8 .before in
+    let c16 = c9 .before .before .before .before .before .before .before in
+    rw (
+      same-yes (length (c16 .args .state .now)) (word (c16 .args .table .now) 3 + word (c16 .args .table .now) 1)
+          (c7 .if1 .left ∙ rw (c9 .word16 .ensures .is, c8 .word162 .ensures .is)),
+      sym (c6 .nodes-right .ensures) ∙ not-false _ (c5 .if2 .left),
+      sym (c4 .names-right .ensures) ∙ not-false _ (c3 .if3 .left),
+      sym (c2 .is-numbered .ensures) ∙ not-false _ (c1 .if4 .left),
+      ← c .all-restricted-right .ensures,
+    )
 
 pub well-formed-spec : {M : Type 1} → statement M
 well-formed-spec =

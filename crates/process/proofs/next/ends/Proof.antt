@@ -15,7 +15,7 @@ name-thread-requires c κs = search needs
 
 returns : tie.Need-returns
 unfolding same
-returns c = rw (sym (c .before .before .is-stop .ensures) ∙ c .before .if1 .taken, ← c .name-thread .ensures .is)
+returns c = rw (sym (c .before .before .is-stop .ensures) ∙ c .before .if1 .taken, ← c .name-thread .ensures)
 
 returns-2 : tie.Need-returns-2
 returns-2 c = rw (sym (c .before .is-stop .ensures) ∙ c .if1 .left)

@@ -19,10 +19,12 @@ use Rattle.process.proofs.next.fill_values.Statement.{statement}
 use Rattle.process.proofs.next.fill_values.Tie as tie
 
 abbrev Inv-loop : tie.InvT-loop
-Inv-loop table homes definitions state step values₀ publics bounds i₀ values i = (map valueAt (slice 0 i values) ≡ map (take (scheme table) (meant step) (stateOf (scheme table) state) .value) (from publics i)) × ((length values ≡ length values₀) × (i ≤ bounds))
+Inv-loop table homes definitions binders state step values₀ publics bounds i₀ values i =
+    (map valueAt (slice 0 i values) ≡ map (take (scheme table) (meant step) (stateOf (scheme table) state) .value) (from publics i))
+    × ((length values ≡ length values₀) × (i ≤ bounds))
 
 abbrev μ-loop : tie.MeasureT-loop
-μ-loop table homes definitions state step values₀ publics bounds i₀ values i = bounds - i
+μ-loop table homes definitions binders state step values₀ publics bounds i₀ values i = bounds - i
 
 word16-requires : tie.Need-word16-requires Inv-loop μ-loop
 word16-requires c κs = search needs
@@ -55,8 +57,14 @@ loop-again : tie.Need-loop-again Inv-loop μ-loop
 loop-again c =
     let l = c .before .before .before .before .before .before .loop in
     let s = c .before .before .store16 in
-    let k : l .i < length (l .values) = omega (arith, l .inv .1 .0, c .before .before .before .before .before .before .before .before .before .before .before .before .before .before .pre .1, c .before .before .before .before .before .before .before .word162 .ensures .is, few-bounds _ (c .before .before .before .before .before .before .before .before .before .before .before .before .before .before .pre .0 .indexed .ok), c .before .before .before .before .before .loop-test .taken) in
-    (rw (s .ensures) (fill-more _ _ (l .i) _ (l .values) k (c .before .before .before .value-after .ensures .is) (l .inv .0)), (rw (s .ensures) (length-set (l .values) (l .i) (c .before .before .before .value-after .result) ∙ l .inv .1 .0), omega (arith, c .before .before .before .before .before .loop-test .taken)))
+    let v = c .before .before .before .value-after in
+    let t = c .before .before .before .before .before .loop-test .taken in
+    let b = c .before .before .before .before .before .before .before in
+    let p = b .before .before .before .before .before .before .before .before .pre in
+    let k : l .i < length (l .values) = omega (arith, l .inv .1 .0, p .1, b .word162 .ensures .is, few-bounds _ (p .0 .bound .indexed .ok), t) in (
+      rw (s .ensures) (fill-more _ _ (l .i) _ (l .values) k (v .ensures .is) (l .inv .0)),
+      (rw (s .ensures) (length-set (l .values) (l .i) (v .result) ∙ l .inv .1 .0), omega (arith, t)),
+    )
 
 same-length : tie.Need-same-length Inv-loop μ-loop
 same-length c = c .before .loop .inv .1 .0
@@ -64,8 +72,10 @@ same-length c = c .before .loop .inv .1 .0
 returns : tie.Need-returns Inv-loop μ-loop
 returns c =
     let l = c .before .loop in
-    let e : l .i ≡ boundCount (c .before .before .before .before .before .before .before .before .before .args .table .now) = omega (arith, c .before .before .word162 .ensures .is, l .inv .1 .1, c .loop-test .left) in
-    rw (← e, ← c .before .before .before .word16 .ensures .is) (l .inv .0)
+    let b = c .before .before in
+    let a = b .before .before .before .before .before .before .before .before .args in
+    let e : l .i ≡ boundCount (a .table .now) = omega (arith, b .word162 .ensures .is, l .inv .1 .1, c .loop-test .left) in
+    rw (← e, ← b .before .word16 .ensures .is) (l .inv .0)
 
 pub fill-values-spec : {M : Type 1} → statement M
 fill-values-spec =

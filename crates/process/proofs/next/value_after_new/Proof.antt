@@ -1,4 +1,5 @@
 -- `process::next::value_after_new` meets its contract.
+-- `cN` is the place N steps before `c`.
 use mathlib.Core.Path.{_≡_, refl, sym, ap, _∙_}
 use native.Mathlib.Omega.{arith}
 use Rattle.process.proofs.Taking.{new-ends, new-takes, new-keeps}
@@ -16,7 +17,12 @@ ends-requires : tie.Need-ends-requires
 ends-requires c κs = search needs
 
 returns : tie.Need-returns
-returns c = new-ends _ _ _ _ _ _ _ _ (c .before .before .before .before .before .before .before .before .pre) (c .before .before .before .node-thread .ensures .is) (c .before .before .field3 .ensures .is) (sym (c .before .ends .ensures) ∙ c .if1 .taken)
+returns c =
+    let c1 = c .before in
+    let c2 = c1 .before in
+    let c3 = c2 .before in
+    let c9 = c3 .before .before .before .before .before .before in
+    new-ends _ _ _ _ _ _ _ _ (c9 .pre .going) (c3 .node-thread .ensures .is) (c2 .field3 .ensures .is) (sym (c1 .ends .ensures) ∙ c .if1 .taken)
 
 field3-requires-2 : tie.Need-field3-requires-2
 field3-requires-2 c κs = search needs
@@ -31,13 +37,32 @@ add-result : tie.Need-add-result
 add-result c = search needs
 
 returns-2 : tie.Need-returns-2
-returns-2 c = new-takes _ _ _ _ _ _ _ _ (c .before .before .before .before .before .before .before .before .before .before .before .before .pre) (c .before .before .before .before .before .before .before .node-thread .ensures .is) (c .before .before .before .before .before .before .field3 .ensures .is) _ _ (sym (c .before .before .before .before .before .ends .ensures) ∙ c .before .before .before .before .if1 .left) (c .before .before .before .field32 .ensures .is) (c .before .before .if2 .taken) (rw (c .before .word16 .ensures .is, c .word162 .ensures .is))
+returns-2 c =
+    let c1 = c .before in
+    let c2 = c1 .before in
+    let c3 = c2 .before in
+    let c4 = c3 .before in
+    let c5 = c4 .before in
+    let c6 = c5 .before in
+    let c7 = c6 .before in
+    let c13 = c7 .before .before .before .before .before .before in
+    new-takes _ _ _ _ _ _ _ _ (c13 .pre .going) (c7 .node-thread .ensures .is) (c6 .field3 .ensures .is) _ _ (sym (c5 .ends .ensures) ∙ c4 .if1 .left)
+    (c3 .field32 .ensures .is) (c2 .if2 .taken) (rw (c1 .word16 .ensures .is, c .word162 .ensures .is))
 
 value-of-requires : tie.Need-value-of-requires
 value-of-requires c κs = search needs
 
 returns-3 : tie.Need-returns-3
-returns-3 c = new-keeps _ _ _ _ _ _ _ _ (c .before .before .before .before .before .before .before .before .before .before .before .pre) (c .before .before .before .before .before .before .node-thread .ensures .is) (c .before .before .before .before .before .field3 .ensures .is) _ _ (sym (c .before .before .before .before .ends .ensures) ∙ c .before .before .before .if1 .left) (c .before .before .field32 .ensures .is) (c .before .if2 .left) (c .value-of .ensures)
+returns-3 c =
+    let c1 = c .before in
+    let c2 = c1 .before in
+    let c3 = c2 .before in
+    let c4 = c3 .before in
+    let c5 = c4 .before in
+    let c6 = c5 .before in
+    let c12 = c6 .before .before .before .before .before .before in
+    new-keeps _ _ _ _ _ _ _ _ (c12 .pre .going) (c6 .node-thread .ensures .is) (c5 .field3 .ensures .is) _ _ (sym (c4 .ends .ensures) ∙ c3 .if1 .left)
+    (c2 .field32 .ensures .is) (c1 .if2 .left) (c .value-of .ensures)
 
 pub value-after-new-spec : {M : Type 1} → statement M
 value-after-new-spec =

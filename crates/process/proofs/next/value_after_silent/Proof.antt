@@ -1,4 +1,5 @@
 -- `process::next::value_after_silent` meets its contract.
+-- `cN` is the place N steps before `c`.
 use mathlib.Core.Path.{_≡_, refl, sym, ap, _∙_}
 use native.Mathlib.Omega.{arith}
 use Rattle.process.proofs.Taking.{silent-ends, silent-keeps}
@@ -16,13 +17,25 @@ ends-requires : tie.Need-ends-requires
 ends-requires c κs = search needs
 
 returns : tie.Need-returns
-returns c = silent-ends _ _ _ _ _ _ _ _ (c .before .before .before .before .before .before .before .before .pre) (c .before .before .before .branch-thread .ensures .is) (c .before .before .field4 .ensures .is) (sym (c .before .ends .ensures) ∙ c .if1 .taken)
+returns c =
+    let c1 = c .before in
+    let c2 = c1 .before in
+    let c3 = c2 .before in
+    let c9 = c3 .before .before .before .before .before .before in
+    silent-ends _ _ _ _ _ _ _ _ (c9 .pre .going) (c3 .branch-thread .ensures .is) (c2 .field4 .ensures .is) (sym (c1 .ends .ensures) ∙ c .if1 .taken)
 
 value-of-requires : tie.Need-value-of-requires
 value-of-requires c κs = search needs
 
 returns-2 : tie.Need-returns-2
-returns-2 c = silent-keeps _ _ _ _ _ _ _ _ (c .before .before .before .before .before .before .before .before .before .pre) (c .before .before .before .before .branch-thread .ensures .is) (c .before .before .before .field4 .ensures .is) _ (sym (c .before .before .ends .ensures) ∙ c .before .if1 .left) (c .value-of .ensures)
+returns-2 c =
+    let c1 = c .before in
+    let c2 = c1 .before in
+    let c3 = c2 .before in
+    let c4 = c3 .before in
+    let c10 = c4 .before .before .before .before .before .before in
+    silent-keeps _ _ _ _ _ _ _ _ (c10 .pre .going) (c4 .branch-thread .ensures .is) (c3 .field4 .ensures .is) _
+    (sym (c2 .ends .ensures) ∙ c1 .if1 .left) (c .value-of .ensures)
 
 pub value-after-silent-spec : {M : Type 1} → statement M
 value-after-silent-spec =

@@ -1,4 +1,5 @@
 -- `process::next::write_values` meets its contract: the values are filled in, then numbered.
+-- `cN` is the place N steps before `c`.
 use mathlib.Core.Path.{_≡_, refl, sym, ap, _∙_}
 use native.Mathlib.Omega.{arith}
 use Rattle.process.proofs.Taking.{few-publics, few-bounds}
@@ -41,10 +42,13 @@ same-length c = search needs
 
 returns : tie.Need-returns
 returns c =
-    let ok = c .before .before .before .before .before .before .before .before .before .before .before .before .before .before .before .before .pre .indexed .ok in
-    let p = c .before .before .before .before .before .before .before .before .before .before .word16 .ensures .is in
-    let b = c .before .before .before .before .before .before .before .before .before .word162 .ensures .is in
-    let t = c .before .before .before .before .before .before .before .before .word163 .ensures .is in
+    let c8 = c .before .before .before .before .before .before .before .before in
+    let c9 = c8 .before in
+    let c10 = c9 .before in
+    let ok = c10 .before .before .before .before .before .before .before .pre .bound .indexed .ok in
+    let p = c10 .word16 .ensures .is in
+    let b = c9 .word162 .ensures .is in
+    let t = c8 .word163 .ensures .is in
     c .before .before .number-values .ensures (omega (arith, p, few-publics _ ok)) (omega (arith, b, few-bounds _ ok)) (omega (arith, b, few-bounds _ ok))
     ∙ rw (p, b, t, c .before .before .before .before .before .before .fill-values .ensures)
 
