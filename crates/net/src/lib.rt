@@ -416,7 +416,8 @@ fn larger(a: usize, b: usize) -> usize
 // below `seen` were met in an earlier search and found right, and are not looked over again.
 fn run_on(image: &[u32], marking: &mut [u8], limit: usize, history: &mut [u32]) -> Ran
     requires { ⌜ Header (now image) × (length (now marking) ≡ placeCount (now image)) ⌝ }
-    ensures { λ r. ⌜ Leaves (runFrom (now (image .entry)) limit (length (now (history .entry))) (now (marking .entry))) r
+    ensures { λ r. ⌜ Leaves (runFrom (now (image .entry)) limit (length (now (history .entry))) (now (marking .entry)))
+        r
         (now (marking .exit)) (now (history .exit)) (now (history .entry)) ⌝ }
 {
     let count = image[1] as usize;

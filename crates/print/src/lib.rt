@@ -273,8 +273,8 @@ fn number_with(odd: bool, number: usize) -> usize
     3
 }
 
-// What the listing program prints of its input, as far as `out` reaches; the answer is the number of bytes written. Input longer than any table
-// is told by its first words.
+// What the listing program prints of its input, as far as `out` reaches; the answer is the number of bytes written.
+// Input longer than any table is told by its first words.
 pub fn list(bytes: &[u8], out: &mut [u8]) -> usize
     ensures { λ r. ⌜ now (out .exit) ≡ sets (now (out .entry)) 0 (programText (now (bytes .entry))) ⌝ }
     ensures { λ r. ⌜ r ≡ min (length (programText (now (bytes .entry)))) (length (now (out .entry))) ⌝ }

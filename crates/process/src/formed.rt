@@ -9,7 +9,8 @@ ghost use Rattle.table.specs.Words.{publics, bounds, threads};
 ghost use Rattle.table.specs.Kinds.{isStop};
 ghost use Rattle.table.specs.Scheme.{scheme};
 ghost use Rattle.process.specs.States.{oneValue};
-ghost use Rattle.process.specs.StateWords.{stateOf, stateWords, holdsAt, nodeRight, nameRight, restrictedRight, sameList, wellFormed};
+ghost use Rattle.process.specs.StateWords.{stateOf, stateWords, holdsAt, nodeRight, nameRight, restrictedRight};
+ghost use Rattle.process.specs.StateWords.{sameList, wellFormed};
 ghost use Rattle.process.specs.Inner.Index.{Indexed, Owned, Known, Sized};
 ghost use Rattle.process.specs.Inner.Values.{nextSeen};
 use crate::threads::is_stop;
@@ -40,7 +41,8 @@ fn is_listed(names: &[u32], count: usize, name: usize) -> bool
 // Whether a name is to have a value at a node: the node holds it, and is no Stop.
 fn holds(table: &[u16], owners: &[u32], homes: &[u32], node: usize, name: usize) -> bool
     requires { ⌜ Owned (now table) (now owners) (now homes) × (node < 65536) ⌝ }
-    ensures { λ r. ⌜ r ≡ (not (isStop (scheme (now (table .entry)) .node node)) && member name (scheme (now (table .entry)) .held node)) ⌝ }
+    ensures { λ r. ⌜ r ≡ (not (isStop (scheme (now (table .entry)) .node node))
+        && member name (scheme (now (table .entry)) .held node)) ⌝ }
 {
     if is_stop(table, node) {
         return false;
@@ -61,7 +63,8 @@ fn is_held(
     name: usize,
 ) -> bool
     requires { ⌜ Known (now table) (now owners) (now homes) (now definitions) (now binders) ⌝ }
-    ensures { λ r. ⌜ r ≡ holdsAt (scheme (now (table .entry))) (stateOf (scheme (now (table .entry))) (now (state .entry))) name ⌝ }
+    ensures { λ r. ⌜ r ≡ holdsAt (scheme (now (table .entry)))
+        (stateOf (scheme (now (table .entry))) (now (state .entry))) name ⌝ }
 {
     let thread = name_thread(table, homes, definitions, binders, name);
     holds(table, owners, homes, word16(state, thread), name)
@@ -78,7 +81,8 @@ fn name_right(
     name: usize,
 ) -> bool
     requires { ⌜ Known (now table) (now owners) (now homes) (now definitions) (now binders) ⌝ }
-    ensures { λ r. ⌜ r ≡ nameRight (scheme (now (table .entry))) (stateOf (scheme (now (table .entry))) (now (state .entry))) name ⌝ }
+    ensures { λ r. ⌜ r ≡ nameRight (scheme (now (table .entry)))
+        (stateOf (scheme (now (table .entry))) (now (state .entry))) name ⌝ }
 {
     let value = value_of(table, state, name);
     let held = is_held(table, owners, homes, definitions, binders, state, name);
@@ -100,7 +104,9 @@ fn names_right(
     state: &[u16],
 ) -> bool
     requires { ⌜ Known (now table) (now owners) (now homes) (now definitions) (now binders) ⌝ }
-    ensures { λ r. ⌜ r ≡ every (nameRight (scheme (now (table .entry))) (stateOf (scheme (now (table .entry))) (now (state .entry)))) (from (publics (now (table .entry))) (bounds (now (table .entry)))) ⌝ }
+    ensures { λ r. ⌜ r ≡ every
+        (nameRight (scheme (now (table .entry))) (stateOf (scheme (now (table .entry))) (now (state .entry))))
+        (from (publics (now (table .entry))) (bounds (now (table .entry)))) ⌝ }
 {
     let first = word16(table, 0);
     let end = first + word16(table, 1);
@@ -123,7 +129,8 @@ fn node_right(
     thread: usize,
 ) -> bool
     requires { ⌜ Indexed (now table) (now homes) (now definitions) ⌝ }
-    ensures { λ r. ⌜ r ≡ nodeRight (scheme (now (table .entry))) (stateOf (scheme (now (table .entry))) (now (state .entry))) thread ⌝ }
+    ensures { λ r. ⌜ r ≡ nodeRight (scheme (now (table .entry)))
+        (stateOf (scheme (now (table .entry))) (now (state .entry))) thread ⌝ }
 {
     let node = word16(state, thread);
     if node < word16(table, 4) {
@@ -134,7 +141,9 @@ fn node_right(
 
 fn nodes_right(table: &[u16], homes: &[u32], definitions: &[u16], state: &[u16]) -> bool
     requires { ⌜ Indexed (now table) (now homes) (now definitions) ⌝ }
-    ensures { λ r. ⌜ r ≡ every (nodeRight (scheme (now (table .entry))) (stateOf (scheme (now (table .entry))) (now (state .entry)))) (range (threads (now (table .entry)))) ⌝ }
+    ensures { λ r. ⌜ r ≡ every
+        (nodeRight (scheme (now (table .entry))) (stateOf (scheme (now (table .entry))) (now (state .entry))))
+        (range (threads (now (table .entry)))) ⌝ }
 {
     let threads = word16(table, 3);
     let mut t = 0;
@@ -170,7 +179,9 @@ fn next_seen(publics: usize, seen: usize, value: usize) -> usize
 // Whether the private values are numbered by first appearance.
 fn is_numbered(table: &[u16], state: &[u16]) -> bool
     requires { ⌜ Sized (now table) (now state) ⌝ }
-    ensures { λ r. ⌜ r ≡ sameList (scheme (now (table .entry))) (stateWords (scheme (now (table .entry))) (stateOf (scheme (now (table .entry))) (now (state .entry)))) (now (state .entry)) ⌝ }
+    ensures { λ r. ⌜ r ≡ sameList (scheme (now (table .entry)))
+        (stateWords (scheme (now (table .entry))) (stateOf (scheme (now (table .entry))) (now (state .entry))))
+        (now (state .entry)) ⌝ }
 {
     let publics = word16(table, 0);
     let threads = word16(table, 3);
@@ -203,7 +214,10 @@ fn is_restricted(table: &[u16], name: usize) -> bool
 
 // Whether two names are one, or do not both have one value, or the second is not restricted.
 fn is_apart(table: &[u16], state: &[u16], name: usize, other: usize) -> bool
-    ensures { λ r. ⌜ r ≡ (not (scheme (now (table .entry)) .restricted other) || (same name other || not (oneValue (stateOf (scheme (now (table .entry))) (now (state .entry)) .value name) (stateOf (scheme (now (table .entry))) (now (state .entry)) .value other)))) ⌝ }
+    ensures { λ r. ⌜ r ≡ (not (scheme (now (table .entry)) .restricted other) ||
+        (same name other || not
+        (oneValue (stateOf (scheme (now (table .entry))) (now (state .entry)) .value name)
+        (stateOf (scheme (now (table .entry))) (now (state .entry)) .value other)))) ⌝ }
 {
     if !is_restricted(table, other) {
         return true;
@@ -215,7 +229,11 @@ fn is_apart(table: &[u16], state: &[u16], name: usize, other: usize) -> bool
 }
 
 fn is_unshared(table: &[u16], state: &[u16], name: usize) -> bool
-    ensures { λ r. ⌜ r ≡ every (λ y. not (scheme (now (table .entry)) .restricted y) || (same name y || not (oneValue (stateOf (scheme (now (table .entry))) (now (state .entry)) .value name) (stateOf (scheme (now (table .entry))) (now (state .entry)) .value y)))) (from (publics (now (table .entry))) (bounds (now (table .entry)))) ⌝ }
+    ensures { λ r. ⌜ r ≡ every
+        (λ y. not (scheme (now (table .entry)) .restricted y) ||
+        (same name y || not (oneValue (stateOf (scheme (now (table .entry))) (now (state .entry)) .value name)
+        (stateOf (scheme (now (table .entry))) (now (state .entry)) .value y))))
+        (from (publics (now (table .entry))) (bounds (now (table .entry)))) ⌝ }
 {
     let first = word16(table, 0);
     let end = first + word16(table, 1);
@@ -231,7 +249,8 @@ fn is_unshared(table: &[u16], state: &[u16], name: usize) -> bool
 
 // Whether a name, if restricted, has a private value that no other restricted name has.
 fn restricted_right(table: &[u16], state: &[u16], name: usize) -> bool
-    ensures { λ r. ⌜ r ≡ restrictedRight (scheme (now (table .entry))) (stateOf (scheme (now (table .entry))) (now (state .entry))) name ⌝ }
+    ensures { λ r. ⌜ r ≡ restrictedRight (scheme (now (table .entry)))
+        (stateOf (scheme (now (table .entry))) (now (state .entry))) name ⌝ }
 {
     if !is_restricted(table, name) {
         return true;
@@ -243,7 +262,9 @@ fn restricted_right(table: &[u16], state: &[u16], name: usize) -> bool
 }
 
 fn all_restricted_right(table: &[u16], state: &[u16]) -> bool
-    ensures { λ r. ⌜ r ≡ every (restrictedRight (scheme (now (table .entry))) (stateOf (scheme (now (table .entry))) (now (state .entry)))) (from (publics (now (table .entry))) (bounds (now (table .entry)))) ⌝ }
+    ensures { λ r. ⌜ r ≡ every
+        (restrictedRight (scheme (now (table .entry))) (stateOf (scheme (now (table .entry))) (now (state .entry))))
+        (from (publics (now (table .entry))) (bounds (now (table .entry)))) ⌝ }
 {
     let first = word16(table, 0);
     let end = first + word16(table, 1);

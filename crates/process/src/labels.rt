@@ -45,7 +45,8 @@ pub enum Open {
 }
 
 fn new_named(table: &[u16], node: usize, name: usize) -> Named
-    ensures { λ r. ⌜ named r ≡ newNamed (scheme (now (table .entry))) node name (scheme (now (table .entry)) .node node) ⌝ }
+    ensures { λ r. ⌜ named r
+        ≡ newNamed (scheme (now (table .entry))) node name (scheme (now (table .entry)) .node node) ⌝ }
 {
     if !node_is(table, node, 2) {
         return Named::Nothing;
@@ -57,7 +58,8 @@ fn new_named(table: &[u16], node: usize, name: usize) -> Named
 }
 
 fn silent_named(table: &[u16], branch: usize, zero: usize) -> Named
-    ensures { λ r. ⌜ named r ≡ silentNamed (scheme (now (table .entry))) branch zero (scheme (now (table .entry)) .branch branch) ⌝ }
+    ensures { λ r. ⌜ named r
+        ≡ silentNamed (scheme (now (table .entry))) branch zero (scheme (now (table .entry)) .branch branch) ⌝ }
 {
     if !branch_is(table, branch, 0) {
         return Named::Nothing;
@@ -69,7 +71,8 @@ fn silent_named(table: &[u16], branch: usize, zero: usize) -> Named
 }
 
 fn call_named(table: &[u16], node: usize, zero: usize) -> Named
-    ensures { λ r. ⌜ named r ≡ callNamed (scheme (now (table .entry))) node zero (scheme (now (table .entry)) .node node) ⌝ }
+    ensures { λ r. ⌜ named r
+        ≡ callNamed (scheme (now (table .entry))) node zero (scheme (now (table .entry)) .node node) ⌝ }
 {
     if !node_is(table, node, 3) {
         return Named::Nothing;
@@ -138,7 +141,8 @@ pub(crate) fn stands(
     node: usize,
 ) -> bool
     requires { ⌜ Indexed (now table) (now homes) (now definitions) ⌝ }
-    ensures { λ r. ⌜ r ≡ standsAt (scheme (now (table .entry))) (stateOf (scheme (now (table .entry))) (now (state .entry))) node ⌝ }
+    ensures { λ r. ⌜ r ≡ standsAt (scheme (now (table .entry)))
+        (stateOf (scheme (now (table .entry))) (now (state .entry))) node ⌝ }
 {
     let thread = node_thread(table, homes, definitions, node);
     word16(state, thread) == node
@@ -154,7 +158,8 @@ pub(crate) fn can_meet(
     receive: usize,
 ) -> bool
     requires { ⌜ Indexed (now table) (now homes) (now definitions) ⌝ }
-    ensures { λ r. ⌜ r ≡ isOpen (scheme (now (table .entry))) (stateOf (scheme (now (table .entry))) (now (state .entry))) (communication send receive) ⌝ }
+    ensures { λ r. ⌜ r ≡ isOpen (scheme (now (table .entry)))
+        (stateOf (scheme (now (table .entry))) (now (state .entry))) (communication send receive) ⌝ }
 {
     if !branch_is(table, send, 1) {
         return false;
@@ -182,7 +187,8 @@ pub(crate) fn can_meet(
 // Whether a step is open: its threads stand at its nodes, and for a communication both channels have one value.
 fn is_open(table: &[u16], homes: &[u32], definitions: &[u16], state: &[u16], step: Step) -> bool
     requires { ⌜ Indexed (now table) (now homes) (now definitions) ⌝ }
-    ensures { λ r. ⌜ r ≡ isOpen (scheme (now (table .entry))) (stateOf (scheme (now (table .entry))) (now (state .entry))) (meant step) ⌝ }
+    ensures { λ r. ⌜ r ≡ isOpen (scheme (now (table .entry)))
+        (stateOf (scheme (now (table .entry))) (now (state .entry))) (meant step) ⌝ }
 {
     match step {
         Step::New(n) => {
@@ -218,7 +224,9 @@ pub(crate) fn open_step(
     b: u32,
 ) -> Open
     requires { ⌜ Indexed (now table) (now homes) (now definitions) ⌝ }
-    ensures { λ r. ⌜ opened r ≡ ifOpen (scheme (now (table .entry))) (stateOf (scheme (now (table .entry))) (now (state .entry))) (stepOf (scheme (now (table .entry))) kind a b) ⌝ }
+    ensures { λ r. ⌜ opened r
+        ≡ ifOpen (scheme (now (table .entry))) (stateOf (scheme (now (table .entry))) (now (state .entry)))
+        (stepOf (scheme (now (table .entry))) kind a b) ⌝ }
 {
     match step_named(table, homes, definitions, kind, a as usize, b as usize) {
         Named::Process(s) => {

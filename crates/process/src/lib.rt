@@ -1,7 +1,7 @@
 // The process rules: the starting state, the steps that are open in a state, and the state after one of them.
 //
-// A state goes in and out as words. Each call checks the table, then the state words, then what it is asked for, and last the lent output;
-// a refusal leaves the output as it was.
+// A state goes in and out as words. Each call checks the table, then the state words, then what it is asked for, and
+// last the lent output; a refusal leaves the output as it was.
 mod formed;
 mod labels;
 mod listing;
@@ -39,7 +39,9 @@ pub enum Answer {
 
 // Writes the root of each thread's entry definition.
 fn write_roots(table: &[u16], out: &mut [u16])
-    ensures { λ r. ⌜ now (out .exit) ≡ sets (now (out .entry)) 0 (map (λ t. root (now (table .entry)) (entry (now (table .entry)) t)) (range (threads (now (table .entry))))) ⌝ }
+    ensures { λ r. ⌜ now (out .exit)
+        ≡ sets (now (out .entry)) 0
+        (map (λ t. root (now (table .entry)) (entry (now (table .entry)) t)) (range (threads (now (table .entry))))) ⌝ }
 {
     let threads = word16(table, 3);
     let mut t = 0;
@@ -51,7 +53,8 @@ fn write_roots(table: &[u16], out: &mut [u16])
 
 // Writes for each bound name that it is not held.
 fn write_unheld(table: &[u16], out: &mut [u16])
-    ensures { λ r. ⌜ now (out .exit) ≡ sets (now (out .entry)) (threads (now (table .entry))) (replicate (bounds (now (table .entry))) 65535) ⌝ }
+    ensures { λ r. ⌜ now (out .exit)
+        ≡ sets (now (out .entry)) (threads (now (table .entry))) (replicate (bounds (now (table .entry))) 65535) ⌝ }
 {
     let threads = word16(table, 3);
     let bounds = word16(table, 1);
@@ -99,7 +102,8 @@ fn fill_index(
 
 // The labels of the open steps, three words each.
 pub fn open_steps(table: &[u16], state: &[u16], labels: &mut [u32]) -> Answer
-    ensures { λ r. ⌜ outcomeOf r (now (labels .exit)) ≡ openOutcome (now (table .entry)) (now (state .entry)) (now (labels .entry)) ⌝ }
+    ensures { λ r. ⌜ outcomeOf r (now (labels .exit))
+        ≡ openOutcome (now (table .entry)) (now (state .entry)) (now (labels .entry)) ⌝ }
 {
     let verdict = table::check(table);
     if !table::is_accepted(verdict) {
@@ -128,7 +132,8 @@ pub fn open_steps(table: &[u16], state: &[u16], labels: &mut [u32]) -> Answer
 
 // The words of the state after the step that a label names.
 pub fn step(table: &[u16], state: &[u16], kind: u32, a: u32, b: u32, next: &mut [u16]) -> Answer
-    ensures { λ r. ⌜ outcomeOf r (now (next .exit)) ≡ stepOutcome (now (table .entry)) (now (state .entry)) kind a b (now (next .entry)) ⌝ }
+    ensures { λ r. ⌜ outcomeOf r (now (next .exit))
+        ≡ stepOutcome (now (table .entry)) (now (state .entry)) kind a b (now (next .entry)) ⌝ }
 {
     let verdict = table::check(table);
     if !table::is_accepted(verdict) {

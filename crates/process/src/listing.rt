@@ -1,6 +1,7 @@
 // The open steps of a state, listed as labels of three words.
 //
-// The sends and receives of the nodes where threads stand are gathered once, and only they are tried against each other.
+// The sends and receives of the nodes where threads stand are gathered once, and only they are tried against each
+// other.
 ghost use mathlib.Core.Path.{_≡_};
 ghost use mathlib.Core.List.{[], _∷_};
 ghost use Prim.Native.Nat.{_+_, _≤_, _<_};
@@ -12,7 +13,9 @@ ghost use Rattle.table.specs.Scheme.{scheme};
 ghost use Rattle.process.specs.Labels.{openLabels};
 ghost use Rattle.process.specs.StateWords.{stateOf};
 ghost use Rattle.process.specs.Inner.Index.{Indexed};
-ghost use Rattle.process.specs.Inner.Listed.{Listed, far, near, silentWords, stepWords, nodeWords, pairWords, pairsWords, meetingWords, listWords, standing, Pairing, Meeting, Fitted};
+ghost use Rattle.process.specs.Inner.Listed.{Listed, far, near, silentWords, stepWords, nodeWords, pairWords};
+ghost use Rattle.process.specs.Inner.Listed.{pairsWords, meetingWords, listWords, standing, Pairing, Meeting};
+ghost use Rattle.process.specs.Inner.Listed.{Fitted};
 use crate::labels::can_meet;
 use crate::labels::stands;
 use crate::threads::branch_is;
@@ -35,7 +38,8 @@ fn write_label(out: &mut [u32], at: usize, kind: u32, a: u32, b: u32) -> usize
 
 fn list_branch(table: &[u16], branch: usize, at: usize, out: &mut [u32]) -> usize
     requires { ⌜ (branch < 4294967296) × (at < far) ⌝ }
-    ensures { λ r. ⌜ Listed 3 (silentWords (scheme (now (table .entry))) branch) (now (out .entry)) at (now (out .exit)) r ⌝ }
+    ensures { λ r. ⌜ Listed 3 (silentWords (scheme (now (table .entry))) branch) (now (out .entry)) at (now (out .exit))
+        r ⌝ }
 {
     if branch_is(table, branch, 0) {
         return write_label(out, at, 3, branch as u32, 0);
@@ -45,7 +49,8 @@ fn list_branch(table: &[u16], branch: usize, at: usize, out: &mut [u32]) -> usiz
 
 fn list_branches(table: &[u16], first: usize, count: usize, at: usize, out: &mut [u32]) -> usize
     requires { ⌜ (first < 65536) × (count < 65536) × (at < near) ⌝ }
-    ensures { λ r. ⌜ Listed 196608 (flat (silentWords (scheme (now (table .entry)))) (from first count)) (now (out .entry)) at (now (out .exit)) r ⌝ }
+    ensures { λ r. ⌜ Listed 196608 (flat (silentWords (scheme (now (table .entry)))) (from first count))
+        (now (out .entry)) at (now (out .exit)) r ⌝ }
 {
     let end = first + count;
     let mut b = first;
@@ -60,7 +65,8 @@ fn list_branches(table: &[u16], first: usize, count: usize, at: usize, out: &mut
 // The steps of a node: those of a New or a Call, or the silent branches of a Choice.
 fn list_steps(table: &[u16], node: usize, at: usize, out: &mut [u32]) -> usize
     requires { ⌜ (node < 65536) × (at < near) ⌝ }
-    ensures { λ r. ⌜ Listed 196608 (stepWords (scheme (now (table .entry))) node) (now (out .entry)) at (now (out .exit)) r ⌝ }
+    ensures { λ r. ⌜ Listed 196608 (stepWords (scheme (now (table .entry))) node) (now (out .entry)) at
+        (now (out .exit)) r ⌝ }
 {
     if node_is(table, node, 1) {
         return list_branches(
@@ -90,7 +96,9 @@ fn list_node(
     out: &mut [u32],
 ) -> usize
     requires { ⌜ Indexed (now table) (now homes) (now definitions) × (node < 65536) × (at < near) ⌝ }
-    ensures { λ r. ⌜ Listed 196608 (nodeWords (scheme (now (table .entry))) (stateOf (scheme (now (table .entry))) (now (state .entry))) node) (now (out .entry)) at (now (out .exit)) r ⌝ }
+    ensures { λ r. ⌜ Listed 196608
+        (nodeWords (scheme (now (table .entry))) (stateOf (scheme (now (table .entry))) (now (state .entry))) node)
+        (now (out .entry)) at (now (out .exit)) r ⌝ }
 {
     if stands(table, homes, definitions, state, node) {
         return list_steps(table, node, at, out);
@@ -106,7 +114,9 @@ fn list_nodes(
     out: &mut [u32],
 ) -> usize
     requires { ⌜ Indexed (now table) (now homes) (now definitions) ⌝ }
-    ensures { λ r. ⌜ Listed 12884901888 (flat (nodeWords (scheme (now (table .entry))) (stateOf (scheme (now (table .entry))) (now (state .entry)))) (range (nodes (now (table .entry))))) (now (out .entry)) 0 (now (out .exit)) r ⌝ }
+    ensures { λ r. ⌜ Listed 12884901888
+        (flat (nodeWords (scheme (now (table .entry))) (stateOf (scheme (now (table .entry))) (now (state .entry))))
+        (range (nodes (now (table .entry))))) (now (out .entry)) 0 (now (out .exit)) r ⌝ }
 {
     let nodes = word16(table, 4);
     let mut n = 0;
@@ -129,7 +139,9 @@ fn gather_branch(
     out: &mut [u32],
 ) -> usize
     requires { ⌜ Indexed (now table) (now homes) (now definitions) × (branch < 65536) × (at < far) ⌝ }
-    ensures { λ r. ⌜ Listed 1 (standing (now (table .entry)) (stateOf (scheme (now (table .entry))) (now (state .entry))) kind branch) (now (out .entry)) at (now (out .exit)) r ⌝ }
+    ensures { λ r. ⌜ Listed 1
+        (standing (now (table .entry)) (stateOf (scheme (now (table .entry))) (now (state .entry))) kind branch)
+        (now (out .entry)) at (now (out .exit)) r ⌝ }
 {
     if !branch_is(table, branch, kind) {
         return at;
@@ -151,7 +163,9 @@ fn gather(
     out: &mut [u32],
 ) -> usize
     requires { ⌜ Indexed (now table) (now homes) (now definitions) ⌝ }
-    ensures { λ r. ⌜ Listed (branches (now (table .entry))) (flat (standing (now (table .entry)) (stateOf (scheme (now (table .entry))) (now (state .entry))) kind) (range (branches (now (table .entry))))) (now (out .entry)) 0 (now (out .exit)) r ⌝ }
+    ensures { λ r. ⌜ Listed (branches (now (table .entry)))
+        (flat (standing (now (table .entry)) (stateOf (scheme (now (table .entry))) (now (state .entry))) kind)
+        (range (branches (now (table .entry))))) (now (out .entry)) 0 (now (out .exit)) r ⌝ }
 {
     let branches = word16(table, 5);
     let mut b = 0;
@@ -173,8 +187,11 @@ fn list_pair(
     at: usize,
     out: &mut [u32],
 ) -> usize
-    requires { ⌜ Indexed (now table) (now homes) (now definitions) × (send < 4294967296) × (receive < 4294967296) × (at < far) ⌝ }
-    ensures { λ r. ⌜ Listed 3 (pairWords (scheme (now (table .entry))) (stateOf (scheme (now (table .entry))) (now (state .entry))) send receive) (now (out .entry)) at (now (out .exit)) r ⌝ }
+    requires { ⌜ Indexed (now table) (now homes) (now definitions) × (send < 4294967296) × (receive < 4294967296)
+        × (at < far) ⌝ }
+    ensures { λ r. ⌜ Listed 3
+        (pairWords (scheme (now (table .entry))) (stateOf (scheme (now (table .entry))) (now (state .entry))) send
+        receive) (now (out .entry)) at (now (out .exit)) r ⌝ }
 {
     if can_meet(table, homes, definitions, state, send, receive) {
         return write_label(out, at, 4, send as u32, receive as u32);
@@ -194,7 +211,9 @@ fn list_pairs(
     out: &mut [u32],
 ) -> usize
     requires { ⌜ Pairing (now table) (now homes) (now definitions) (now receives) count at × (send < 4294967296) ⌝ }
-    ensures { λ r. ⌜ Listed 768 (pairsWords (scheme (now (table .entry))) (stateOf (scheme (now (table .entry))) (now (state .entry))) (slice 0 count (now (receives .entry))) send) (now (out .entry)) at (now (out .exit)) r ⌝ }
+    ensures { λ r. ⌜ Listed 768
+        (pairsWords (scheme (now (table .entry))) (stateOf (scheme (now (table .entry))) (now (state .entry)))
+        (slice 0 count (now (receives .entry))) send) (now (out .entry)) at (now (out .exit)) r ⌝ }
 {
     let mut i = 0;
     let mut next = at;
@@ -226,8 +245,12 @@ fn list_meetings(
     at: usize,
     out: &mut [u32],
 ) -> usize
-    requires { ⌜ Meeting (now table) (now homes) (now definitions) (now sends) s (now receives) r × (at ≤ 12884901888) ⌝ }
-    ensures { λ x. ⌜ Listed 196608 (meetingWords (scheme (now (table .entry))) (stateOf (scheme (now (table .entry))) (now (state .entry))) (slice 0 s (now (sends .entry))) (slice 0 r (now (receives .entry)))) (now (out .entry)) at (now (out .exit)) x ⌝ }
+    requires { ⌜ Meeting (now table) (now homes) (now definitions) (now sends) s (now receives) r
+        × (at ≤ 12884901888) ⌝ }
+    ensures { λ x. ⌜ Listed 196608
+        (meetingWords (scheme (now (table .entry))) (stateOf (scheme (now (table .entry))) (now (state .entry)))
+        (slice 0 s (now (sends .entry))) (slice 0 r (now (receives .entry)))) (now (out .entry)) at (now (out .exit))
+        x ⌝ }
 {
     let mut i = 0;
     let mut next = at;
@@ -261,7 +284,10 @@ fn list(
     out: &mut [u32],
 ) -> usize
     requires { ⌜ Meeting (now table) (now homes) (now definitions) (now sends) s (now receives) r ⌝ }
-    ensures { λ x. ⌜ Listed 12885098496 (listWords (scheme (now (table .entry))) (stateOf (scheme (now (table .entry))) (now (state .entry))) (slice 0 s (now (sends .entry))) (slice 0 r (now (receives .entry)))) (now (out .entry)) 0 (now (out .exit)) x ⌝ }
+    ensures { λ x. ⌜ Listed 12885098496
+        (listWords (scheme (now (table .entry))) (stateOf (scheme (now (table .entry))) (now (state .entry)))
+        (slice 0 s (now (sends .entry))) (slice 0 r (now (receives .entry)))) (now (out .entry)) 0 (now (out .exit))
+        x ⌝ }
 {
     let at = list_nodes(table, homes, definitions, state, out);
     list_meetings(
@@ -290,7 +316,9 @@ fn count(
     r: usize,
 ) -> usize
     requires { ⌜ Meeting (now table) (now homes) (now definitions) (now sends) s (now receives) r ⌝ }
-    ensures { λ x. ⌜ x ≡ length (listWords (scheme (now (table .entry))) (stateOf (scheme (now (table .entry))) (now (state .entry))) (slice 0 s (now (sends .entry))) (slice 0 r (now (receives .entry)))) ⌝ }
+    ensures { λ x. ⌜ x ≡ length
+        (listWords (scheme (now (table .entry))) (stateOf (scheme (now (table .entry))) (now (state .entry)))
+        (slice 0 s (now (sends .entry))) (slice 0 r (now (receives .entry)))) ⌝ }
 {
     let mut none = [0u32; 1];
     list(
@@ -315,7 +343,9 @@ pub(crate) fn list_open(
     labels: &mut [u32],
 ) -> usize
     requires { ⌜ Indexed (now table) (now homes) (now definitions) ⌝ }
-    ensures { λ r. ⌜ Fitted (openLabels (scheme (now (table .entry))) (stateOf (scheme (now (table .entry))) (now (state .entry)))) (now (labels .entry)) (now (labels .exit)) r ⌝ }
+    ensures { λ r. ⌜ Fitted
+        (openLabels (scheme (now (table .entry))) (stateOf (scheme (now (table .entry))) (now (state .entry))))
+        (now (labels .entry)) (now (labels .exit)) r ⌝ }
 {
     let mut sends = [0u32; 256];
     let mut receives = [0u32; 256];

@@ -39,7 +39,8 @@ fn ends(
     name: usize,
 ) -> bool
     requires { ⌜ Bound (now table) (now homes) (now definitions) (now binders) ⌝ }
-    ensures { λ r. ⌜ r ≡ (isStop (scheme (now (table .entry)) .node node) && same (scheme (now (table .entry)) .nameThread name) thread) ⌝ }
+    ensures { λ r. ⌜ r ≡ (isStop (scheme (now (table .entry)) .node node)
+        && same (scheme (now (table .entry)) .nameThread name) thread) ⌝ }
 {
     if is_stop(table, node) {
         return name_thread(table, homes, definitions, binders, name) == thread;
@@ -58,7 +59,9 @@ fn value_after_new(
     name: usize,
 ) -> usize
     requires { ⌜ Valuing (now table) (now homes) (now definitions) (now binders) (now state) (newStep node) ⌝ }
-    ensures { λ r. ⌜ Valued (take (scheme (now (table .entry))) (newStep node) (stateOf (scheme (now (table .entry))) (now (state .entry))) .value name) r ⌝ }
+    ensures { λ r. ⌜ Valued
+        (take (scheme (now (table .entry))) (newStep node) (stateOf (scheme (now (table .entry))) (now (state .entry)))
+        .value name) r ⌝ }
 {
     let thread = node_thread(table, homes, definitions, node);
     if ends(
@@ -88,7 +91,9 @@ fn value_after_silent(
     name: usize,
 ) -> usize
     requires { ⌜ Valuing (now table) (now homes) (now definitions) (now binders) (now state) (silentStep branch) ⌝ }
-    ensures { λ r. ⌜ Valued (take (scheme (now (table .entry))) (silentStep branch) (stateOf (scheme (now (table .entry))) (now (state .entry))) .value name) r ⌝ }
+    ensures { λ r. ⌜ Valued
+        (take (scheme (now (table .entry))) (silentStep branch)
+        (stateOf (scheme (now (table .entry))) (now (state .entry))) .value name) r ⌝ }
 {
     let thread = branch_thread(table, homes, definitions, branch);
     if ends(
@@ -118,7 +123,9 @@ fn value_after_meeting(
 ) -> usize
     requires { ⌜ Valuing (now table) (now homes) (now definitions) (now binders) (now state)
         (communication send receive) ⌝ }
-    ensures { λ r. ⌜ Valued (take (scheme (now (table .entry))) (communication send receive) (stateOf (scheme (now (table .entry))) (now (state .entry))) .value name) r ⌝ }
+    ensures { λ r. ⌜ Valued
+        (take (scheme (now (table .entry))) (communication send receive)
+        (stateOf (scheme (now (table .entry))) (now (state .entry))) .value name) r ⌝ }
 {
     let sender = branch_thread(table, homes, definitions, send);
     let receiver = branch_thread(table, homes, definitions, receive);
@@ -161,7 +168,9 @@ fn value_after_call(
     name: usize,
 ) -> usize
     requires { ⌜ Valuing (now table) (now homes) (now definitions) (now binders) (now state) (callStep node) ⌝ }
-    ensures { λ r. ⌜ Valued (take (scheme (now (table .entry))) (callStep node) (stateOf (scheme (now (table .entry))) (now (state .entry))) .value name) r ⌝ }
+    ensures { λ r. ⌜ Valued
+        (take (scheme (now (table .entry))) (callStep node) (stateOf (scheme (now (table .entry))) (now (state .entry)))
+        .value name) r ⌝ }
 {
     let thread = node_thread(table, homes, definitions, node);
     if name_thread(table, homes, definitions, binders, name) != thread {
@@ -196,7 +205,9 @@ fn value_after(
     name: usize,
 ) -> usize
     requires { ⌜ Valuing (now table) (now homes) (now definitions) (now binders) (now state) (meant step) ⌝ }
-    ensures { λ r. ⌜ Valued (take (scheme (now (table .entry))) (meant step) (stateOf (scheme (now (table .entry))) (now (state .entry))) .value name) r ⌝ }
+    ensures { λ r. ⌜ Valued
+        (take (scheme (now (table .entry))) (meant step) (stateOf (scheme (now (table .entry))) (now (state .entry)))
+        .value name) r ⌝ }
 {
     match step {
         Step::New(n) => value_after_new(table, homes, definitions, binders, state, n, name),
@@ -236,7 +247,9 @@ fn node_after(
     thread: usize,
 ) -> usize
     requires { ⌜ Going (now table) (now homes) (now definitions) (now state) (meant step) ⌝ }
-    ensures { λ r. ⌜ Number (take (scheme (now (table .entry))) (meant step) (stateOf (scheme (now (table .entry))) (now (state .entry))) .node thread) r ⌝ }
+    ensures { λ r. ⌜ Number
+        (take (scheme (now (table .entry))) (meant step) (stateOf (scheme (now (table .entry))) (now (state .entry)))
+        .node thread) r ⌝ }
 {
     let before = word16(state, thread);
     match step {
@@ -290,7 +303,10 @@ fn write_nodes(
     out: &mut [u16],
 )
     requires { ⌜ Going (now table) (now homes) (now definitions) (now state) (meant step) ⌝ }
-    ensures { λ r. ⌜ now (out .exit) ≡ sets (now (out .entry)) 0 (map (take (scheme (now (table .entry))) (meant step) (stateOf (scheme (now (table .entry))) (now (state .entry))) .node) (range (threads (now (table .entry))))) ⌝ }
+    ensures { λ r. ⌜ now (out .exit)
+        ≡ sets (now (out .entry)) 0
+        (map (take (scheme (now (table .entry))) (meant step)
+        (stateOf (scheme (now (table .entry))) (now (state .entry))) .node) (range (threads (now (table .entry))))) ⌝ }
 {
     let threads = word16(table, 3);
     let mut t = 0;
@@ -316,7 +332,10 @@ fn fill_values(
 )
     requires { ⌜ Valuing (now table) (now homes) (now definitions) (now binders) (now state) (meant step)
         × (32 ≤ length (now values)) ⌝ }
-    ensures { λ r. ⌜ map valueAt (slice 0 (bounds (now (table .entry))) (now (values .exit))) ≡ map (take (scheme (now (table .entry))) (meant step) (stateOf (scheme (now (table .entry))) (now (state .entry))) .value) (from (publics (now (table .entry))) (bounds (now (table .entry)))) ⌝ }
+    ensures { λ r. ⌜ map valueAt (slice 0 (bounds (now (table .entry))) (now (values .exit)))
+        ≡ map (take (scheme (now (table .entry))) (meant step)
+        (stateOf (scheme (now (table .entry))) (now (state .entry))) .value)
+        (from (publics (now (table .entry))) (bounds (now (table .entry)))) ⌝ }
 {
     let publics = word16(table, 0);
     let bounds = word16(table, 1);
@@ -342,7 +361,12 @@ fn write_values(
     out: &mut [u16],
 )
     requires { ⌜ Valuing (now table) (now homes) (now definitions) (now binders) (now state) (meant step) ⌝ }
-    ensures { λ r. ⌜ now (out .exit) ≡ sets (now (out .entry)) (threads (now (table .entry))) (valueWords (publics (now (table .entry))) [] (map (take (scheme (now (table .entry))) (meant step) (stateOf (scheme (now (table .entry))) (now (state .entry))) .value) (from (publics (now (table .entry))) (bounds (now (table .entry)))))) ⌝ }
+    ensures { λ r. ⌜ now (out .exit)
+        ≡ sets (now (out .entry)) (threads (now (table .entry)))
+        (valueWords (publics (now (table .entry))) []
+        (map (take (scheme (now (table .entry))) (meant step)
+        (stateOf (scheme (now (table .entry))) (now (state .entry))) .value)
+        (from (publics (now (table .entry))) (bounds (now (table .entry)))))) ⌝ }
 {
     let publics = word16(table, 0);
     let bounds = word16(table, 1);
@@ -363,7 +387,11 @@ pub(crate) fn write_state(
     out: &mut [u16],
 )
     requires { ⌜ Valuing (now table) (now homes) (now definitions) (now binders) (now state) (meant step) ⌝ }
-    ensures { λ r. ⌜ now (out .exit) ≡ sets (now (out .entry)) 0 (stateWords (scheme (now (table .entry))) (take (scheme (now (table .entry))) (meant step) (stateOf (scheme (now (table .entry))) (now (state .entry))))) ⌝ }
+    ensures { λ r. ⌜ now (out .exit)
+        ≡ sets (now (out .entry)) 0
+        (stateWords (scheme (now (table .entry)))
+        (take (scheme (now (table .entry))) (meant step)
+        (stateOf (scheme (now (table .entry))) (now (state .entry))))) ⌝ }
 {
     write_nodes(table, homes, definitions, state, step, out);
     write_values(table, homes, definitions, binders, state, step, out);

@@ -1,5 +1,5 @@
-// Kinds of nodes and branches, and the threads of nodes, branches and names, by lent words: homes of branches, definitions
-// of nodes, binders of names.
+// Kinds of nodes and branches, and the threads of nodes, branches and names, by lent words: homes of branches,
+// definitions of nodes, binders of names.
 ghost use mathlib.Core.Path.{_≡_};
 ghost use mathlib.Core.Bool.{_&&_};
 ghost use lib.Dec.{ltb};
@@ -26,7 +26,8 @@ pub(crate) fn node_is(table: &[u16], node: usize, kind: usize) -> bool
 
 // Whether the table has the branch, and it is of the kind.
 pub(crate) fn branch_is(table: &[u16], branch: usize, kind: usize) -> bool
-    ensures { λ r. ⌜ r ≡ (ltb branch (branches (now (table .entry))) && same (branchKind (now (table .entry)) branch) kind) ⌝ }
+    ensures { λ r. ⌜ r ≡ (ltb branch (branches (now (table .entry)))
+        && same (branchKind (now (table .entry)) branch) kind) ⌝ }
 {
     if branch < word16(table, 5) {
         return field4(table, 11, branch, 0) == kind;

@@ -87,9 +87,11 @@ fn number(publics: usize, seen: &mut [u16], count: usize, value: usize) -> Turn
     }
 }
 
-// Writes the words of the first `count` values from word `at` on, private values numbered by first appearance; 65535 stands for none.
+// Writes the words of the first `count` values from word `at` on, private values numbered by first appearance; 65535
+// stands for none.
 pub fn number_values(publics: u16, values: &[u16], count: u16, at: u16, out: &mut [u16])
-    ensures { λ r. ⌜ (publics ≤ 32 → count ≤ 32 → count ≤ length (now (values .entry)) → now (out .exit) ≡ sets (now (out .entry)) at (valueWords publics [] (map valueAt (take count (now (values .entry)))))) ⌝ }
+    ensures { λ r. ⌜ (publics ≤ 32 → count ≤ 32 → count ≤ length (now (values .entry)) → now (out .exit)
+        ≡ sets (now (out .entry)) at (valueWords publics [] (map valueAt (take count (now (values .entry)))))) ⌝ }
 {
     if 32 < publics {
         return;

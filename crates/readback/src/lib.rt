@@ -12,8 +12,8 @@ use builder::Planned;
 use builder::layout::Layout;
 use lists::word16;
 
-// What `read` did: how many words it wrote, or what it refuses: the table, bytes that are no marking of its net, a marking that stands for no
-// state, a lent output that is too short.
+// What `read` did: how many words it wrote, or what it refuses: the table, bytes that are no marking of its net, a
+// marking that stands for no state, a lent output that is too short.
 pub enum Answer {
     Done(usize),
     Refused(table::Verdict),

@@ -72,12 +72,14 @@ fn mark_span(first: usize, count: usize, held: &mut [u8])
     }
 }
 
-// Marks the names held at control place `index` of a Call: the formals copied, then the names of the caller not released.
+// Marks the names held at control place `index` of a Call: the formals copied, then the names of the caller not
+// released.
 fn mark_call(table: &[u16], node: usize, index: usize, names: &[u32], count: usize, held: &mut [u8])
     requires { ⌜ count ≤ length (now names) ⌝ }
     ensures { λ r. ⌜ now (held .exit) ≡ put 1 (now (held .entry))
         (take (index - 1) (formals (now (table .entry)) (nodeFirst (now (table .entry)) node))
-        ++ slice (index - (1 + formalCount (now (table .entry)) (nodeFirst (now (table .entry)) node))) count (now (names .entry))) ⌝ }
+        ++ slice (index - (1 + formalCount (now (table .entry)) (nodeFirst (now (table .entry)) node))) count
+        (now (names .entry))) ⌝ }
 {
     let d = field3(table, 10, node, 1);
     let formals = field4(table, 8, d, 3);
@@ -172,8 +174,10 @@ fn find_value(
     name: usize,
 ) -> bool
     requires { ⌜ Rowed (now table) (now rows) plan × IsName (now table) name ⌝ }
-    ensures { λ r. ⌜ (r ≡ valueRight (scheme (now (table .entry))) (now (marking .entry)) (word (now (held .entry))) name)
-        × (r ≡ true → Filled (now (table .entry)) (now (marking .entry)) name (now (values .entry)) (now (values .exit))) ⌝ }
+    ensures { λ r. ⌜ (r ≡ valueRight (scheme (now (table .entry))) (now (marking .entry)) (word (now (held .entry)))
+        name)
+        × (r ≡ true → Filled (now (table .entry)) (now (marking .entry)) name (now (values .entry))
+        (now (values .exit))) ⌝ }
 {
     let low = low_value(table, name);
     let f = find(
@@ -206,7 +210,8 @@ fn just_one(a: bool, b: bool) -> bool
 fn opposite(marking: &[u8], first: usize, second: usize, count: usize) -> bool
     requires { ⌜ (first < 8589934592) × (second < 8589934592) × (count < 65536) ⌝ }
     ensures { λ r. ⌜ r
-        ≡ every (λ i. justOne (token (now (marking .entry)) (first + i)) (token (now (marking .entry)) (second + i))) (range count) ⌝ }
+        ≡ every (λ i. justOne (token (now (marking .entry)) (first + i)) (token (now (marking .entry)) (second + i)))
+        (range count) ⌝ }
 {
     let mut i = 0;
     while i < count {
@@ -254,7 +259,8 @@ pub(crate) fn find_values(
 ) -> bool
     requires { ⌜ Rowed (now table) (now rows) plan × (64 ≤ length (now values)) ⌝ }
     ensures { λ r. ⌜ (r ≡ valuesRight (scheme (now (table .entry))) (now (marking .entry)) (word (now (held .entry))))
-        × (r ≡ true → ValuesBelow (now (table .entry)) (now (marking .entry)) (now (values .exit)) (names (now (table .entry)))) ⌝ }
+        × (r ≡ true → ValuesBelow (now (table .entry)) (now (marking .entry)) (now (values .exit))
+        (names (now (table .entry)))) ⌝ }
 {
     let end = plan.publics + plan.bounds;
     let mut x = plan.publics;

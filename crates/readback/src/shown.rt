@@ -38,7 +38,10 @@ fn node_shown(table: &[u16], node: usize, index: usize) -> usize
 // Writes the node of each thread.
 pub(crate) fn write_nodes(table: &[u16], nodes: &[u32], indexes: &[u32], state: &mut [u16])
     requires { ⌜ (cause (now table) ≡ 0) × AtNodes (now table) (now nodes) ⌝ }
-    ensures { λ r. ⌜ now (state .exit) ≡ sets (now (state .entry)) 0 (map (λ t. nodeShown (scheme (now (table .entry))) (spotAt (now (nodes .entry)) (now (indexes .entry)) t)) (range (threads (now (table .entry))))) ⌝ }
+    ensures { λ r. ⌜ now (state .exit)
+        ≡ sets (now (state .entry)) 0
+        (map (λ t. nodeShown (scheme (now (table .entry))) (spotAt (now (nodes .entry)) (now (indexes .entry)) t))
+        (range (threads (now (table .entry))))) ⌝ }
 {
     let threads = word16(table, 3);
     let mut t = 0;
@@ -52,11 +55,13 @@ pub(crate) fn write_nodes(table: &[u16], nodes: &[u32], indexes: &[u32], state: 
     }
 }
 
-// The name whose value a formal or another name has in a call's chain, 65535 where it has none: the formal itself once it is copied, its argument
-// before.
+// The name whose value a formal or another name has in a call's chain, 65535 where it has none: the formal itself once
+// it is copied, its argument before.
 fn name_called(table: &[u16], node: usize, copied: usize, name: usize) -> usize
     requires { ⌜ CallOf (now table) node name ⌝ }
-    ensures { λ r. ⌜ Valued (nameShownAt (scheme (now (table .entry))) (scheme (now (table .entry)) .node node) node (suc copied) name) r ⌝ }
+    ensures { λ r. ⌜ Valued
+        (nameShownAt (scheme (now (table .entry))) (scheme (now (table .entry)) .node node) node (suc copied) name)
+        r ⌝ }
 {
     let d = field3(table, 10, node, 1);
     if field3(table, 10, field4(table, 8, d, 1), 0) == 0 {
@@ -79,7 +84,8 @@ fn name_called(table: &[u16], node: usize, copied: usize, name: usize) -> usize
 // The name whose value a name has where its thread stands at control place `index` of a node, 65535 where it has none.
 fn name_shown(table: &[u16], node: usize, index: usize, name: usize) -> usize
     requires { ⌜ NodeOf (now table) node × (name < 65535) ⌝ }
-    ensures { λ r. ⌜ Valued (nameShownAt (scheme (now (table .entry))) (scheme (now (table .entry)) .node node) node index name) r ⌝ }
+    ensures { λ r. ⌜ Valued
+        (nameShownAt (scheme (now (table .entry))) (scheme (now (table .entry)) .node node) node index name) r ⌝ }
 {
     let kind = field3(table, 10, node, 0);
     if kind == 0 {
@@ -118,8 +124,11 @@ fn name_value(
     values: &[u16],
     name: usize,
 ) -> usize
-    requires { ⌜ Bindings (now table) (now homes) (now definitions) (now binders) (now nodes) × ((publics (now table) ≤ name) × (name < names (now table))) ⌝ }
-    ensures { λ r. ⌜ Valued (valueOf (valueIn (now (table .entry)) (now (values .entry))) (nameShown (scheme (now (table .entry))) (spotAt (now (nodes .entry)) (now (indexes .entry))) name)) r ⌝ }
+    requires { ⌜ Bindings (now table) (now homes) (now definitions) (now binders) (now nodes)
+        × ((publics (now table) ≤ name) × (name < names (now table))) ⌝ }
+    ensures { λ r. ⌜ Valued
+        (valueOf (valueIn (now (table .entry)) (now (values .entry)))
+        (nameShown (scheme (now (table .entry))) (spotAt (now (nodes .entry)) (now (indexes .entry))) name)) r ⌝ }
 {
     let t = table::index::name_thread(table, homes, definitions, binders, name);
     let shown = name_shown(table, word32(nodes, t), word32(indexes, t), name);
@@ -137,8 +146,12 @@ fn fill_values(
     values: &[u16],
     list: &mut [u16],
 )
-    requires { ⌜ Bindings (now table) (now homes) (now definitions) (now binders) (now nodes) × (32 ≤ length (now list)) ⌝ }
-    ensures { λ r. ⌜ map valueAt (slice 0 (bounds (now (table .entry))) (now (list .exit))) ≡ map (λ x. valueOf (valueIn (now (table .entry)) (now (values .entry))) (nameShown (scheme (now (table .entry))) (spotAt (now (nodes .entry)) (now (indexes .entry))) x)) (from (publics (now (table .entry))) (bounds (now (table .entry)))) ⌝ }
+    requires { ⌜ Bindings (now table) (now homes) (now definitions) (now binders) (now nodes)
+        × (32 ≤ length (now list)) ⌝ }
+    ensures { λ r. ⌜ map valueAt (slice 0 (bounds (now (table .entry))) (now (list .exit)))
+        ≡ map (λ x. valueOf (valueIn (now (table .entry)) (now (values .entry)))
+        (nameShown (scheme (now (table .entry))) (spotAt (now (nodes .entry)) (now (indexes .entry))) x))
+        (from (publics (now (table .entry))) (bounds (now (table .entry)))) ⌝ }
 {
     let publics = word16(table, 0);
     let bounds = word16(table, 1);
@@ -173,7 +186,12 @@ pub(crate) fn write_values(
     state: &mut [u16],
 )
     requires { ⌜ Defined (now table) (now homes) (now definitions) × AtNodes (now table) (now nodes) ⌝ }
-    ensures { λ r. ⌜ now (state .exit) ≡ sets (now (state .entry)) (threads (now (table .entry))) (valueWords (publics (now (table .entry))) [] (map (λ x. valueOf (valueIn (now (table .entry)) (now (values .entry))) (nameShown (scheme (now (table .entry))) (spotAt (now (nodes .entry)) (now (indexes .entry))) x)) (from (publics (now (table .entry))) (bounds (now (table .entry)))))) ⌝ }
+    ensures { λ r. ⌜ now (state .exit)
+        ≡ sets (now (state .entry)) (threads (now (table .entry)))
+        (valueWords (publics (now (table .entry))) []
+        (map (λ x. valueOf (valueIn (now (table .entry)) (now (values .entry)))
+        (nameShown (scheme (now (table .entry))) (spotAt (now (nodes .entry)) (now (indexes .entry))) x))
+        (from (publics (now (table .entry))) (bounds (now (table .entry)))))) ⌝ }
 {
     let publics = word16(table, 0);
     let bounds = word16(table, 1);

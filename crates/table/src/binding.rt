@@ -13,7 +13,8 @@ use lists::word16;
 
 // Whether a name's count is 1 if the name is of the kind, and 0 if not.
 fn count_right(table: &[u16], counts: &[u8], kind: usize, name: usize) -> bool
-    ensures { λ r. ⌜ r ≡ same (word (now (counts .entry)) name) (bit (same (nameKind (now (table .entry)) name) kind)) ⌝ }
+    ensures { λ r. ⌜ r ≡ same (word (now (counts .entry)) name)
+        (bit (same (nameKind (now (table .entry)) name) kind)) ⌝ }
 {
     if name_kind(table, name) == kind {
         return word8(counts, name) == 1;
@@ -23,7 +24,9 @@ fn count_right(table: &[u16], counts: &[u8], kind: usize, name: usize) -> bool
 
 // Whether the counts of the names from `first` up to `end` are right.
 fn all_counts_right(table: &[u16], counts: &[u8], kind: usize, first: usize, end: usize) -> bool
-    ensures { λ r. ⌜ r ≡ every (λ x. same (word (now (counts .entry)) x) (bit (same (nameKind (now (table .entry)) x) kind))) (from first (end - first)) ⌝ }
+    ensures { λ r. ⌜ r ≡ every
+        (λ x. same (word (now (counts .entry)) x) (bit (same (nameKind (now (table .entry)) x) kind)))
+        (from first (end - first)) ⌝ }
 {
     let mut x = first;
     while x < end {
@@ -38,7 +41,9 @@ fn all_counts_right(table: &[u16], counts: &[u8], kind: usize, first: usize, end
 // Whether every bound name of the kind is bound once by the first n entries, and no name of another kind.
 fn kind_bound(table: &[u16], source: Source, n: usize, kind: usize) -> bool
     requires { ⌜ names (now table) ≤ 64 ⌝ }
-    ensures { λ r. ⌜ r ≡ every (boundRight (now (table .entry)) (flat (spanOf (now (table .entry)) source) (range n)) kind) (from (publics (now (table .entry))) (bounds (now (table .entry)))) ⌝ }
+    ensures { λ r. ⌜ r ≡ every
+        (boundRight (now (table .entry)) (flat (spanOf (now (table .entry)) source) (range n)) kind)
+        (from (publics (now (table .entry))) (bounds (now (table .entry)))) ⌝ }
 {
     let mut counts = [0u8; 64];
     tally_source(table, source, n, &mut counts);

@@ -40,7 +40,8 @@ fn call_right(table: &[u16], node: usize, own: usize) -> bool
 
 // Whether every Call is right, with the definition of each node at hand.
 fn all_calls_right(table: &[u16], definitions: &[u16]) -> bool
-    ensures { λ r. ⌜ r ≡ every (λ n. callRightIn (now (table .entry)) (word (now (definitions .entry)) n) n) (range (nodes (now (table .entry)))) ⌝ }
+    ensures { λ r. ⌜ r ≡ every (λ n. callRightIn (now (table .entry)) (word (now (definitions .entry)) n) n)
+        (range (nodes (now (table .entry)))) ⌝ }
 {
     let count = word16(table, 4);
     let mut n = 0;

@@ -1,4 +1,5 @@
-// Fields of a table's sections. `section` is the header's word that holds where a section starts. A field past the table's end reads 0.
+// Fields of a table's sections. `section` is the header's word that holds where a section starts. A field past the
+// table's end reads 0.
 ghost use Prim.Native.Nat.{_+_, _-_, _*_};
 ghost use Rattle.lists.specs.Lists.{Word, word};
 use lists::word16;
@@ -35,7 +36,8 @@ pub fn field4(table: &[u16], section: usize, i: usize, k: u16) -> usize
 
 // The kind of a name; a public name reads as the first bound one.
 pub fn name_kind(table: &[u16], name: usize) -> usize
-    ensures { λ r. ⌜ Word 65536 (now (table .entry)) (word (now (table .entry)) 7 + (name - word (now (table .entry)) 0)) r ⌝ }
+    ensures { λ r. ⌜ Word 65536 (now (table .entry))
+        (word (now (table .entry)) 7 + (name - word (now (table .entry)) 0)) r ⌝ }
 {
     let publics = word16(table, 0);
     if name < publics {

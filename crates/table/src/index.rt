@@ -1,6 +1,7 @@
-// Who owns each node, which node has each branch, which definition each node is in, what binds each name, and the names that a node holds. In
-// lent words an owner is a number: 65536 + a definition, 131072 + a New, 196608 + a branch, less than 65536 for nobody. So is what binds a name:
-// 65536 + a New, 131072 + a receive, 196608 + a definition, less than 65536 for nothing.
+// Who owns each node, which node has each branch, which definition each node is in, what binds each name, and the names
+// that a node holds. In lent words an owner is a number: 65536 + a definition, 131072 + a New, 196608 + a branch, less
+// than 65536 for nobody. So is what binds a name: 65536 + a New, 131072 + a receive, 196608 + a definition, less than
+// 65536 for nothing.
 ghost use mathlib.Core.Path.{_≡_};
 ghost use mathlib.Core.List.{map};
 ghost use Prim.Native.Nat.{_+_, _-_, _<_};
@@ -8,7 +9,8 @@ ghost use lib.ListN.{length, replicate};
 ghost use lib.Seq.{sets};
 ghost use Rattle.lists.specs.Lists.{from, range};
 ghost use Rattle.table.specs.Owners.{owner, home};
-ghost use Rattle.table.specs.Index.{ownerNumber, ownerIn, homeIn, parentOf, definitionIn, definitionNext, threadIn, heldIn, HeldNames};
+ghost use Rattle.table.specs.Index.{ownerNumber, ownerIn, homeIn, parentOf, definitionIn, definitionNext};
+ghost use Rattle.table.specs.Index.{threadIn, heldIn, HeldNames};
 ghost use Rattle.table.specs.Index.{FirstDefinitions};
 ghost use Rattle.table.specs.Index.{binderNumber, binderThreadIn};
 ghost use Rattle.table.specs.Scheme.{binderOf};
@@ -34,7 +36,8 @@ fn clear(out: &mut [u32])
 
 // The owner of each node, as far as `out` reaches.
 pub fn owners(table: &[u16], out: &mut [u32])
-    ensures { λ r. ⌜ now (out .exit) ≡ map (λ k. ownerNumber (owner (now (table .entry)) k)) (range (length (now (out .entry)))) ⌝ }
+    ensures { λ r. ⌜ now (out .exit)
+        ≡ map (λ k. ownerNumber (owner (now (table .entry)) k)) (range (length (now (out .entry)))) ⌝ }
 {
     clear(out);
     scatter_source(table, Source::NextNodes, word16(table, 5), 196608, out);
@@ -50,8 +53,8 @@ pub fn homes(table: &[u16], out: &mut [u32])
     scatter_source(table, Source::Branches, word16(table, 4), 0, out);
 }
 
-// Where a step up from a node leads: to the definition whose root it is, to the New below, to a branch and the Choice below that has it,
-// or nowhere.
+// Where a step up from a node leads: to the definition whose root it is, to the New below, to a branch and the Choice
+// below that has it, or nowhere.
 pub enum Parent {
     Definition(usize),
     New(usize),
@@ -85,7 +88,8 @@ pub fn step_up(owners: &[u32], homes: &[u32], node: usize) -> Parent
 
 // The definition of a node, given those of the nodes below it.
 fn definition_of(owners: &[u32], homes: &[u32], node: usize, below: &[u16]) -> u16
-    ensures { λ r. ⌜ r ≡ definitionNext (ownerIn (now (owners .entry))) (homeIn (now (homes .entry))) (now (below .entry)) node ⌝ }
+    ensures { λ r. ⌜ r ≡ definitionNext (ownerIn (now (owners .entry))) (homeIn (now (homes .entry)))
+        (now (below .entry)) node ⌝ }
 {
     match step_up(owners, homes, node) {
         Parent::Definition(d) => d as u16,
@@ -95,9 +99,11 @@ fn definition_of(owners: &[u32], homes: &[u32], node: usize, below: &[u16]) -> u
     }
 }
 
-// The definitions of the first `count` nodes, by lent owners and homes, as far as `out` reaches. The rest of `out` stays.
+// The definitions of the first `count` nodes, by lent owners and homes, as far as `out` reaches. The rest of `out`
+// stays.
 pub fn first_definitions(owners: &[u32], homes: &[u32], count: usize, out: &mut [u16])
-    ensures { λ r. ⌜ FirstDefinitions (now (owners .entry)) (now (homes .entry)) count (now (out .entry)) (now (out .exit)) ⌝ }
+    ensures { λ r. ⌜ FirstDefinitions (now (owners .entry)) (now (homes .entry)) count (now (out .entry))
+        (now (out .exit)) ⌝ }
 {
     let mut n = 0;
     while n < count {
@@ -112,7 +118,8 @@ pub fn first_definitions(owners: &[u32], homes: &[u32], count: usize, out: &mut 
 
 // The definition of each node, by lent owners and homes, as far as `out` reaches.
 pub fn definitions(owners: &[u32], homes: &[u32], out: &mut [u16])
-    ensures { λ r. ⌜ now (out .exit) ≡ map (definitionIn (now (owners .entry)) (now (homes .entry))) (range (length (now (out .entry)))) ⌝ }
+    ensures { λ r. ⌜ now (out .exit)
+        ≡ map (definitionIn (now (owners .entry)) (now (homes .entry))) (range (length (now (out .entry)))) ⌝ }
 {
     first_definitions(owners, homes, out.len(), out);
 }
@@ -126,7 +133,8 @@ pub fn thread(table: &[u16], definitions: &[u16], node: usize) -> usize
 
 // What binds each name, as far as `out` reaches.
 pub fn binders(table: &[u16], out: &mut [u32])
-    ensures { λ r. ⌜ now (out .exit) ≡ map (λ x. binderNumber (binderOf (now (table .entry)) x)) (range (length (now (out .entry)))) ⌝ }
+    ensures { λ r. ⌜ now (out .exit)
+        ≡ map (λ x. binderNumber (binderOf (now (table .entry)) x)) (range (length (now (out .entry)))) ⌝ }
 {
     clear(out);
     scatter_source(table, Source::Formals, word16(table, 2), 196608, out);
@@ -142,7 +150,8 @@ pub fn name_thread(
     binders: &[u32],
     name: usize,
 ) -> usize
-    ensures { λ r. ⌜ r ≡ binderThreadIn (now (table .entry)) (now (homes .entry)) (now (definitions .entry)) (word (now (binders .entry)) name) ⌝ }
+    ensures { λ r. ⌜ r ≡ binderThreadIn (now (table .entry)) (now (homes .entry)) (now (definitions .entry))
+        (word (now (binders .entry)) name) ⌝ }
 {
     let binder = word32(binders, name);
     if binder < 65536 {
@@ -170,10 +179,11 @@ fn write_span(first: usize, count: usize, out: &mut [u32]) -> usize
     count
 }
 
-// Writes the names that a node holds, as far as `out` reaches, and returns how many there are. By recursion to the owner: the node number
-// falls, since an owner lies below.
+// Writes the names that a node holds, as far as `out` reaches, and returns how many there are. By recursion to the
+// owner: the node number falls, since an owner lies below.
 pub fn held_names(table: &[u16], owners: &[u32], homes: &[u32], node: u16, out: &mut [u32]) -> usize
-    ensures { λ r. ⌜ HeldNames (heldIn (now (table .entry)) (now (owners .entry)) (now (homes .entry)) node) (now (out .entry)) r (now (out .exit)) ⌝ }
+    ensures { λ r. ⌜ HeldNames (heldIn (now (table .entry)) (now (owners .entry)) (now (homes .entry)) node)
+        (now (out .entry)) r (now (out .exit)) ⌝ }
 {
     match step_up(owners, homes, node as usize) {
         Parent::Definition(d) => write_span(field4(table, 8, d, 2), field4(table, 8, d, 3), out),

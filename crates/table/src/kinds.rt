@@ -1,6 +1,7 @@
 // Cause 4: kinds that are known, and fields that must be 0 or not.
 ghost use mathlib.Core.Path.{_≡_};
-ghost use Rattle.table.specs.Causes.{nameKindRight, formalsZero, callZero, nodeKindRight, branchKindRight, kindsRight};
+ghost use Rattle.table.specs.Causes.{nameKindRight, formalsZero, callZero, nodeKindRight, branchKindRight};
+ghost use Rattle.table.specs.Causes.{kindsRight};
 use crate::fields::field3;
 use crate::fields::field4;
 use crate::fields::name_kind;

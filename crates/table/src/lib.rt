@@ -1,7 +1,7 @@
 // The process table: causes 1 to 9 of a list of words, and what its nodes hold.
 //
-// `check` refuses or accepts a table. `fields` reads one, and `index` finds owners, definitions and held names; both are total, so that
-// code above needs no index of its own.
+// `check` refuses or accepts a table. `fields` reads one, and `index` finds owners, definitions and held names; both
+// are total, so that code above needs no index of its own.
 mod binding;
 mod calls;
 pub mod fields;

@@ -1,7 +1,8 @@
 // Cause 5: numbers and ranges inside their sections, and binders that name bound names.
 ghost use mathlib.Core.Path.{_≡_};
 ghost use Rattle.table.specs.Words.{isBound};
-ghost use Rattle.table.specs.Causes.{formalsInside, definitionInside, entryInside, nodeInside, branchInside, argumentInside, rangesRight};
+ghost use Rattle.table.specs.Causes.{formalsInside, definitionInside, entryInside, nodeInside, branchInside};
+ghost use Rattle.table.specs.Causes.{argumentInside, rangesRight};
 use crate::fields::field1;
 use crate::fields::field3;
 use crate::fields::field4;

@@ -1,5 +1,5 @@
-// Cause 8: names used where they are held. A body is checked node by node from its root; the names held on the way are tallied in an array
-// that goes down by value, publics among them.
+// Cause 8: names used where they are held. A body is checked node by node from its root; the names held on the way are
+// tallied in an array that goes down by value, publics among them.
 ghost use mathlib.Core.Path.{_≡_};
 ghost use Prim.Native.Nat.{ℕ, _+_, _-_, _≤_, _<_};
 ghost use Rattle.lists.specs.Lists.{from, every};
@@ -17,8 +17,10 @@ use lists::word16;
 
 // Whether the arguments from `first` up to `end` are all held.
 fn arguments_held(table: &[u16], node: usize, first: usize, end: usize, held: &[u8]) -> bool
-    requires { ⌜ (now held ≡ heldTally (now table) node) × ((a : ℕ) → first ≤ a → a < end → argument (now table) a < 64) ⌝ }
-    ensures { λ r. ⌜ r ≡ every (λ a. usable (now (table .entry)) node (argument (now (table .entry)) a)) (from first (end - first)) ⌝ }
+    requires { ⌜ (now held ≡ heldTally (now table) node)
+        × ((a : ℕ) → first ≤ a → a < end → argument (now table) a < 64) ⌝ }
+    ensures { λ r. ⌜ r ≡ every (λ a. usable (now (table .entry)) node (argument (now (table .entry)) a))
+        (from first (end - first)) ⌝ }
 {
     let mut a = first;
     while a < end {

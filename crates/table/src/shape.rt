@@ -48,7 +48,8 @@ pub(crate) fn children_above(table: &[u16], node: usize) -> bool
 
 // Whether the spans of the nodes are consecutive from 0 to `end`, empty ones passed over.
 fn spans_consecutive(table: &[u16], source: Source, end: usize) -> bool
-    ensures { λ r. ⌜ r ≡ consecutive (now (table .entry)) (spanFirst (now (table .entry)) source) (spanCount (now (table .entry)) source) end 0 (range (nodes (now (table .entry)))) ⌝ }
+    ensures { λ r. ⌜ r ≡ consecutive (now (table .entry)) (spanFirst (now (table .entry)) source)
+        (spanCount (now (table .entry)) source) end 0 (range (nodes (now (table .entry)))) ⌝ }
 {
     let count = word16(table, 4);
     let mut a = 0;

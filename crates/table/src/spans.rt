@@ -4,15 +4,16 @@ ghost use Prim.Native.Nat.{_+_, _-_, _<_};
 ghost use Rattle.lists.specs.Lists.{bit, from, range, flat};
 ghost use Rattle.table.specs.Words.{isNew, isReceive};
 ghost use Rattle.table.specs.Causes.{branchCount, argumentCount};
-ghost use Rattle.table.specs.Inner.Spans.{Number, spanFirst, spanCount, spanOf, tallied, tallyAll, putAll, scatter};
+ghost use Rattle.table.specs.Inner.Spans.{Number, spanFirst, spanCount, spanOf, tallied, tallyAll, putAll};
+ghost use Rattle.table.specs.Inner.Spans.{scatter};
 use crate::fields::field3;
 use crate::fields::field4;
 use lists::store8;
 use lists::store32;
 use lists::word8;
 
-// What an entry names: a definition its root or its formals, a New its child or its name, a branch its next node or the name that it
-// receives, a Choice its branches, a Call its arguments.
+// What an entry names: a definition its root or its formals, a New its child or its name, a branch its next node or the
+// name that it receives, a Choice its branches, a Call its arguments.
 pub enum Source {
     Roots,
     Formals,
@@ -120,7 +121,8 @@ pub(crate) fn tally_span(counts: &mut [u8], first: usize, end: usize)
 
 // One more at each number that the first n entries name.
 pub(crate) fn tally_source(table: &[u16], source: Source, n: usize, counts: &mut [u8])
-    ensures { λ r. ⌜ now (counts .exit) ≡ tallyAll (now (counts .entry)) (flat (spanOf (now (table .entry)) source) (range n)) ⌝ }
+    ensures { λ r. ⌜ now (counts .exit)
+        ≡ tallyAll (now (counts .entry)) (flat (spanOf (now (table .entry)) source) (range n)) ⌝ }
 {
     let mut i = 0;
     while i < n {
