@@ -30,6 +30,30 @@ pub(crate) fn words(out: &mut [u32], at: usize, list: &[u32], count: usize) -> u
     at + count
 }
 
+// The record of a transition whose arcs start at `arc`.
+fn put_record(
+    out: &mut [u32],
+    place: usize,
+    kind: u32,
+    a: usize,
+    b: usize,
+    arc: usize,
+    inputs: usize,
+    outputs: usize,
+)
+    requires { ⌜ (place + 6 ≤ length (now out)) × (a < 65536) × (b < 65536) × (arc < 4294967296)
+        × (inputs < 4294967296) × (outputs < 4294967296) ⌝ }
+    ensures { λ r. ⌜ now (out .exit)
+        ≡ writes (now (out .entry)) place (kind ∷ a ∷ b ∷ arc ∷ inputs ∷ outputs ∷ []) ⌝ }
+{
+    out[place] = kind;
+    out[place + 1] = a as u32;
+    out[place + 2] = b as u32;
+    out[place + 3] = arc as u32;
+    out[place + 4] = inputs as u32;
+    out[place + 5] = outputs as u32;
+}
+
 // A transition: its record and its arcs.
 pub(crate) fn transition(
     out: &mut [u32],
@@ -49,12 +73,7 @@ pub(crate) fn transition(
 {
     let place = h.place;
     let arc = h.arc;
-    store32(out, place, kind);
-    store32(out, place + 1, a as u32);
-    store32(out, place + 2, b as u32);
-    store32(out, place + 3, arc as u32);
-    store32(out, place + 4, inputs as u32);
-    store32(out, place + 5, outputs as u32);
+    put_record(out, place, kind, a, b, arc, inputs, outputs);
     let middle = words(out, arc, ins, inputs);
     let end = words(out, middle, outs, outputs);
     Heads {

@@ -1,6 +1,6 @@
 -- A buffer that is written at two heads: records at one, arcs at the other.
 use mathlib.Core.List.{List, [], _∷_}
-use Prim.Native.Nat.{ℕ, _+_, _<_}
+use Prim.Native.Nat.{ℕ, _+_, _<_, _≤_}
 use lib.ListN.{length, set}
 use Rattle.net.specs.Net.{Transition, arcsOf, recordWords}
 
@@ -27,7 +27,9 @@ unfoldable pub putAll : {A : Type 0} → (A → Transition) → Heads → List A
 putAll f s [] = s
 putAll f s (x ∷ xs) = putAll f (putOne s (f x)) xs
 
--- both heads are within an image of 32-bit offsets
+-- both heads are within the buffer and an image of 32-bit offsets
 pub record Inside (s : Heads) : Type 0 where
   pub place-small : s .place < 4294967296
   pub arc-small : s .arc < 4294967296
+  pub place-fits : s .place ≤ length (s .out)
+  pub arc-fits : s .arc ≤ length (s .out)
