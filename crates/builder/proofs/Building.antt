@@ -24,7 +24,7 @@ use Rattle.builder.specs.Inner.Counting.{sumsOf, allSums}
 use Rattle.builder.specs.Inner.Plan.{today, headerOf, put, state, ofTable, Laid}
 use Rattle.builder.specs.declared.layout.Layout.{Layout}
 use Rattle.builder.specs.declared.count.Totals.{Totals}
-use Rattle.builder.proofs.Writing.{put-append, put-place, put-arc, inside-first, begun, written}
+use Rattle.builder.proofs.Writing.{writes-length, put-append, put-place, put-arc, put-length, inside-first, begun, written}
 use Rattle.builder.proofs.Size.{image-below}
 use Rattle.builder.proofs.WholeSums.{image-words, initial-is, transitions-are, counts-are, tokens-is, header-is, words-are}
 
@@ -67,6 +67,12 @@ module _ (w : List ℕ) where
 
     -- ---- both heads stay within the image
 
+    here-length : length o2 ≡ length out
+    here-length =
+        rw (second, first)
+        (writes-length (writes out 0 (headerOf (plan .places) (t .transitions) (t .inputs) (t .outputs) (plan .tokens))) 8 (initialNumbers (scheme w) (today w))
+        ∙ writes-length out 0 (headerOf (plan .places) (t .transitions) (t .inputs) (t .outputs) (plan .tokens)))
+
     arcs-total : (xs : List Description) → total (map (λ d. length (arcsOf (ofTable w d))) xs) ≡ length (flat arcsOf (map (ofTable w) xs))
     unfolding total flat
     arcs-total [] = refl
@@ -86,6 +92,21 @@ module _ (w : List ℕ) where
         record {
           place-small = omega (arith, put-place (ofTable w) from-here xs, n, k, i, b);
           arc-small = omega (arith, put-arc (ofTable w) from-here xs, arcs-total xs, a, Encode.arcs-length (net .transitions), n, c, k, i, b);
+          place-fits = omega (arith, put-place (ofTable w) from-here xs, put-length (ofTable w) from-here xs, here-length, room, n, k, i);
+          arc-fits = omega (
+            arith,
+            put-arc (ofTable w) from-here xs,
+            put-length (ofTable w) from-here xs,
+            here-length,
+            room,
+            arcs-total xs,
+            a,
+            Encode.arcs-length (net .transitions),
+            n,
+            c,
+            k,
+            i,
+          );
         }
 
     pub inside-nodes : Inside (putAll (ofTable w) from-here ofNodes)

@@ -82,10 +82,14 @@ module _ (S : Scheme) (ok : Accepted S) where
         let k : S .publics ≤ x = leb-true (S .publics) x (sym b ∙ h) in
         apart x u (rw q (usable-name (S .home r) e ue (rw q at k)))
 
-    not-y : (x : ℕ) → Usable S (S .home s) x → x ≡ y → ⊥
+    pub not-y : (x : ℕ) → Usable S (S .home s) x → x ≡ y → ⊥
     not-y x u q = apart x u (rw q ny)
 
-    e-not-y : e ≡ y → ⊥
+    -- a bound name that the sender uses is not the receiver's channel
+    pub not-heard : (x : ℕ) → Usable S (S .home s) x → S .publics ≤ e → x ≡ e → ⊥
+    not-heard x u l q = apart x u (rw q (usable-name (S .home r) e ue l))
+
+    pub e-not-y : e ≡ y → ⊥
     e-not-y q =
         let h : member e (S .held (S .home r)) ≡ true = usable-held (S .home r) e ue (rw q (ny .low)) in
         false-true (ok .receive-fresh r e y m receives) (rw q at h)

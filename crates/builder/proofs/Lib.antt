@@ -45,4 +45,7 @@ pub mod HeldChains
 pub mod Marked
 pub mod Pairs
 pub mod PairLoops
+pub mod Rising
+pub mod Series
+pub mod Runs
 pub mod Partners

@@ -51,15 +51,14 @@ six out p k a b s i o =
 pub arcs-size : (ins outs : List ℕ) (i o : ℕ) → i ≤ length ins → o ≤ length outs → length (take i ins ++ take o outs) ≡ i + o
 arcs-size ins outs i o h k = length-append (take i ins) (take o outs) ∙ rw (length-take-le i ins h, length-take-le o outs k)
 
-pub put-arrow : (out ins outs o1 o2 o3 o4 o5 o6 w1 w2 : List ℕ) (place arc kind a b i o middle end : ℕ) → i ≤ length ins → o ≤ length outs
-    → o1 ≡ set out place kind → o2 ≡ set o1 (place + 1) a → o3 ≡ set o2 (place + 2) b → o4 ≡ set o3 (place + 3) arc → o5 ≡ set o4 (place + 4) i
-    → o6 ≡ set o5 (place + 5) o → w1 ≡ writes o6 arc (take i ins) → middle ≡ arc + i → w2 ≡ writes w1 middle (take o outs) → end ≡ middle + o
+pub put-arrow : (out ins outs o6 w1 w2 : List ℕ) (place arc kind a b i o middle end : ℕ) → i ≤ length ins → o ≤ length outs
+    → o6 ≡ writes out place (kind ∷ a ∷ b ∷ arc ∷ i ∷ o ∷ []) → w1 ≡ writes o6 arc (take i ins) → middle ≡ arc + i
+    → w2 ≡ writes w1 middle (take o outs) → end ≡ middle + o
     → heads w2 (place + 6) end ≡ putOne (heads out place arc) (arrow kind a b (take i ins) (take o outs))
-put-arrow out ins outs o1 o2 o3 o4 o5 o6 w1 w2 place arc kind a b i o middle end hi ho e1 e2 e3 e4 e5 e6 f1 m f2 n =
+put-arrow out ins outs o6 w1 w2 place arc kind a b i o middle end hi ho e f1 m f2 n =
     let li : length (take i ins) ≡ i = length-take-le i ins hi in
     let lo : length (take o outs) ≡ o = length-take-le o outs ho in
-    let r : o6 ≡ writes out place (kind ∷ a ∷ b ∷ arc ∷ length (take i ins) ∷ length (take o outs) ∷ []) =
-    rw (e6, e5, e4, e3, e2, e1, li, lo) (six out place kind a b arc i o) in
+    let r : o6 ≡ writes out place (kind ∷ a ∷ b ∷ arc ∷ length (take i ins) ∷ length (take o outs) ∷ []) = rw (e, li, lo) in
     let w : w2 ≡ writes (writes out place (kind ∷ a ∷ b ∷ arc ∷ length (take i ins) ∷ length (take o outs) ∷ [])) arc (take i ins ++ take o outs) =
     f2 ∙ ap (λ (l : List ℕ). writes l middle (take o outs)) (f1 ∙ ap (λ (l : List ℕ). writes l arc (take i ins)) r)
     ∙ ap (λ (k : ℕ). writes (writes (writes out place (kind ∷ a ∷ b ∷ arc ∷ length (take i ins) ∷ length (take o outs) ∷ [])) arc (take i ins)) k (take o outs))

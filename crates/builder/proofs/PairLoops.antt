@@ -1,22 +1,26 @@
--- The communications of a send and a receive: a loop over channel values, and in it one over sent values.
-use mathlib.Core.Path.{_≡_, sym, subst, _∙_}
+-- The communications of a send and a receive: a loop over channel values, and for each the sent values in one or two runs.
+use mathlib.Core.Path.{_≡_, sym, ap, subst, _∙_}
 use mathlib.Core.Bool.{true, false, _&&_}
-use mathlib.Core.List.{List, [], _∷_, map}
-use Prim.Native.Nat.{ℕ, _+_, _≤_, _<_}
+use mathlib.Core.List.{List, [], _∷_, _++_, map}
+use Prim.Native.Nat.{ℕ, _+_, _-_, _≤_, _<_}
 use native.Mathlib.Omega.{arith}
 use lib.ListN.{length, drop}
-use Rattle.lists.specs.Lists.{same, word, flat, member}
+use borrow.Author.Tests.{lt-ltb, le-ltb}
+use Rattle.lists.specs.Lists.{pick, same, word, from, flat, member}
 use Rattle.lists.proofs.Tests.{same-yes, same-no, same-true, and-left, and-right}
-use Rattle.lists.proofs.Members.{member-keep}
+use Rattle.lists.proofs.Members.{member-here, member-left, member-right, member-keep, map-append}
+use Rattle.lists.proofs.Ranges.{member-from}
 use Rattle.table.specs.Words.{publics, bounds, names, branchKind, channel, branchName}
 use Rattle.table.specs.Scheme.{scheme}
 use Rattle.builder.specs.Transitions.{Description, common, sentOn}
 use Rattle.builder.specs.Inner.Writing
 use Rattle.builder.specs.Inner.Writing.{putAll, Inside}
-use Rattle.builder.specs.Inner.Plan.{today, values, ofTable, told, sentTold, pairTold, Rowed, Paired, Reads, Lists, InBoth, reached}
+use Rattle.builder.specs.Inner.Plan.{today, values, ofTable, told, sentTold, pairTold, Rowed, Paired, Reads, Run, Lists, InBoth, reached}
 use Rattle.builder.specs.declared.layout.Layout.{Layout}
 use Rattle.builder.specs.declared.layout.Reach.{Reach}
 use Rattle.builder.specs.declared.communications.Pair.{Pair}
+use Rattle.builder.proofs.Writing.{put-none, put-append, inside-first}
+use Rattle.builder.proofs.Names.{values-public}
 use Rattle.builder.proofs.ByWords.{channel-inside, name-inside}
 use Rattle.builder.proofs.ValueLoops
 
@@ -60,7 +64,7 @@ module _ (w rows : List ℕ) (plan : Layout) (k : Rowed w rows plan) (p : Pair) 
   abbrev sentAt : ℕ → List Description
   sentAt = sentTold w (p .send) (p .receive)
 
-  -- ---- the loop over sent values
+  -- ---- the sent values of one channel value
 
   module _ (i : ℕ) (a : Reads w (channel w (p .send)) i) (e : Reads w (channel w (p .receive)) i) where
     -- "A name sent on itself has only j=i."
@@ -76,41 +80,86 @@ module _ (w rows : List ℕ) (plan : Layout) (k : Rowed w rows plan) (p : Pair) 
         same-no (branchName w (p .send)) (channel w (p .send)) (λ h. s (q .sent-is ∙ h ∙ sym (q .channel-is))) in
         rw (z, q .sent-is)
 
-    -- what is left where value n is due
-    abbrev pub SentLeft : Writing.Heads → Writing.Heads → ℕ → Type 0
-    SentLeft begin s n = putAll (ofTable w) begin (map (toldAt i) (values w (p .sent))) ≡ putAll (ofTable w) s (map (toldAt i) (drop n (values w (p .sent))))
+    -- a public name is sent as itself
+    pub public-is : (p .sent ≡ p .channel → ⊥) → p .sent < publics w → sentAt i ≡ toldAt i (p .sent) ∷ []
+    public-is s l = other-is s ∙ rw (values-public w (p .sent) l)
 
-    module _ (r : Reach) (l : Lists (publics w) (bounds w) r (values w (p .sent))) (count : ℕ)
-        (c : count ≡ length (reached (plan .publics) (plan .privates) r)) (begin s : Writing.Heads) (n : ℕ) (left : SentLeft begin s n) where
-      abbrev vs : List ℕ
-      vs = values w (p .sent)
+    pub public-reads : p .sent < publics w → Reads w (branchName w (p .send)) (p .sent)
+    public-reads l =
+        subst (λ (x : ℕ). Reads w x (p .sent)) (q .sent-is)
+        (record { high = sent-high; value = rw (values-public w (p .sent) l) (member-here (p .sent) []) })
 
-      abbrev all : Writing.Heads
-      all = putAll (ofTable w) begin (map (toldAt i) vs)
+    -- a bound name is sent with public values first, then with private ones
+    module _ (r : Reach) (l : Lists (publics w) (bounds w) r (values w (p .sent))) (s : p .sent ≡ p .channel → ⊥) (b : publics w ≤ p .sent) where
+      abbrev pub firstTold : List Description
+      firstTold = map (toldAt i) (from (r .low) (r .high - r .low))
 
-      size : count ≡ length vs
-      size = ValueLoops.reach-count w plan r vs (k .publics-are) (k .privates-are) l count c
+      abbrev pub lastTold : List Description
+      lastTold = map (toldAt i) (from (plan .publics) (plan .privates))
 
-      pub sent-done : count ≤ n → s ≡ all
-      sent-done h = ValueLoops.map-done (ofTable w) all s vs n (toldAt i) left (omega (arith, size))
+      values-are : values w (p .sent) ≡ from (r .low) (r .high - r .low) ++ pick (r .privates) (from (plan .publics) (plan .privates)) []
+      unfolding reached
+      values-are = sym (ValueLoops.reach-is w plan r (values w (p .sent)) (k .publics-are) (k .privates-are) l)
 
-      module _ (v : ℕ) (h : n < count) (is : v ≡ word (reached (plan .publics) (plan .privates) r) n) where
-        at : v ≡ word vs n
-        at = ValueLoops.reach-at w plan r vs (k .publics-are) (k .privates-are) l n v is
+      split : sentAt i ≡ firstTold ++ map (toldAt i) (pick (r .privates) (from (plan .publics) (plan .privates)) [])
+      split = other-is s ∙ ap (map (toldAt i)) values-are ∙ map-append (toldAt i) (from (r .low) (r .high - r .low)) (pick (r .privates) (from (plan .publics) (plan .privates)) [])
 
-        stands : member v vs ≡ true
-        stands = ValueLoops.reach-member w plan r vs (k .publics-are) (k .privates-are) l n v (omega (arith, size)) is
+      reads : (v : ℕ) → member v (values w (p .sent)) ≡ true → Reads w (branchName w (p .send)) v
+      reads v m = subst (λ (x : ℕ). Reads w x v) (q .sent-is) (record { high = sent-high; value = m })
 
-        reads : Reads w (branchName w (p .send)) v
-        reads = subst (λ (x : ℕ). Reads w x v) (q .sent-is) (record { high = sent-high; value = stands })
+      pub first-run : r .low < r .high → Run w p (r .low) (r .high - r .low)
+      first-run h = record {
+        some = omega arith;
+        bound = b;
+        other = s;
+        reads = λ v x y. reads v (ap (member v) values-are
+            ∙ member-left v (from (r .low) (r .high - r .low)) (pick (r .privates) (from (plan .publics) (plan .privates)) [])
+            (member-from v (r .low) (r .high - r .low) x y));
+        kind = λ v x y. lt-ltb v (publics w) (omega (arith, l .inside)) ∙ sym (lt-ltb (r .low) (publics w) (omega (arith, l .inside)));
+      }
 
-        pub sent-needs : Inside all
-            → Rowed w rows plan × Paired w p × Reads w (channel w (p .send)) i × Reads w (channel w (p .receive)) i
-            × Reads w (branchName w (p .send)) v × Inside (putAll (ofTable w) s (toldAt i v ∷ []))
-        sent-needs o = (k, q, a, e, reads, ValueLoops.map-inside (ofTable w) all s vs n (toldAt i) left v (omega (arith, size)) at o)
+      pub last-run : r .privates ≡ true → Run w p (plan .publics) (plan .privates)
+      last-run h = record {
+        some = omega (arith, sent-high, k .privates-are);
+        bound = b;
+        other = s;
+        reads = λ v x y. reads v (ap (member v) values-are
+            ∙ member-right v (from (r .low) (r .high - r .low)) (pick (r .privates) (from (plan .publics) (plan .privates)) [])
+            (rw h (member-from v (plan .publics) (plan .privates) x y)));
+        kind = λ v x y. le-ltb v (publics w) (omega (arith, k .publics-are)) ∙ sym (le-ltb (plan .publics) (publics w) (omega (arith, k .publics-are)));
+      }
 
-        pub sent-more : (t : Writing.Heads) → t ≡ putAll (ofTable w) s (toldAt i v ∷ []) → SentLeft begin t (n + 1)
-        sent-more t f = ValueLoops.map-more (ofTable w) all s vs n (toldAt i) left v (omega (arith, size)) at t f
+      module _ (begin : Writing.Heads) where
+        abbrev all : Writing.Heads
+        all = putAll (ofTable w) begin (sentAt i)
+
+        pub first-inside : Inside all → Inside (putAll (ofTable w) begin firstTold)
+        first-inside n =
+            inside-first (ofTable w) begin firstTold (map (toldAt i) (pick (r .privates) (from (plan .publics) (plan .privates)) []))
+            (subst (λ (ds : List Description). Inside (putAll (ofTable w) begin ds)) split n)
+
+        pub first-none : (t : Writing.Heads) → r .high ≤ r .low → t ≡ begin → t ≡ putAll (ofTable w) begin firstTold
+        unfolding from
+        first-none t h e =
+            let z : r .high - r .low ≡ 0 = omega arith in
+            e ∙ sym (rw z (put-none (ofTable w) begin))
+
+        module _ (t : Writing.Heads) (is-first : t ≡ putAll (ofTable w) begin firstTold) where
+          both : r .privates ≡ true → all ≡ putAll (ofTable w) t lastTold
+          both h =
+              ap (putAll (ofTable w) begin) (split ∙ rw h) ∙ put-append (ofTable w) begin firstTold lastTold
+              ∙ ap (λ (u : Writing.Heads). putAll (ofTable w) u lastTold) (sym is-first)
+
+          pub last-inside : r .privates ≡ true → Inside all → Inside (putAll (ofTable w) t lastTold)
+          last-inside h n = subst Inside (both h) n
+
+          pub sent-both : r .privates ≡ true → (u : Writing.Heads) → u ≡ putAll (ofTable w) t lastTold → u ≡ all
+          sent-both h u f = f ∙ sym (both h)
+
+          pub sent-first : r .privates ≡ false → t ≡ all
+          sent-first h =
+              is-first ∙ sym (put-none (ofTable w) (putAll (ofTable w) begin firstTold)) ∙ sym (put-append (ofTable w) begin firstTold [])
+              ∙ ap (putAll (ofTable w) begin) (sym (split ∙ rw h))
 
   -- ---- the loop over channel values
 

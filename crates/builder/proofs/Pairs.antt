@@ -9,7 +9,8 @@ use lib.ListN.{length, take}
 use Rattle.lists.specs.Lists.{range, member}
 use Rattle.lists.proofs.Tests.{same-true}
 use Rattle.lists.proofs.Ranges.{from-member, member-from, from-append}
-use Rattle.lists.proofs.Members.{one-member}
+use Rattle.lists.proofs.Members.{one-member, member-place}
+use Rattle.lists.proofs.Ascending.{element-below}
 use Rattle.table.specs.Words.{publics, bounds, names, nodes, branches, branchKind, channel, branchName, next}
 use Rattle.table.specs.Owners.{home}
 use Rattle.table.specs.Scheme.{Scheme, send, receive, present, nextNode, scheme}
@@ -20,8 +21,9 @@ use Rattle.builder.specs.Places.{Place, equals, differs, control, places
 use Rattle.builder.specs.Rows.{numberOf, IsBound, Exists, has-differs, has-control}
 use Rattle.builder.specs.Inner.Arcs.{insert, exists, numbersOf}
 use Rattle.builder.specs.Inner.Writing.{putOne, putAll, Inside}
-use Rattle.builder.specs.Inner.Plan.{today, values, controlOf, Holds, Reads, Differs, ofTable, state, put, told, Paired, arrow, Rising, Inserted}
+use Rattle.builder.specs.Inner.Plan.{today, values, controlOf, Holds, Reads, Differs, ofTable, state, put, told, Paired, arrow, Rising, Inserted, insOf, outsOf, Tells}
 use Rattle.builder.specs.declared.write.Heads.{Heads}
+use Rattle.builder.specs.declared.write.Arcs.{Arcs}
 use Rattle.builder.specs.declared.communications.Pair.{Pair}
 use Rattle.builder.proofs.Rows.{places-length, number-below}
 use Rattle.builder.proofs.Numbers.{numbers-few}
@@ -194,16 +196,16 @@ module _ (w : List ℕ) (list after : List ℕ) (count r : ℕ) (ps : List Place
   move-at m n h e i s = fill-yes w list after count r n (control m 0) ps f (control-exists w m h) (control-number w m n e) i s
 
 module _ (w : List ℕ) (ok : cause w ≡ 0) (p : Pair) (k : Paired w p) where
-  sends : scheme w .branch (p .send) ≡ send (channel w (p .send)) (branchName w (p .send)) (next w (p .send))
+  pub sends : scheme w .branch (p .send) ≡ send (channel w (p .send)) (branchName w (p .send)) (next w (p .send))
   sends = send-branch w ok (p .send) (k .send-inside) (same-true (branchKind w (p .send)) 1 (k .sends))
 
-  receives : scheme w .branch (p .receive) ≡ receive (channel w (p .receive)) (branchName w (p .receive)) (next w (p .receive))
+  pub receives : scheme w .branch (p .receive) ≡ receive (channel w (p .receive)) (branchName w (p .receive)) (next w (p .receive))
   receives = receive-branch w ok (p .receive) (k .receive-inside) (same-true (branchKind w (p .receive)) 2 (k .receives))
 
   abbrev y : ℕ
   y = branchName w (p .receive)
 
-  heard-free : scheme w .restricted y ≡ false
+  pub heard-free : scheme w .restricted y ≡ false
   heard-free = accepted w ok .receive-free (p .receive) (channel w (p .receive)) y (next w (p .receive)) receives
 
   heard-low : publics w ≤ y
@@ -252,36 +254,67 @@ module _ (w : List ℕ) (ok : cause w ≡ 0) (p : Pair) (k : Paired w p) where
     gives = subst (λ (x : ℕ). Holds w x j) (sym (k .bound-is)) (pair-given j (value-small w (branchName w (p .send)) j (z .value) (z .high)));
   }
 
-  told-inputs : (i j : ℕ) → ofTable w (told w (p .send) (p .receive) i j) .inputs ≡ numbers w (takesOf w p i j)
+  pub told-inputs : (i j : ℕ) → ofTable w (told w (p .send) (p .receive) i j) .inputs ≡ numbers w (takesOf w p i j)
   told-inputs i j =
       inputs-named (scheme w) (today w) (told w (p .send) (p .receive) i j)
       ∙ rw (home-is (p .send), home-is (p .receive), heard-free, k .channel-is, k .heard-is, k .sent-is, k .bound-is)
       (sym (put-in-order w (control (home w (p .send)) 0) (control (home w (p .receive)) 0) (equals (channel w (p .send)) i)
       (equals (channel w (p .receive)) i) (equals (branchName w (p .send)) j) (differs y j)))
 
-  told-outputs : (i j : ℕ) → ofTable w (told w (p .send) (p .receive) i j) .outputs ≡ numbers w (givesOf w p i j)
+  pub told-outputs : (i j : ℕ) → ofTable w (told w (p .send) (p .receive) i j) .outputs ≡ numbers w (givesOf w p i j)
   told-outputs i j =
       outputs-named (scheme w) (today w) (told w (p .send) (p .receive) i j)
       ∙ rw (heard-free, k .channel-is, k .heard-is, k .sent-is, k .bound-is)
       (sym (put-in-order w (control (next w (p .send)) 0) (control (next w (p .receive)) 0) (equals (channel w (p .send)) i)
       (equals (channel w (p .receive)) i) (equals (branchName w (p .send)) j) (equals y j)))
 
-  pub told-put : (i j : ℕ) (out : List ℕ) (h : Heads) (ins outs : List ℕ) (c o : ℕ) → Filled w ins c (takesOf w p i j) → Filled w outs o (givesOf w p i j)
-      → put w out h (told w (p .send) (p .receive) i j ∷ []) ≡ putOne (state out h) (arrow 4 (p .send) (p .receive) (take c ins) (take o outs))
-  unfolding putAll
-  told-put i j out h ins outs c o f g =
-      let d = ofTable w (told w (p .send) (p .receive) i j) in
-      ap (λ (l : List ℕ). putOne (state out h) (arrow 4 (p .send) (p .receive) l (d .outputs))) (told-inputs i j ∙ sym (f .first))
-      ∙ ap (λ (l : List ℕ). putOne (state out h) (arrow 4 (p .send) (p .receive) (take c ins) l)) (told-outputs i j ∙ sym (g .first))
+  few-numbers : (ps : List Place) (x : ℕ) → member x (numbers w ps) ≡ true → x < 65536
+  few-numbers ps x m =
+      let q = member-place x (numbers w ps) m in
+      let a = numbers-ascend (scheme w) (today w) 0 65536 ps (λ p i e. (
+        omega arith,
+        omega (
+          arith,
+          number-below (scheme w) (today w) p p e,
+          places-length (scheme w) (today w),
+          ap (controlOf w) (nodes-are w),
+          control-few w ok (nodes w) (omega arith),
+        ),
+      )) in
+      omega (arith, element-below 65536 0 (numbers w ps) a (q .place) (q .inside), q .holds)
 
-  pub told-inside : (i j : ℕ) (out : List ℕ) (h : Heads) (ins outs : List ℕ) (c o : ℕ) → Filled w ins c (takesOf w p i j) → Filled w outs o (givesOf w p i j)
+  pub tells : (i j : ℕ) (ins outs : List ℕ) (c o : ℕ) → Filled w ins c (takesOf w p i j) → Filled w outs o (givesOf w p i j)
+      → Tells w p i j (record { ins = ins; inputs = c; outs = outs; outputs = o })
+  tells i j ins outs c o f g = record {
+    short = record {
+      ins-eight = f .eight;
+      outs-eight = g .eight;
+      ins-fit = omega (arith, fill-fits w ins c (takesOf w p i j) f (omega arith), f .eight);
+      outs-fit = omega (arith, fill-fits w outs o (givesOf w p i j) g (omega arith), g .eight);
+      ins-small = λ x m. few-numbers (takesOf w p i j) x (ap (member x) (sym (f .first)) ∙ m);
+      outs-small = λ x m. few-numbers (givesOf w p i j) x (ap (member x) (sym (g .first)) ∙ m);
+    };
+    ins-are = f .first ∙ sym (told-inputs i j);
+    outs-are = g .first ∙ sym (told-outputs i j);
+  }
+
+  -- one communication as a transition of its arcs
+  pub told-put : (i j : ℕ) (out : List ℕ) (h : Heads) (t : Arcs) → Tells w p i j t
+      → put w out h (told w (p .send) (p .receive) i j ∷ []) ≡ putOne (state out h) (arrow 4 (p .send) (p .receive) (insOf t) (outsOf t))
+  unfolding putAll
+  told-put i j out h t e =
+      let d = ofTable w (told w (p .send) (p .receive) i j) in
+      ap (λ (l : List ℕ). putOne (state out h) (arrow 4 (p .send) (p .receive) l (d .outputs))) (sym (e .ins-are))
+      ∙ ap (λ (l : List ℕ). putOne (state out h) (arrow 4 (p .send) (p .receive) (insOf t) l)) (sym (e .outs-are))
+
+  pub told-inside : (i j : ℕ) (out : List ℕ) (h : Heads) (t : Arcs) → Tells w p i j t
       → Inside (put w out h (told w (p .send) (p .receive) i j ∷ []))
-      → (p .send < 65536) × (p .receive < 65536) × (c ≤ length ins) × (o ≤ length outs)
-      × Inside (putOne (state out h) (arrow 4 (p .send) (p .receive) (take c ins) (take o outs)))
-  told-inside i j out h ins outs c o f g n = (
+      → (p .send < 65536) × (p .receive < 65536) × (t .inputs ≤ length (t .ins)) × (t .outputs ≤ length (t .outs))
+      × Inside (putOne (state out h) (arrow 4 (p .send) (p .receive) (insOf t) (outsOf t)))
+  told-inside i j out h t e n = (
     branch-small (p .send) (k .send-inside),
     branch-small (p .receive) (k .receive-inside),
-    fill-fits w ins c (takesOf w p i j) f (omega arith),
-    fill-fits w outs o (givesOf w p i j) g (omega arith),
-    subst Inside (told-put i j out h ins outs c o f g) n,
+    omega (arith, e .short .ins-eight, e .short .ins-fit),
+    omega (arith, e .short .outs-eight, e .short .outs-fit),
+    subst Inside (told-put i j out h t e) n,
   )

@@ -128,7 +128,7 @@ next-below : (w : List ℕ) → cause w ≡ 0 → (b : ℕ) → present (scheme 
 next-below w ok b h e = omega (arith, nodes-are w, accepted w ok .next-inside b h, e)
 
 pub pair-known : (w homes defs spots : List ℕ) (s r a z e y hs sender ns onsend hr receiver nr onreceive : ℕ) → Defined w homes defs → Spotted w spots
-    → s < branches w → r < branches w → isSend w s ≡ true → branchKind w r ≡ 2 → a ≡ field4 w 11 s 1 → z ≡ field4 w 11 s 2 → e ≡ field4 w 11 r 1
+    → s < branches w → r < branches w → isSend w s ≡ true → branchKind w r ≡ 2 → (branchThread w r ≡ branchThread w s → ⊥) → a ≡ field4 w 11 s 1 → z ≡ field4 w 11 s 2 → e ≡ field4 w 11 r 1
     → y ≡ field4 w 11 r 2 → hs ≡ word homes s → sender ≡ word spots hs → ns ≡ field4 w 11 s 3 → onsend ≡ word spots ns → hr ≡ word homes r
     → receiver ≡ word spots hr → nr ≡ field4 w 11 r 3 → onreceive ≡ word spots nr
     → Paired w (record {
@@ -143,11 +143,12 @@ pub pair-known : (w homes defs spots : List ℕ) (s r a z e y hs sender ns onsen
       receiver = receiver;
       onreceive = onreceive;
     })
-pair-known w homes defs spots s r a z e y hs sender ns onsend hr receiver nr onreceive k t ls lr q u ea ez ee ey eh es en eo fh fs fn fo = record {
+pair-known w homes defs spots s r a z e y hs sender ns onsend hr receiver nr onreceive k t ls lr q u d ea ez ee ey eh es en eo fh fs fn fo = record {
   send-inside = ls;
   receive-inside = lr;
   sends = q;
   receives = same-yes (branchKind w r) 2 u;
+  apart = d;
   channel-is = ea;
   sent-is = ez;
   heard-is = ee;

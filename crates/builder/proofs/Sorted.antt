@@ -33,12 +33,12 @@ unfolding insert
 insert-last k = refl
 
 -- k below x, at x, or above
-data Way (k x : ℕ) : Type 0 where
+pub data Way (k x : ℕ) : Type 0 where
   below : k < x → Way k x
   here : k ≡ x → Way k x
   above : x < k → Way k x
 
-way : (k x : ℕ) → Way k x
+pub way : (k x : ℕ) → Way k x
 way k x = go (decLt k x) (ℕ-discrete k x)
   where
     go : Dec (k < x) → Dec (k ≡ x) → Way k x

@@ -43,6 +43,13 @@ writes-behind a (y ∷ d) (x ∷ v) i e h =
     ap (λ (o : List ℕ). writes o (i + 1) v) (set-at a y d x i e ∙ sym (append-snoc a x d))
     ∙ writes-behind (a ++ (x ∷ [])) d v (i + 1) l (omega arith) ∙ append-snoc a x (v ++ drop (length v) d)
 
+-- a record and arcs that are written within the buffer
+pub one-room : (s : Heads) (t : Transition) → Inside (putOne s t) → (s .place + 6 ≤ length (s .out)) × (s .arc + length (arcsOf t) ≤ length (s .out))
+one-room s t h =
+    let a = writes-length (s .out) (s .place) (recordWords (s .arc) t) in
+    let b = writes-length (writes (s .out) (s .place) (recordWords (s .arc) t)) (s .arc) (arcsOf t) in
+    (omega (arith, h .place-fits), omega (arith, h .arc-fits))
+
 -- ---- lists of transitions
 
 module _ {A : Type 0} (f : A → Transition) where
@@ -111,7 +118,14 @@ module _ {A : Type 0} (f : A → Transition) where
       let a = put-arc (putAll f s xs) ys in
       let q : putAll f s (xs ++ ys) .place ≡ putAll f (putAll f s xs) ys .place = ap (λ (t : Heads). t .place) e in
       let b : putAll f s (xs ++ ys) .arc ≡ putAll f (putAll f s xs) ys .arc = ap (λ (t : Heads). t .arc) e in
-      record { place-small = omega (arith, h .place-small); arc-small = omega (arith, h .arc-small) }
+      let l : length (putAll f s (xs ++ ys) .out) ≡ length (putAll f s xs .out) =
+      ap (λ (t : Heads). length (t .out)) e ∙ put-length (putAll f s xs) ys in
+      record {
+        place-small = omega (arith, h .place-small);
+        arc-small = omega (arith, h .arc-small);
+        place-fits = omega (arith, h .place-fits);
+        arc-fits = omega (arith, h .arc-fits);
+      }
 
   -- ---- all that was written, as lists: a stands before the head of the records, g is the room of the records, b are the arcs so far, h is the room behind
 

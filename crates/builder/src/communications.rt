@@ -1,13 +1,14 @@
 // The communications.
 ghost use mathlib.Core.Bool.{true};
 ghost use mathlib.Core.Path.{_≡_};
-ghost use mathlib.Core.List.{[], _∷_};
+ghost use mathlib.Core.List.{[], _∷_, map};
 ghost use Prim.Native.Nat.{_+_, _-_, _<_};
+ghost use Rattle.lists.specs.Lists.{from};
 ghost use Rattle.table.specs.Words.{branches, channel, branchName, isSend};
 ghost use Rattle.builder.specs.Inner.Writing.{Inside};
 ghost use Rattle.builder.specs.Inner.Plan.{put, state, told, sentTold, pairTold, withAll, allTold};
 ghost use Rattle.builder.specs.Inner.Plan.{Rowed, Laid, Defined, Paired};
-ghost use Rattle.builder.specs.Inner.Plan.{Reads};
+ghost use Rattle.builder.specs.Inner.Plan.{Reads, Tells, Run};
 use crate::count::common;
 use crate::count::thread_of;
 use crate::insertion::insert;
@@ -17,7 +18,9 @@ use crate::layout::equals;
 use crate::layout::reach_of;
 use crate::layout::value_at;
 use crate::layout::value_count;
+use crate::write::Arcs;
 use crate::write::Heads;
+use crate::write::series;
 use crate::write::transition;
 use lists::word16;
 use lists::word32;
@@ -38,6 +41,45 @@ pub struct Pair {
     pub onreceive: u32,
 }
 
+// The arcs at channel value i and sent value j. What is read is both input and output.
+fn arcs_of(table: &[u16], rows: &[u32], plan: Layout, p: Pair, i: usize, j: usize) -> Arcs
+    requires { ⌜ Rowed (now table) (now rows) plan × Paired (now table) p
+        × Reads (now table) (channel (now table) (p .send)) i × Reads (now table) (channel (now table) (p .receive)) i
+        × Reads (now table) (branchName (now table) (p .send)) j ⌝ }
+    ensures { λ r. ⌜ Tells (now (table .entry)) p i j r ⌝ }
+{
+    let a = p.channel;
+    let e = p.heard;
+    let z = p.sent;
+    let y = p.bound;
+    let mut ins = [0u32; 8];
+    let mut c = 0;
+    if plan.publics <= a {
+        c = insert(&mut ins, c, equals(table, rows, plan, a, i));
+    }
+    if plan.publics <= e {
+        c = insert(&mut ins, c, equals(table, rows, plan, e, i));
+    }
+    if plan.publics <= z {
+        c = insert(&mut ins, c, equals(table, rows, plan, z, j));
+    }
+    let mut outs = ins;
+    let mut o = insert(&mut outs, c, equals(table, rows, plan, y, j));
+    o = insert(&mut outs, o, p.onsend);
+    o = insert(&mut outs, o, p.onreceive);
+    if plan.publics <= j {
+        c = insert(&mut ins, c, differs(table, rows, plan, y, j));
+    }
+    c = insert(&mut ins, c, p.sender);
+    c = insert(&mut ins, c, p.receiver);
+    Arcs {
+        ins,
+        inputs: c,
+        outs,
+        outputs: o,
+    }
+}
+
 fn communicate(
     table: &[u16],
     rows: &[u32],
@@ -55,35 +97,51 @@ fn communicate(
     ensures { λ r. ⌜ state (now (out .exit)) r
         ≡ put (now (table .entry)) (now (out .entry)) h (told (now (table .entry)) (p .send) (p .receive) i j ∷ []) ⌝ }
 {
-    let a = p.channel;
-    let z = p.sent;
-    let e = p.heard;
-    let y = p.bound;
-    let mut ins = [0u32; 8];
-    let mut outs = [0u32; 8];
-    let mut c = 0;
-    let mut o = 0;
-    if plan.publics <= a {
-        c = insert(&mut ins, c, equals(table, rows, plan, a, i));
-        o = insert(&mut outs, o, equals(table, rows, plan, a, i));
+    let t = arcs_of(table, rows, plan, p, i, j);
+    let ins = t.ins;
+    let outs = t.outs;
+    transition(
+        out,
+        h,
+        4,
+        p.send,
+        p.receive,
+        &ins,
+        t.inputs,
+        &outs,
+        t.outputs,
+    )
+}
+
+// Sent values from `low` on, for one channel value. From one to the next the places of the sent name and of the bound
+// name rise by 1, and the order of the arcs stays.
+fn tell(
+    table: &[u16],
+    rows: &[u32],
+    plan: Layout,
+    out: &mut [u32],
+    h: Heads,
+    p: Pair,
+    i: usize,
+    low: usize,
+    count: usize,
+) -> Heads
+    requires { ⌜ Rowed (now table) (now rows) plan × Paired (now table) p
+        × Reads (now table) (channel (now table) (p .send)) i × Reads (now table) (channel (now table) (p .receive)) i
+        × Run (now table) p low count
+        × Inside (put (now table) (now out) h (map (told (now table) (p .send) (p .receive) i) (from low count))) ⌝ }
+    ensures { λ r. ⌜ state (now (out .exit)) r
+        ≡ put (now (table .entry)) (now (out .entry)) h
+        (map (told (now (table .entry)) (p .send) (p .receive) i) (from low count)) ⌝ }
+{
+    let t = arcs_of(table, rows, plan, p, i, low);
+    let z = equals(table, rows, plan, p.sent, low);
+    let y = equals(table, rows, plan, p.bound, low);
+    if low < plan.publics {
+        return series(out, h, 4, p.send, p.receive, t, z, y, z, count);
     }
-    if plan.publics <= e {
-        c = insert(&mut ins, c, equals(table, rows, plan, e, i));
-        o = insert(&mut outs, o, equals(table, rows, plan, e, i));
-    }
-    if plan.publics <= z {
-        c = insert(&mut ins, c, equals(table, rows, plan, z, j));
-        o = insert(&mut outs, o, equals(table, rows, plan, z, j));
-    }
-    if plan.publics <= j {
-        c = insert(&mut ins, c, differs(table, rows, plan, y, j));
-    }
-    o = insert(&mut outs, o, equals(table, rows, plan, y, j));
-    c = insert(&mut ins, c, p.sender);
-    c = insert(&mut ins, c, p.receiver);
-    o = insert(&mut outs, o, p.onsend);
-    o = insert(&mut outs, o, p.onreceive);
-    transition(out, h, 4, p.send, p.receive, &ins, c, &outs, o)
+    let d = differs(table, rows, plan, p.bound, low);
+    series(out, h, 4, p.send, p.receive, t, z, y, d, count)
 }
 
 // All sent values for one channel value.
@@ -105,13 +163,16 @@ fn sent(
     if p.sent == p.channel {
         return communicate(table, rows, plan, out, h, p, i, i);
     }
+    if p.sent < plan.publics {
+        return communicate(table, rows, plan, out, h, p, i, p.sent);
+    }
     let r = reach_of(table, p.sent);
-    let count = value_count(plan, r);
     let mut q = h;
-    let mut k = 0;
-    while k < count {
-        q = communicate(table, rows, plan, out, q, p, i, value_at(plan, r, k));
-        k += 1;
+    if r.low < r.high {
+        q = tell(table, rows, plan, out, q, p, i, r.low, r.high - r.low);
+    }
+    if r.privates {
+        q = tell(table, rows, plan, out, q, p, i, plan.publics, plan.privates);
     }
     q
 }

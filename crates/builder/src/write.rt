@@ -1,12 +1,12 @@
 // Writing the header, and with two heads the record and the arcs of a transition.
 ghost use mathlib.Core.Path.{_≡_};
-ghost use mathlib.Core.List.{[], _∷_};
+ghost use mathlib.Core.List.{[], _∷_, map};
 ghost use Prim.Native.Nat.{_+_, _-_, _*_, _<_, _≤_};
 ghost use lib.ListN.{length, take};
-ghost use Rattle.lists.specs.Lists.{from};
-ghost use Rattle.builder.specs.Inner.Writing.{writes, putOne, Inside};
+ghost use Rattle.lists.specs.Lists.{from, range};
+ghost use Rattle.builder.specs.Inner.Writing.{writes, putOne, putAll, Inside, stepOf, sums, Steady};
 ghost use Rattle.builder.specs.Inner.Counting.{Few, sumsOf};
-ghost use Rattle.builder.specs.Inner.Plan.{state, arrow};
+ghost use Rattle.builder.specs.Inner.Plan.{state, arrow, risen, Short};
 ghost use Rattle.builder.specs.Inner.Plan.{headerOf};
 use crate::count::Totals;
 use crate::layout::Layout;
@@ -16,6 +16,14 @@ use lists::store32;
 pub struct Heads {
     pub place: usize,
     pub arc: usize,
+}
+
+// The arcs of a transition: the first `inputs` and the first `outputs` words.
+pub struct Arcs {
+    pub ins: [u32; 8],
+    pub inputs: usize,
+    pub outs: [u32; 8],
+    pub outputs: usize,
 }
 
 pub(crate) fn words(out: &mut [u32], at: usize, list: &[u32], count: usize) -> usize
@@ -28,6 +36,30 @@ pub(crate) fn words(out: &mut [u32], at: usize, list: &[u32], count: usize) -> u
         i += 1;
     }
     at + count
+}
+
+// The record of a transition whose arcs start at `arc`.
+fn put_record(
+    out: &mut [u32],
+    place: usize,
+    kind: u32,
+    a: usize,
+    b: usize,
+    arc: usize,
+    inputs: usize,
+    outputs: usize,
+)
+    requires { ⌜ (place + 6 ≤ length (now out)) × (a < 65536) × (b < 65536) × (arc < 4294967296)
+        × (inputs < 4294967296) × (outputs < 4294967296) ⌝ }
+    ensures { λ r. ⌜ now (out .exit)
+        ≡ writes (now (out .entry)) place (kind ∷ a ∷ b ∷ arc ∷ inputs ∷ outputs ∷ []) ⌝ }
+{
+    out[place] = kind;
+    out[place + 1] = a as u32;
+    out[place + 2] = b as u32;
+    out[place + 3] = arc as u32;
+    out[place + 4] = inputs as u32;
+    out[place + 5] = outputs as u32;
 }
 
 // A transition: its record and its arcs.
@@ -49,12 +81,7 @@ pub(crate) fn transition(
 {
     let place = h.place;
     let arc = h.arc;
-    store32(out, place, kind);
-    store32(out, place + 1, a as u32);
-    store32(out, place + 2, b as u32);
-    store32(out, place + 3, arc as u32);
-    store32(out, place + 4, inputs as u32);
-    store32(out, place + 5, outputs as u32);
+    put_record(out, place, kind, a, b, arc, inputs, outputs);
     let middle = words(out, arc, ins, inputs);
     let end = words(out, middle, outs, outputs);
     Heads {
@@ -70,6 +97,93 @@ pub(crate) fn go(out: &mut [u32], h: Heads, kind: u32, a: usize, from: u32, to: 
     let ins = [from; 1];
     let outs = [to; 1];
     transition(out, h, kind, a, 0, &ins, 1, &outs, 1)
+}
+
+// 1 for a number that rises, 0 for another.
+fn step(x: u32, a: u32, b: u32, c: u32) -> u32
+    ensures { λ r. ⌜ r ≡ stepOf (a ∷ b ∷ c ∷ []) x ⌝ }
+{
+    if x == a {
+        return 1;
+    }
+    if x == b {
+        return 1;
+    }
+    if x == c {
+        return 1;
+    }
+    0
+}
+
+fn steps_of(list: &[u32; 16], a: u32, b: u32, c: u32) -> [u32; 16]
+    requires { ⌜ length (now list) ≡ 16 ⌝ }
+    ensures { λ r. ⌜ r ≡ map (stepOf (a ∷ b ∷ c ∷ [])) (now (list .entry)) ⌝ }
+{
+    let mut steps = [0u32; 16];
+    let mut k = 0;
+    while k < 16 {
+        steps[k] = step(list[k], a, b, c);
+        k += 1;
+    }
+    steps
+}
+
+// Writes the first `count` numbers of a list, each after t of its steps.
+fn raised(
+    out: &mut [u32],
+    at: usize,
+    list: &[u32; 16],
+    steps: &[u32; 16],
+    count: usize,
+    t: u32,
+) -> usize
+    requires { ⌜ (count ≤ 16) × (at + count ≤ length (now out)) × Steady (now list) (now steps) count × (t < 65536) ⌝ }
+    ensures { λ r. ⌜ (r ≡ at + count)
+        × (now (out .exit) ≡ writes (now (out .entry)) at (take count (sums t (now (list .entry)) (now (steps .entry))))) ⌝ }
+{
+    let mut i = 0;
+    while i < count {
+        out[at + i] = list[i] + steps[i] * t;
+        i += 1;
+    }
+    at + count
+}
+
+// Transitions of one label that follow one another: the first has the given arcs, and from one to the next the arcs a, b
+// and c rise by 1.
+pub(crate) fn series(
+    out: &mut [u32],
+    h: Heads,
+    kind: u32,
+    x: usize,
+    y: usize,
+    arcs: Arcs,
+    a: u32,
+    b: u32,
+    c: u32,
+    count: usize,
+) -> Heads
+    requires { ⌜ (x < 65536) × (y < 65536) × (count < 65536) × Short arcs
+        × Inside (putAll (risen kind x y arcs (a ∷ b ∷ c ∷ [])) (state (now out) h) (range count)) ⌝ }
+    ensures { λ r. ⌜ state (now (out .exit)) r
+        ≡ putAll (risen kind x y arcs (a ∷ b ∷ c ∷ [])) (state (now (out .entry)) h) (range count) ⌝ }
+{
+    let ins = arcs.ins;
+    let outs = arcs.outs;
+    let mut list = [0u32; 16];
+    let middle = words(&mut list, 0, &ins, arcs.inputs);
+    let size = words(&mut list, middle, &outs, arcs.outputs);
+    let steps = steps_of(&list, a, b, c);
+    let mut place = h.place;
+    let mut arc = h.arc;
+    let mut t = 0;
+    while t < count {
+        put_record(out, place, kind, x, y, arc, arcs.inputs, arcs.outputs);
+        arc = raised(out, arc, &list, &steps, size, t as u32);
+        place += 6;
+        t += 1;
+    }
+    Heads { place, arc }
 }
 
 pub(crate) fn header(out: &mut [u32], plan: Layout, t: Totals)

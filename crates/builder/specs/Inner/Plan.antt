@@ -3,10 +3,11 @@ use mathlib.Core.Path.{_≡_}
 use mathlib.Core.Bool.{Bool, true, false, not}
 use mathlib.Core.List.{List, [], _∷_, _++_, map}
 use Prim.Native.Nat.{ℕ, _+_, _-_, _*_, _≤_, _<_}
+use lib.Dec.{ltb}
 use lib.ListN.{length, take}
 use Rattle.lists.specs.Lists.{pick, word, from, range, keep, flat, member, ascends}
 use Rattle.table.specs.Words.{publics, bounds, names, nodes, branches, argument, channel, branchName, next, nodeFirst, nodeSecond, isSend, isReceive}
-use Rattle.table.specs.Owners.{owner, home, definition}
+use Rattle.table.specs.Owners.{owner, home, definition, branchThread}
 use Rattle.table.specs.Index.{ownerNumber}
 use Rattle.table.specs.Scheme.{Scheme, scheme}
 use Rattle.table.specs.Causes.{cause}
@@ -19,10 +20,11 @@ use Rattle.builder.specs.Transitions.{Description, making, communicating
 use Rattle.builder.specs.Image.{transitionOf}
 use Rattle.builder.specs.Inner.Arcs.{insert, initialNumbers, startsAt}
 use Rattle.builder.specs.Inner.Writing
-use Rattle.builder.specs.Inner.Writing.{heads, putAll}
+use Rattle.builder.specs.Inner.Writing.{heads, putAll, rise}
 use Rattle.builder.specs.declared.layout.Layout.{Layout}
 use Rattle.builder.specs.declared.layout.Reach.{Reach}
 use Rattle.builder.specs.declared.write.Heads.{Heads}
+use Rattle.builder.specs.declared.write.Arcs.{Arcs}
 use Rattle.builder.specs.declared.chain.Chain.{Chain}
 use Rattle.builder.specs.declared.communications.Pair.{Pair}
 
@@ -175,6 +177,7 @@ pub record Paired (w : List ℕ) (p : Pair) : Type 0 where
   pub receive-inside : p .receive < branches w
   pub sends : isSend w (p .send) ≡ true
   pub receives : isReceive w (p .receive) ≡ true
+  pub apart : branchThread w (p .receive) ≡ branchThread w (p .send) → ⊥
   pub channel-is : p .channel ≡ channel w (p .send)
   pub sent-is : p .sent ≡ branchName w (p .send)
   pub heard-is : p .heard ≡ channel w (p .receive)
@@ -187,6 +190,39 @@ pub record Paired (w : List ℕ) (p : Pair) : Type 0 where
 -- a transition by its label and arcs
 abbrev pub arrow : ℕ → ℕ → ℕ → List ℕ → List ℕ → Transition
 arrow kind a b ins outs = record { label = labelOf kind a b; inputs = ins; outputs = outs }
+
+-- the numbers of arcs, in eight words each
+abbrev pub insOf : Arcs → List ℕ
+insOf t = take (t .inputs) (t .ins)
+
+abbrev pub outsOf : Arcs → List ℕ
+outsOf t = take (t .outputs) (t .outs)
+
+pub record Short (t : Arcs) : Type 0 where
+  pub ins-eight : length (t .ins) ≡ 8
+  pub outs-eight : length (t .outs) ≡ 8
+  pub ins-fit : t .inputs ≤ 8
+  pub outs-fit : t .outputs ≤ 8
+  pub ins-small : (x : ℕ) → member x (insOf t) ≡ true → x < 65536
+  pub outs-small : (x : ℕ) → member x (outsOf t) ≡ true → x < 65536
+
+-- transition t of those that follow one another
+abbrev pub risen : ℕ → ℕ → ℕ → Arcs → List ℕ → ℕ → Transition
+risen kind a b arcs ms t = arrow kind a b (map (rise ms t) (insOf arcs)) (map (rise ms t) (outsOf arcs))
+
+-- the arcs of a communication
+pub record Tells (w : List ℕ) (p : Pair) (i j : ℕ) (t : Arcs) : Type 0 where
+  pub short : Short t
+  pub ins-are : insOf t ≡ ofTable w (told w (p .send) (p .receive) i j) .inputs
+  pub outs-are : outsOf t ≡ ofTable w (told w (p .send) (p .receive) i j) .outputs
+
+-- values of a bound name that is sent on another one, all public or all private
+pub record Run (w : List ℕ) (p : Pair) (low count : ℕ) : Type 0 where
+  pub some : 0 < count
+  pub bound : publics w ≤ p .sent
+  pub other : p .sent ≡ p .channel → ⊥
+  pub reads : (v : ℕ) → low ≤ v → v < low + count → Reads w (branchName w (p .send)) v
+  pub kind : (v : ℕ) → low ≤ v → v < low + count → ltb v (publics w) ≡ ltb low (publics w)
 
 -- the first words of a list, which ascend
 pub record Rising (list : List ℕ) (count : ℕ) : Type 0 where

@@ -129,7 +129,7 @@ pair-up-requires c κs =
           (c .before .before .before .before .before .before .before .word322 .result) (c .before .before .before .before .before .before .field46 .result)
           (c .before .before .before .before .before .word323 .result) (c .before .before .before .before .word324 .result)
           (c .before .before .before .word325 .result) (c .before .before .field47 .result) (c .before .word326 .result) (s .pre .0)
-          (s .pre .1 .spotted) (s .pre .2) u (s .pre .3) k (c .before .before .before .before .before .before .before .before .before .before .before .before
+          (s .pre .1 .spotted) (s .pre .2) u (s .pre .3) k d (c .before .before .before .before .before .before .before .before .before .before .before .before
           .field42 .ensures .is) (c .before .before .before .before .before .before .before .before .before .before .before .field43 .ensures .is)
           (c .before .before .before .before .before .before .before .before .before .before .field44 .ensures .is)
           (c .before .before .before .before .before .before .before .before .before .field45 .ensures .is)

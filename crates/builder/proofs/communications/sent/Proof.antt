@@ -1,148 +1,150 @@
--- `builder::communications::sent` meets its contract. Loop: the communications of the values left are still to be written. Measure: values left.
-use mathlib.Core.Path.{_≡_, refl, sym, ap, subst, _∙_}
+-- `builder::communications::sent` meets its contract: a name sent on itself and a public one have one value; a bound name has a run of public values, if
+-- it has any, then one of private ones. No loop.
+use mathlib.Core.Logic.{⊎-elim}
+use mathlib.Core.Path.{_≡_, sym, ap, subst, _∙_}
 use mathlib.Core.List.{List, map}
-use Prim.Native.Nat.{_-_}
+use Prim.Native.Nat.{_-_, _≤_, _<_}
 use native.Mathlib.Omega.{arith}
-use lib.ListN.{length, drop}
+use lib.ListN.{length}
+use Rattle.lists.specs.Lists.{from}
+use Rattle.table.specs.Words.{publics}
 use Rattle.builder.specs.Transitions.{Description}
 use Rattle.builder.specs.Inner.Writing.{Inside}
-use Rattle.builder.specs.Inner.Plan.{values, told, state, put}
-use Rattle.builder.proofs.PairLoops.{values-few, value-inside, sent-high, self-is, self-reads, other-is, sent-done, sent-needs, sent-more}
+use Rattle.builder.specs.Inner.Plan.{told, state, put}
+use Rattle.builder.proofs.PairLoops.{sent-high, self-is, self-reads, public-is, public-reads, first-run, first-inside, first-none, last-run}
+use Rattle.builder.proofs.PairLoops.{last-inside, sent-both, sent-first}
+use Rattle.builder.proofs.Partners.{same-state}
+use borrow.Author.Needs.{needs}
 use Rattle.builder.proofs.communications.sent.Statement.{statement}
 use Rattle.builder.proofs.communications.sent.Tie as tie
 
-abbrev Inv-loop : tie.InvT-loop
-Inv-loop table rows plan out₀ p i r count q₀ k₀ out q k =
-    (put table out₀ q₀ (map (told table (p .send) (p .receive) i) (values table (p .sent)))
-    ≡ put table out q (map (told table (p .send) (p .receive) i) (drop k (values table (p .sent)))))
-    × (length out ≡ length out₀)
+-- ---- where the ways of the public values meet
 
-abbrev μ-loop : tie.MeasureT-loop
-μ-loop table rows plan out₀ p i r count q₀ k₀ out q k = count - k
+abbrev begin : tie.Joined3 → tie.Start
+begin c = c .before .before .before .before .before .before .before .before .before .before .before
 
-communicate-requires : tie.Need-communicate-requires Inv-loop μ-loop
+told-first : (c : tie.Joined3) → state (c .if3 .out) (c .if3 .q)
+    ≡ put (begin c .args .table .now) (begin c .args .out .now) (begin c .args .h) (map (told (begin c .args .table .now) (begin c .args .p .send)
+    (begin c .args .p .receive) (begin c .args .i)) (from (c .before .before .reach-of .result .low) (c .before .before .reach-of .result .high - c .before .before .reach-of .result .low)))
+told-first c =
+    let s = begin c in
+    let a = s .args in
+    let r = c .before .before .reach-of in
+    let b : publics (a .table .now) ≤ a .p .sent = omega (arith, s .pre .0 .publics-are, c .before .before .before .if2 .left) in
+    let o = c .before .before .before .before .before .before .if1 .left in
+    ⊎-elim
+    (λ v. same-state (v .3 .last .1 .1 .1 .0) (c .if3 .out) (v .3 .result) (c .if3 .q) (v .6) (v .7) ∙ v .3 .ensures)
+    (λ v. first-none (a .table .now) (a .rows .now) (a .plan) (s .pre .0) (a .p) (s .pre .1) (a .i) (s .pre .2) (s .pre .3) (r .result) (r .ensures) o b (state (a .out .now) (a .h)) (state (c .if3 .out) (c .if3 .q)) (v .0 .left)
+    (same-state (a .out .now) (c .if3 .out) (a .h) (c .if3 .q) (v .1) (v .2)))
+    (c .if3 .came)
+
+kept-first : (c : tie.Joined3) → length (c .if3 .out) ≡ length (begin c .args .out .now)
+kept-first c = ⊎-elim (λ v. ap length (v .6) ∙ v .3 .kept .1 .1 .1 .0) (λ v. ap length (v .1)) (c .if3 .came)
+
+communicate-requires : tie.Need-communicate-requires
 communicate-requires c κs =
     let s = c .before .before .before .before .before .before in
     let a = s .args in
-    let w = a .table .now in
-    let e = c .before .if1 .taken in (
-      s .pre .0,
-      s .pre .1,
-      s .pre .2,
-      s .pre .3,
-      self-reads w (a .rows .now) (a .plan) (s .pre .0) (a .p) (s .pre .1) (a .i) (s .pre .2) (s .pre .3) e,
-      subst (λ (ds : List Description). Inside (put w (a .out .now) (a .h) ds))
-          (self-is w (a .rows .now) (a .plan) (s .pre .0) (a .p) (s .pre .1) (a .i) (s .pre .2) (s .pre .3) e) (s .pre .4),
-    )
+    let e = c .before .if1 .taken in
+    (s .pre .0, s .pre .1, s .pre .2, s .pre .3, self-reads (a .table .now) (a .rows .now) (a .plan) (s .pre .0) (a .p) (s .pre .1) (a .i) (s .pre .2) (s .pre .3) e, subst (λ (ds : List Description). Inside (put (a .table .now) (a .out .now) (a .h) ds)) (self-is (a .table .now) (a .rows .now) (a .plan) (s .pre .0) (a .p) (s .pre .1) (a .i) (s .pre .2) (s .pre .3) e) (s .pre .4))
 
-same-length : tie.Need-same-length Inv-loop μ-loop
-same-length c = c .before .before .communicate .kept .1 .1 .1 .0
+same-length : tie.Need-same-length
+same-length c = search needs
 
-returns : tie.Need-returns Inv-loop μ-loop
+returns : tie.Need-returns
 returns c =
     let s = c .before .before .before .before .before .before .before .before .before in
     let a = s .args in
-    let w = a .table .now in
-    let e = c .before .before .before .before .if1 .taken in
-    c .before .before .communicate .ensures ∙ ap (put w (a .out .now) (a .h))
-    (sym (self-is w (a .rows .now) (a .plan) (s .pre .0) (a .p) (s .pre .1) (a .i) (s .pre .2) (s .pre .3) e))
+    c .before .before .communicate .ensures ∙ ap (put (a .table .now) (a .out .now) (a .h)) (sym (self-is (a .table .now) (a .rows .now) (a .plan) (s .pre .0) (a .p) (s .pre .1) (a .i) (s .pre .2) (s .pre .3) (c .before .before .before .before .if1 .taken)))
 
-reach-of-requires : tie.Need-reach-of-requires Inv-loop μ-loop
-reach-of-requires c κs =
-    let s = c .before .before .before .before .before in
-    let a = s .args in
-    let w = a .table .now in
-    sent-high w (a .rows .now) (a .plan) (s .pre .0) (a .p) (s .pre .1)
-
-value-count-requires : tie.Need-value-count-requires Inv-loop μ-loop
-value-count-requires c κs =
-    let s = c .before .before .before .before .before .before in
-    let a = s .args in
-    let w = a .table .now in
-    values-few w (a .rows .now) (a .plan) (s .pre .0) (c .reach-of .result) (values w (a .p .sent)) (c .reach-of .ensures)
-
-loop-holds : tie.Need-loop-holds Inv-loop μ-loop
-loop-holds c = (refl, refl)
-
-value-at-requires : tie.Need-value-at-requires Inv-loop μ-loop
-value-at-requires c κs =
-    let s = c .before .before .before .before .before .before .before .before .before .before in
-    let a = s .args in
-    let w = a .table .now in
-    let r = c .before .before .before .before .reach-of in
-    let n = c .before .before .before .value-count in
-    value-inside w (a .rows .now) (a .plan) (s .pre .0) (r .result) (values w (a .p .sent)) (r .ensures) (c .before .before .loop .k) (n .result) (n .ensures)
-    (c .before .loop-test .taken)
-
-communicate-requires-2 : tie.Need-communicate-requires-2 Inv-loop μ-loop
+communicate-requires-2 : tie.Need-communicate-requires-2
 communicate-requires-2 c κs =
-    let s = c .before .before .before .before .before .before .before .before .before .before .before in
-    let a = s .args in
-    let w = a .table .now in
-    let r = c .before .before .before .before .before .reach-of in
-    let n = c .before .before .before .before .value-count in
-    let l = c .before .before .before .loop in
-    sent-needs w (a .rows .now) (a .plan) (s .pre .0) (a .p) (s .pre .1) (a .i) (s .pre .2) (s .pre .3) (r .result) (r .ensures) (n .result) (n .ensures)
-    (state (a .out .now) (a .h)) (state (l .out) (l .q)) (l .k) (l .inv .0)
-    (c .value-at .result) (c .before .before .loop-test .taken) (c .value-at .ensures)
-    (subst (λ (ds : List Description). Inside (put w (a .out .now) (a .h) ds))
-    (other-is w (a .rows .now) (a .plan) (s .pre .0) (a .p) (s .pre .1) (a .i) (s .pre .2) (s .pre .3)
-    (c .before .before .before .before .before .before .if1 .left)) (s .pre .4))
-
-add-k : tie.Need-add-k Inv-loop μ-loop
-add-k c = omega arith
-
-loop-less : tie.Need-loop-less Inv-loop μ-loop
-loop-less c = omega arith
-
-loop-again : tie.Need-loop-again Inv-loop μ-loop
-loop-again c =
-    let s = c .before .before .before .before .before .before .before .before .before .before .before .before .before .before in
-    let a = s .args in
-    let w = a .table .now in
-    let r = c .before .before .before .before .before .before .before .before .reach-of in
-    let n = c .before .before .before .before .before .before .before .value-count in
-    let l = c .before .before .before .before .before .before .loop in
-    let v = c .before .before .before .value-at in
-    let u = c .before .before .communicate2 in (
-      sent-more w (a .rows .now) (a .plan) (s .pre .0) (a .p) (s .pre .1) (a .i) (s .pre .2) (s .pre .3) (r .result) (r .ensures) (n .result) (n .ensures)
-          (state (a .out .now) (a .h)) (state (l .out) (l .q)) (l .k) (l .inv .0)
-          (v .result) (c .before .before .before .before .before .loop-test .taken) (v .ensures) (state (u .last .1 .1 .1 .0) (u .result)) (u .ensures),
-      u .kept .1 .1 .1 .0 ∙ l .inv .1,
-    )
-
-same-length-2 : tie.Need-same-length-2 Inv-loop μ-loop
-same-length-2 c = c .before .loop .inv .1
-
-returns-2 : tie.Need-returns-2 Inv-loop μ-loop
-returns-2 c =
     let s = c .before .before .before .before .before .before .before .before .before in
     let a = s .args in
-    let w = a .table .now in
+    let l : a .p .sent < publics (a .table .now) = omega (arith, s .pre .0 .publics-are, c .before .if2 .taken) in
+    (s .pre .0, s .pre .1, s .pre .2, s .pre .3, public-reads (a .table .now) (a .rows .now) (a .plan) (s .pre .0) (a .p) (s .pre .1) (a .i) (s .pre .2) (s .pre .3) l, subst (λ (ds : List Description). Inside (put (a .table .now) (a .out .now) (a .h) ds)) (public-is (a .table .now) (a .rows .now) (a .plan) (s .pre .0) (a .p) (s .pre .1) (a .i) (s .pre .2) (s .pre .3) (c .before .before .before .before .if1 .left) l) (s .pre .4))
+
+same-length-2 : tie.Need-same-length-2
+same-length-2 c = search needs
+
+returns-2 : tie.Need-returns-2
+returns-2 c =
+    let s = c .before .before .before .before .before .before .before .before .before .before .before .before in
+    let a = s .args in
+    let l : a .p .sent < publics (a .table .now) = omega (arith, s .pre .0 .publics-are, c .before .before .before .before .if2 .taken) in
+    c .before .before .communicate2 .ensures ∙ ap (put (a .table .now) (a .out .now) (a .h)) (sym (public-is (a .table .now) (a .rows .now) (a .plan) (s .pre .0) (a .p) (s .pre .1) (a .i) (s .pre .2) (s .pre .3) (c .before .before .before .before .before .before .before .if1 .left) l))
+
+reach-of-requires : tie.Need-reach-of-requires
+reach-of-requires c κs =
+    let s = c .before .before .before .before .before .before .before .before in
+    let a = s .args in
+    sent-high (a .table .now) (a .rows .now) (a .plan) (s .pre .0) (a .p) (s .pre .1)
+
+sub-tell : tie.Need-sub-tell
+sub-tell c = search needs
+
+tell-requires : tie.Need-tell-requires
+tell-requires c κs =
+    let s = c .before .before .before .before .before .before .before .before .before .before .before .before .before in
+    let a = s .args in
+    let r = c .before .before .before .before .reach-of in
+    let b : publics (a .table .now) ≤ a .p .sent = omega (arith, s .pre .0 .publics-are, c .before .before .before .before .before .if2 .left) in
+    let o = c .before .before .before .before .before .before .before .before .if1 .left in
+    (s .pre .0, s .pre .1, s .pre .2, s .pre .3, first-run (a .table .now) (a .rows .now) (a .plan) (s .pre .0) (a .p) (s .pre .1) (a .i) (s .pre .2) (s .pre .3) (r .result) (r .ensures) o b (c .before .before .if3 .taken), first-inside (a .table .now) (a .rows .now) (a .plan) (s .pre .0) (a .p) (s .pre .1) (a .i) (s .pre .2) (s .pre .3) (r .result) (r .ensures) o b (state (a .out .now) (a .h)) (s .pre .4))
+
+tell-requires-2 : tie.Need-tell-requires-2
+tell-requires-2 c κs =
+    let s = c .before .before .before .before .before .before .before .before .before .before .before .before .before in
+    let a = s .args in
+    let r = c .before .before .before .before .reach-of in
+    let b : publics (a .table .now) ≤ a .p .sent = omega (arith, s .pre .0 .publics-are, c .before .before .before .before .before .if2 .left) in
+    let o = c .before .before .before .before .before .before .before .before .if1 .left in
+    let j = c .before .before in
+    let h = c .before .if4 .taken in
+    (s .pre .0, s .pre .1, s .pre .2, s .pre .3, last-run (a .table .now) (a .rows .now) (a .plan) (s .pre .0) (a .p) (s .pre .1) (a .i) (s .pre .2) (s .pre .3) (r .result) (r .ensures) o b h, last-inside (a .table .now) (a .rows .now) (a .plan) (s .pre .0) (a .p) (s .pre .1) (a .i) (s .pre .2) (s .pre .3) (r .result) (r .ensures) o b (state (a .out .now) (a .h)) (state (j .if3 .out) (j .if3 .q)) (told-first j) h (s .pre .4))
+
+same-length-3 : tie.Need-same-length-3
+same-length-3 c = c .before .before .tell2 .kept .1 .1 .1 .0 ∙ kept-first (c .before .before .before .before .before)
+
+returns-3 : tie.Need-returns-3
+returns-3 c =
+    let s = c .before .before .before .before .before .before .before .before .before .before .before .before .before .before .before .before in
+    let a = s .args in
+    let r = c .before .before .before .before .before .before .before .reach-of in
+    let b : publics (a .table .now) ≤ a .p .sent = omega (arith, s .pre .0 .publics-are, c .before .before .before .before .before .before .before .before .if2 .left) in
+    let o = c .before .before .before .before .before .before .before .before .before .before .before .if1 .left in
+    let j = c .before .before .before .before .before in
+    let u = c .before .before .tell2 in
+    sent-both (a .table .now) (a .rows .now) (a .plan) (s .pre .0) (a .p) (s .pre .1) (a .i) (s .pre .2) (s .pre .3) (r .result) (r .ensures) o b (state (a .out .now) (a .h)) (state (j .if3 .out) (j .if3 .q)) (told-first j) (c .before .before .before .before .if4 .taken) (state (u .last .1 .1 .1 .0) (u .result)) (u .ensures)
+
+same-length-4 : tie.Need-same-length-4
+same-length-4 c = kept-first (c .before)
+
+returns-4 : tie.Need-returns-4
+returns-4 c =
+    let s = c .before .before .before .before .before .before .before .before .before .before .before .before in
+    let a = s .args in
     let r = c .before .before .before .reach-of in
-    let n = c .before .before .value-count in
-    let l = c .before .loop in
-    sent-done w (a .rows .now) (a .plan) (s .pre .0) (a .p) (s .pre .1) (a .i) (s .pre .2) (s .pre .3) (r .result) (r .ensures) (n .result) (n .ensures)
-    (state (a .out .now) (a .h)) (state (l .out) (l .q)) (l .k) (l .inv .0)
-    (c .loop-test .left) ∙ ap (put w (a .out .now) (a .h)) (sym (other-is w (a .rows .now) (a .plan) (s .pre .0) (a .p) (s .pre .1) (a .i) (s .pre .2)
-    (s .pre .3) (c .before .before .before .before .if1 .left)))
+    let b : publics (a .table .now) ≤ a .p .sent = omega (arith, s .pre .0 .publics-are, c .before .before .before .before .if2 .left) in
+    let o = c .before .before .before .before .before .before .before .if1 .left in
+    let j = c .before in
+    sent-first (a .table .now) (a .rows .now) (a .plan) (s .pre .0) (a .p) (s .pre .1) (a .i) (s .pre .2) (s .pre .3) (r .result) (r .ensures) o b (state (a .out .now) (a .h)) (state (j .if3 .out) (j .if3 .q)) (told-first j) (c .if4 .left)
 
 pub sent-spec : {M : Type 1} → statement M
 sent-spec =
     tie.close
     (tie.spec
-    Inv-loop
-    μ-loop
     communicate-requires
     same-length
     returns
-    reach-of-requires
-    value-count-requires
-    loop-holds
-    value-at-requires
     communicate-requires-2
-    add-k
-    loop-less
-    loop-again
     same-length-2
-    returns-2)
+    returns-2
+    reach-of-requires
+    sub-tell
+    tell-requires
+    tell-requires-2
+    same-length-3
+    returns-3
+    same-length-4
+    returns-4)
