@@ -62,9 +62,11 @@ fn release(
 ) -> Heads
     requires { ⌜ Rowed (now table) (now rows) plan × Chained (now table) c × (k < c .controls)
         × Holds (now table) z v
-        × Inside (put (now table) (now out) h (releasing (scheme (now table)) (today (now table)) (c .node) (c .to) k z v ∷ [])) ⌝ }
+        × Inside (put (now table) (now out) h
+        (releasing (scheme (now table)) (today (now table)) (c .node) (c .to) k z v ∷ [])) ⌝ }
     ensures { λ r. ⌜ state (now (out .exit)) r
-        ≡ put (now (table .entry)) (now (out .entry)) h (releasing (scheme (now (table .entry))) (today (now (table .entry))) (c .node) (c .to) k z v ∷ []) ⌝ }
+        ≡ put (now (table .entry)) (now (out .entry)) h
+        (releasing (scheme (now (table .entry))) (today (now (table .entry))) (c .node) (c .to) k z v ∷ []) ⌝ }
 {
     let mut ins = [0u32; 2];
     let mut outs = [0u32; 2];
@@ -98,9 +100,12 @@ fn release_name(
 ) -> Heads
     requires { ⌜ Rowed (now table) (now rows) plan × Chained (now table) c × (k < c .controls)
         × (publics (now table) ≤ z) × (z < names (now table))
-        × Inside (put (now table) (now out) h (map (releasing (scheme (now table)) (today (now table)) (c .node) (c .to) k z) (values (now table) z))) ⌝ }
+        × Inside (put (now table) (now out) h
+        (map (releasing (scheme (now table)) (today (now table)) (c .node) (c .to) k z) (values (now table) z))) ⌝ }
     ensures { λ r. ⌜ state (now (out .exit)) r
-        ≡ put (now (table .entry)) (now (out .entry)) h (map (releasing (scheme (now (table .entry))) (today (now (table .entry))) (c .node) (c .to) k z) (values (now (table .entry)) z)) ⌝ }
+        ≡ put (now (table .entry)) (now (out .entry)) h
+        (map (releasing (scheme (now (table .entry))) (today (now (table .entry))) (c .node) (c .to) k z)
+        (values (now (table .entry)) z)) ⌝ }
 {
     let r = reach_of(table, z);
     let count = value_count(plan, r);
@@ -127,9 +132,12 @@ pub(crate) fn release_all(
 ) -> Heads
     requires { ⌜ Rowed (now table) (now rows) plan × Chained (now table) c
         × (count ≤ length (now names)) × (k + count ≤ c .controls) × Bounded (now table) (take count (now names))
-        × Inside (put (now table) (now out) h (releases (scheme (now table)) (today (now table)) (c .node) (c .to) k (take count (now names)))) ⌝ }
+        × Inside (put (now table) (now out) h
+        (releases (scheme (now table)) (today (now table)) (c .node) (c .to) k (take count (now names)))) ⌝ }
     ensures { λ r. ⌜ state (now (out .exit)) r
-        ≡ put (now (table .entry)) (now (out .entry)) h (releases (scheme (now (table .entry))) (today (now (table .entry))) (c .node) (c .to) k (take count (now (names .entry)))) ⌝ }
+        ≡ put (now (table .entry)) (now (out .entry)) h
+        (releases (scheme (now (table .entry))) (today (now (table .entry))) (c .node) (c .to) k
+        (take count (now (names .entry)))) ⌝ }
 {
     let mut q = h;
     let mut i = 0;
@@ -156,9 +164,11 @@ fn copy(
     requires { ⌜ Rowed (now table) (now rows) plan × Chained (now table) c × (k < c .controls)
         × (publics (now table) ≤ f) × (f < names (now table)) × (scheme (now table) .restricted f ≡ false)
         × Reads (now table) a v
-        × Inside (put (now table) (now out) h (copying (scheme (now table)) (today (now table)) (c .node) (c .to) k f a v ∷ [])) ⌝ }
+        × Inside (put (now table) (now out) h
+        (copying (scheme (now table)) (today (now table)) (c .node) (c .to) k f a v ∷ [])) ⌝ }
     ensures { λ r. ⌜ state (now (out .exit)) r
-        ≡ put (now (table .entry)) (now (out .entry)) h (copying (scheme (now (table .entry))) (today (now (table .entry))) (c .node) (c .to) k f a v ∷ []) ⌝ }
+        ≡ put (now (table .entry)) (now (out .entry)) h
+        (copying (scheme (now (table .entry))) (today (now (table .entry))) (c .node) (c .to) k f a v ∷ []) ⌝ }
 {
     let mut ins = [0u32; 4];
     let mut outs = [0u32; 4];
@@ -192,9 +202,12 @@ fn copy_formal(
     requires { ⌜ Rowed (now table) (now rows) plan × Chained (now table) c × (k < c .controls)
         × (publics (now table) ≤ f) × (f < names (now table)) × (scheme (now table) .restricted f ≡ false)
         × (a < names (now table))
-        × Inside (put (now table) (now out) h (map (copying (scheme (now table)) (today (now table)) (c .node) (c .to) k f a) (values (now table) a))) ⌝ }
+        × Inside (put (now table) (now out) h
+        (map (copying (scheme (now table)) (today (now table)) (c .node) (c .to) k f a) (values (now table) a))) ⌝ }
     ensures { λ r. ⌜ state (now (out .exit)) r
-        ≡ put (now (table .entry)) (now (out .entry)) h (map (copying (scheme (now (table .entry))) (today (now (table .entry))) (c .node) (c .to) k f a) (values (now (table .entry)) a)) ⌝ }
+        ≡ put (now (table .entry)) (now (out .entry)) h
+        (map (copying (scheme (now (table .entry))) (today (now (table .entry))) (c .node) (c .to) k f a)
+        (values (now (table .entry)) a)) ⌝ }
 {
     let r = reach_of(table, a);
     let count = value_count(plan, r);
@@ -220,10 +233,15 @@ pub(crate) fn copy_all(
     count: usize,
 ) -> Heads
     requires { ⌜ Rowed (now table) (now rows) plan × Chained (now table) c × (count < c .controls) × (argument < 65536)
-        × Frees (now table) (from formal count) × Named (now table) (map (argumentName (now table)) (from argument count))
-        × Inside (put (now table) (now out) h (copies (scheme (now table)) (today (now table)) (c .node) (c .to) 1 (from formal count) (map (argumentName (now table)) (from argument count)))) ⌝ }
+        × Frees (now table) (from formal count)
+        × Named (now table) (map (argumentName (now table)) (from argument count))
+        × Inside (put (now table) (now out) h
+        (copies (scheme (now table)) (today (now table)) (c .node) (c .to) 1 (from formal count)
+        (map (argumentName (now table)) (from argument count)))) ⌝ }
     ensures { λ r. ⌜ state (now (out .exit)) r
-        ≡ put (now (table .entry)) (now (out .entry)) h (copies (scheme (now (table .entry))) (today (now (table .entry))) (c .node) (c .to) 1 (from formal count) (map (argumentName (now (table .entry))) (from argument count))) ⌝ }
+        ≡ put (now (table .entry)) (now (out .entry)) h
+        (copies (scheme (now (table .entry))) (today (now (table .entry))) (c .node) (c .to) 1 (from formal count)
+        (map (argumentName (now (table .entry))) (from argument count))) ⌝ }
 {
     let mut q = h;
     let mut i = 0;

@@ -51,7 +51,8 @@ fn is_room(owners: usize, homes: usize, definitions: usize, rows: usize, spots: 
     256 <= spots
 }
 
-// Checks a table and fills in its index and where its places stand: 256 words for owners, homes, definitions and control places, 64 for rows.
+// Checks a table and fills in its index and where its places stand: 256 words for owners, homes, definitions and
+// control places, 64 for rows.
 pub fn plan(
     table: &[u16],
     owners: &mut [u32],
@@ -60,7 +61,8 @@ pub fn plan(
     rows: &mut [u32],
     spots: &mut [u32],
 ) -> Planned
-    ensures { λ r. ⌜ PlanRight (now (table .entry)) (now (owners .exit)) (now (homes .exit)) (now (definitions .exit)) (now (rows .exit)) (now (spots .exit)) r ⌝ }
+    ensures { λ r. ⌜ PlanRight (now (table .entry)) (now (owners .exit)) (now (homes .exit)) (now (definitions .exit))
+        (now (rows .exit)) (now (spots .exit)) r ⌝ }
 {
     let verdict = table::check(table);
     if !table::is_accepted(verdict) {

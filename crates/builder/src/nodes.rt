@@ -42,9 +42,13 @@ fn silents(
     end: usize,
 ) -> Heads
     requires { ⌜ Spotted (now table) (now spots) × (n < nodes (now table)) × (end ≤ branches (now table))
-        × Inside (put (now table) (now out) h (flat (λ b. silents (scheme (now table)) (today (now table)) n b (scheme (now table) .branch b)) (from first (end - first)))) ⌝ }
+        × Inside (put (now table) (now out) h
+        (flat (λ b. silents (scheme (now table)) (today (now table)) n b (scheme (now table) .branch b))
+        (from first (end - first)))) ⌝ }
     ensures { λ r. ⌜ state (now (out .exit)) r
-        ≡ put (now (table .entry)) (now (out .entry)) h (flat (λ b. silents (scheme (now (table .entry))) (today (now (table .entry))) n b (scheme (now (table .entry)) .branch b)) (from first (end - first))) ⌝ }
+        ≡ put (now (table .entry)) (now (out .entry)) h
+        (flat (λ b. silents (scheme (now (table .entry))) (today (now (table .entry))) n b
+        (scheme (now (table .entry)) .branch b)) (from first (end - first))) ⌝ }
 {
     let from = word32(spots, n) as u32;
     let mut q = h;
@@ -69,8 +73,11 @@ fn silents(
 fn differences(table: &[u16], rows: &[u32], plan: Layout, list: &mut [u32], v: usize) -> usize
     requires { ⌜ Rowed (now table) (now rows) plan × (publics (now table) ≤ v) × (v < names (now table))
         × (40 ≤ length (now list)) ⌝ }
-    ensures { λ r. ⌜ (take r (now (list .exit)) ≡ numbersOf (scheme (now (table .entry))) (today (now (table .entry))) (allDiffer (scheme (now (table .entry))) v))
-        × (r ≡ length (numbersOf (scheme (now (table .entry))) (today (now (table .entry))) (allDiffer (scheme (now (table .entry))) v))) ⌝ }
+    ensures { λ r. ⌜ (take r (now (list .exit))
+        ≡ numbersOf (scheme (now (table .entry))) (today (now (table .entry)))
+        (allDiffer (scheme (now (table .entry))) v))
+        × (r ≡ length (numbersOf (scheme (now (table .entry))) (today (now (table .entry)))
+        (allDiffer (scheme (now (table .entry))) v))) ⌝ }
 {
     let end = plan.publics + plan.bounds;
     let mut count = 0;
@@ -125,9 +132,11 @@ fn news(
     n: usize,
 ) -> Heads
     requires { ⌜ Laid (now table) (now rows) (now spots) plan × (n < nodes (now table)) × (isNew (now table) n ≡ true)
-        × Inside (put (now table) (now out) h (map (made (now table) n) (from (publics (now table)) (bounds (now table))))) ⌝ }
+        × Inside (put (now table) (now out) h
+        (map (made (now table) n) (from (publics (now table)) (bounds (now table))))) ⌝ }
     ensures { λ r. ⌜ state (now (out .exit)) r
-        ≡ put (now (table .entry)) (now (out .entry)) h (map (made (now (table .entry)) n) (from (publics (now (table .entry))) (bounds (now (table .entry))))) ⌝ }
+        ≡ put (now (table .entry)) (now (out .entry)) h
+        (map (made (now (table .entry)) n) (from (publics (now (table .entry))) (bounds (now (table .entry))))) ⌝ }
 {
     let from = word32(spots, n) as u32;
     let to = word32(spots, field3(table, 10, n, 2)) as u32;
@@ -153,9 +162,12 @@ fn call(
 ) -> Heads
     requires { ⌜ Known (now table) (now owners) (now homes) × Laid (now table) (now rows) (now spots) plan
         × (n < nodes (now table)) × (isCall (now table) n ≡ true)
-        × Inside (put (now table) (now out) h (ofNode (scheme (now table)) (today (now table)) n (call (nodeFirst (now table) n)))) ⌝ }
+        × Inside (put (now table) (now out) h
+        (ofNode (scheme (now table)) (today (now table)) n (call (nodeFirst (now table) n)))) ⌝ }
     ensures { λ r. ⌜ state (now (out .exit)) r
-        ≡ put (now (table .entry)) (now (out .entry)) h (ofNode (scheme (now (table .entry))) (today (now (table .entry))) n (call (nodeFirst (now (table .entry)) n))) ⌝ }
+        ≡ put (now (table .entry)) (now (out .entry)) h
+        (ofNode (scheme (now (table .entry))) (today (now (table .entry))) n
+        (call (nodeFirst (now (table .entry)) n))) ⌝ }
 {
     let d = field3(table, 10, n, 1);
     let formals = field4(table, 8, d, 3);
@@ -197,9 +209,11 @@ fn stop(
 ) -> Heads
     requires { ⌜ Known (now table) (now owners) (now homes) × Laid (now table) (now rows) (now spots) plan
         × (n < nodes (now table)) × (isStop (now table) n ≡ true)
-        × Inside (put (now table) (now out) h (releases (scheme (now table)) (today (now table)) n n 0 (held (now table) n))) ⌝ }
+        × Inside (put (now table) (now out) h
+        (releases (scheme (now table)) (today (now table)) n n 0 (held (now table) n))) ⌝ }
     ensures { λ r. ⌜ state (now (out .exit)) r
-        ≡ put (now (table .entry)) (now (out .entry)) h (releases (scheme (now (table .entry))) (today (now (table .entry))) n n 0 (held (now (table .entry)) n)) ⌝ }
+        ≡ put (now (table .entry)) (now (out .entry)) h
+        (releases (scheme (now (table .entry))) (today (now (table .entry))) n n 0 (held (now (table .entry)) n)) ⌝ }
 {
     let mut names = [0u32; 64];
     let held = table::index::held_names(table, owners, homes, n as u16, &mut names);
@@ -227,9 +241,11 @@ fn node(
 ) -> Heads
     requires { ⌜ Known (now table) (now owners) (now homes) × Laid (now table) (now rows) (now spots) plan
         × (n < nodes (now table))
-        × Inside (put (now table) (now out) h (ofNode (scheme (now table)) (today (now table)) n (scheme (now table) .node n))) ⌝ }
+        × Inside (put (now table) (now out) h
+        (ofNode (scheme (now table)) (today (now table)) n (scheme (now table) .node n))) ⌝ }
     ensures { λ r. ⌜ state (now (out .exit)) r
-        ≡ put (now (table .entry)) (now (out .entry)) h (ofNode (scheme (now (table .entry))) (today (now (table .entry))) n (scheme (now (table .entry)) .node n)) ⌝ }
+        ≡ put (now (table .entry)) (now (out .entry)) h
+        (ofNode (scheme (now (table .entry))) (today (now (table .entry))) n (scheme (now (table .entry)) .node n)) ⌝ }
 {
     let kind = field3(table, 10, n, 0);
     let first = field3(table, 10, n, 1);
@@ -257,9 +273,13 @@ pub(crate) fn nodes(
     h: Heads,
 ) -> Heads
     requires { ⌜ Known (now table) (now owners) (now homes) × Laid (now table) (now rows) (now spots) plan
-        × Inside (put (now table) (now out) h (flat (λ n. ofNode (scheme (now table)) (today (now table)) n (scheme (now table) .node n)) (range (nodes (now table))))) ⌝ }
+        × Inside (put (now table) (now out) h
+        (flat (λ n. ofNode (scheme (now table)) (today (now table)) n (scheme (now table) .node n))
+        (range (nodes (now table))))) ⌝ }
     ensures { λ r. ⌜ state (now (out .exit)) r
-        ≡ put (now (table .entry)) (now (out .entry)) h (flat (λ n. ofNode (scheme (now (table .entry))) (today (now (table .entry))) n (scheme (now (table .entry)) .node n)) (range (nodes (now (table .entry))))) ⌝ }
+        ≡ put (now (table .entry)) (now (out .entry)) h
+        (flat (λ n. ofNode (scheme (now (table .entry))) (today (now (table .entry))) n
+        (scheme (now (table .entry)) .node n)) (range (nodes (now (table .entry))))) ⌝ }
 {
     let count = word16(table, 4);
     let mut q = h;

@@ -28,7 +28,8 @@ pub struct Arcs {
 
 pub(crate) fn words(out: &mut [u32], at: usize, list: &[u32], count: usize) -> usize
     requires { ⌜ (count ≤ length (now list)) × (at < 8589934592) ⌝ }
-    ensures { λ r. ⌜ (r ≡ at + count) × (now (out .exit) ≡ writes (now (out .entry)) at (take count (now (list .entry)))) ⌝ }
+    ensures { λ r. ⌜ (r ≡ at + count)
+        × (now (out .exit) ≡ writes (now (out .entry)) at (take count (now (list .entry)))) ⌝ }
 {
     let mut i = 0;
     while i < count {
@@ -77,7 +78,8 @@ pub(crate) fn transition(
     requires { ⌜ (a < 65536) × (b < 65536) × (inputs ≤ length (now ins)) × (outputs ≤ length (now outs))
         × Inside (putOne (state (now out) h) (arrow kind a b (take inputs (now ins)) (take outputs (now outs)))) ⌝ }
     ensures { λ r. ⌜ state (now (out .exit)) r
-        ≡ putOne (state (now (out .entry)) h) (arrow kind a b (take inputs (now (ins .entry))) (take outputs (now (outs .entry)))) ⌝ }
+        ≡ putOne (state (now (out .entry)) h)
+        (arrow kind a b (take inputs (now (ins .entry))) (take outputs (now (outs .entry)))) ⌝ }
 {
     let place = h.place;
     let arc = h.arc;
@@ -92,7 +94,8 @@ pub(crate) fn transition(
 
 pub(crate) fn go(out: &mut [u32], h: Heads, kind: u32, a: usize, from: u32, to: u32) -> Heads
     requires { ⌜ (a < 65536) × Inside (putOne (state (now out) h) (arrow kind a 0 (from ∷ []) (to ∷ []))) ⌝ }
-    ensures { λ r. ⌜ state (now (out .exit)) r ≡ putOne (state (now (out .entry)) h) (arrow kind a 0 (from ∷ []) (to ∷ [])) ⌝ }
+    ensures { λ r. ⌜ state (now (out .exit)) r
+        ≡ putOne (state (now (out .entry)) h) (arrow kind a 0 (from ∷ []) (to ∷ [])) ⌝ }
 {
     let ins = [from; 1];
     let outs = [to; 1];
@@ -139,7 +142,8 @@ fn raised(
 ) -> usize
     requires { ⌜ (count ≤ 16) × (at + count ≤ length (now out)) × Steady (now list) (now steps) count × (t < 65536) ⌝ }
     ensures { λ r. ⌜ (r ≡ at + count)
-        × (now (out .exit) ≡ writes (now (out .entry)) at (take count (sums t (now (list .entry)) (now (steps .entry))))) ⌝ }
+        × (now (out .exit) ≡ writes (now (out .entry)) at
+        (take count (sums t (now (list .entry)) (now (steps .entry))))) ⌝ }
 {
     let mut i = 0;
     while i < count {
@@ -149,8 +153,8 @@ fn raised(
     at + count
 }
 
-// Transitions of one label that follow one another: the first has the given arcs, and from one to the next the arcs a, b
-// and c rise by 1.
+// Transitions of one label that follow one another: the first has the given arcs, and from one to the next the arcs a,
+// b and c rise by 1.
 pub(crate) fn series(
     out: &mut [u32],
     h: Heads,
@@ -190,7 +194,8 @@ pub(crate) fn header(out: &mut [u32], plan: Layout, t: Totals)
     requires { ⌜ (plan .places < 65536) × (plan .tokens < 65536) × Few (sumsOf t)
         × (8 + plan .tokens + 6 * t .transitions < 4294967296) ⌝ }
     ensures { λ r. ⌜ now (out .exit)
-        ≡ writes (now (out .entry)) 0 (headerOf (plan .places) (t .transitions) (t .inputs) (t .outputs) (plan .tokens)) ⌝ }
+        ≡ writes (now (out .entry)) 0
+        (headerOf (plan .places) (t .transitions) (t .inputs) (t .outputs) (plan .tokens)) ⌝ }
 {
     store32(out, 0, plan.places as u32);
     store32(out, 1, t.transitions as u32);
