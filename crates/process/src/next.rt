@@ -129,26 +129,12 @@ fn value_after_meeting(
 {
     let sender = branch_thread(table, homes, definitions, send);
     let receiver = branch_thread(table, homes, definitions, receive);
-    if ends(
-        table,
-        homes,
-        definitions,
-        binders,
-        sender,
-        field4(table, 11, send, 3),
-        name,
-    ) {
+    let sent = field4(table, 11, send, 3);
+    if ends(table, homes, definitions, binders, sender, sent, name) {
         return 65535;
     }
-    if ends(
-        table,
-        homes,
-        definitions,
-        binders,
-        receiver,
-        field4(table, 11, receive, 3),
-        name,
-    ) {
+    let received = field4(table, 11, receive, 3);
+    if ends(table, homes, definitions, binders, receiver, received, name) {
         return 65535;
     }
     if name == field4(table, 11, receive, 2) {
