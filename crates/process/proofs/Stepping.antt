@@ -8,7 +8,7 @@ use Prim.Native.Nat.{ℕ, zero, suc, _+_, _-_, _≤_, _<_}
 use native.Mathlib.Decide.{decLt}
 use native.Mathlib.Omega.{arith}
 use lib.Dec.{ltb}
-use lib.ListN.{length, drop, replicate, getD, length-append, length-map, length-replicate, List·getD-eq-default}
+use lib.ListN.{length, drop, replicate, getD, length-append, length-map, length-replicate, getD-replicate, List·getD-eq-default}
 use lib.Seq.{sets}
 use borrow.Author.Tests.{lt-ltb, le-ltb}
 use Rattle.lists.specs.Lists.{pick, same, word, from, range, member, firstFrom}
@@ -18,7 +18,7 @@ use Rattle.lists.proofs.First.{first-none}
 use Rattle.lists.proofs.Members.{member-nil}
 use Rattle.table.specs.Words.{publics, bounds, names, threads, nodes, branches, definitions, branchesOf, isChoice, nodeFirst, nodeSecond}
 use Rattle.table.specs.Owners.{owner, home, definition}
-use Rattle.table.specs.Index.{ownerNumber, binderNumber, definitionIn}
+use Rattle.table.specs.Index.{ownerNumber, binderNumber, FirstDefinitions}
 use Rattle.table.specs.Causes.{cause}
 use Rattle.table.specs.Scheme.{Scheme, scheme, binderOf}
 use Rattle.table.proofs.Accepted.{accepted}
@@ -65,15 +65,19 @@ module _ (w : List ℕ) (ok : cause w ≡ 0) where
       none-there n u (inr c) m = member-nil b (rw c at m)
 
   module _ (owners homes defs : List ℕ) (o : owners ≡ map (λ k. ownerNumber (owner w k)) (range 256)) (h : homes ≡ map (home w) (range 256))
-      (d : defs ≡ map (definitionIn owners homes) (range 256)) where
+      (count : ℕ) (all : count ≡ nodes w) (lent : List ℕ) (clear : lent ≡ replicate 256 0) (d : FirstDefinitions owners homes count lent defs) where
     owners-length : length owners ≡ 256
     owners-length = ap length o ∙ length-map (range 256) (λ k. ownerNumber (owner w k)) ∙ from-length 0 256
 
     homes-length : length homes ≡ 256
     homes-length = ap length h ∙ length-map (range 256) (home w) ∙ from-length 0 256
 
-    defs-length : length defs ≡ 256
-    defs-length = ap length d ∙ length-map (range 256) (definitionIn owners homes) ∙ from-length 0 256
+    lent-length : length lent ≡ 256
+    lent-length = ap length clear ∙ length-replicate {A = ℕ} 256 0
+
+    lent-clear : (n : ℕ) → Dec (n < 256) → word lent n ≡ 0
+    lent-clear n (yes l) = ap (λ (k : List ℕ). word k n) clear ∙ getD-replicate 256 n 0 0 l
+    lent-clear n (no k) = List·getD-eq-default lent 0 (omega (arith, lent-length))
 
     owned : Owned w owners homes
     owned = record { ok = ok; owners-right = rw owners-length o; homes-right = rw homes-length h; owners-reach = owners-length; homes-reach = homes-length }
@@ -82,16 +86,17 @@ module _ (w : List ℕ) (ok : cause w ≡ 0) where
     home-right b (yes l) = ap (λ (k : List ℕ). word k b) h ∙ word-range (home w) 256 b l
     home-right b (no k) = List·getD-eq-default homes 0 (omega (arith, homes-length)) ∙ sym (home-outside b (omega (arith, few .1)))
 
-    definition-right : (n : ℕ) → Dec (n < 256) → word defs n ≡ definition w n
+    definition-right : (n : ℕ) → Dec (n < nodes w) → word defs n ≡ definition w n
     definition-right n (yes l) =
-        ap (λ (k : List ℕ). word k n) d ∙ word-range (definitionIn owners homes) 256 n l ∙
-        definition-indexed w owners homes n (owned .owners-right) (owned .homes-right) (omega (arith, owners-length)) (omega (arith, homes-length, few .1))
-        (omega (arith, few .2)) (omega (arith, few .0))
+        d .filled n (omega (arith, all)) (omega (arith, lent-length, few .0)) ∙
+        definition-indexed w owners homes n (owned .owners-right) (owned .homes-right) (omega (arith, owners-length, few .0))
+        (omega (arith, homes-length, few .1)) (omega (arith, few .2)) (omega (arith, few .0))
     definition-right n (no k) =
-        List·getD-eq-default defs 0 (omega (arith, defs-length)) ∙ sym (Trees.outside-definition w (passed w ok .ranges) (passed w ok .shape) n (omega (arith, few .0)))
+        d .rest n (omega (arith, all)) ∙ lent-clear n (decLt n 256)
+        ∙ sym (Trees.outside-definition w (passed w ok .ranges) (passed w ok .shape) n (omega arith))
 
     indexed : Indexed w homes defs
-    indexed = record { ok = ok; home-right = λ b. home-right b (decLt b 256); definition-right = λ n. definition-right n (decLt n 256) }
+    indexed = record { ok = ok; home-right = λ b. home-right b (decLt b 256); definition-right = λ n. definition-right n (decLt n (nodes w)) }
 
     module _ (binders : List ℕ) (β : binders ≡ map (λ x. binderNumber (binderOf w x)) (range 64)) where
       binders-length : length binders ≡ 64

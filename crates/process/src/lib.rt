@@ -96,7 +96,7 @@ fn fill_index(
 {
     table::index::owners(table, owners);
     table::index::homes(table, homes);
-    table::index::definitions(owners, homes, definitions);
+    table::index::first_definitions(owners, homes, word16(table, 4), definitions);
     table::index::binders(table, binders);
 }
 

@@ -1,4 +1,4 @@
--- `process::fill_index` meets its contract. `cN` is the place N steps before `c`.
+-- `process::fill_index` meets its contract.
 use Rattle.process.proofs.Stepping.{known}
 use borrow.Author.Needs.{needs}
 use Rattle.process.proofs.fill_index.Statement.{statement}
@@ -10,8 +10,11 @@ owners-requires c κs = search needs
 homes-requires : tie.Need-homes-requires
 homes-requires c κs = search needs
 
-definitions-requires : tie.Need-definitions-requires
-definitions-requires c κs = search needs
+word16-requires : tie.Need-word16-requires
+word16-requires c κs = search needs
+
+first-definitions-requires : tie.Need-first-definitions-requires
+first-definitions-requires c κs = search needs
 
 binders-requires : tie.Need-binders-requires
 binders-requires c κs = search needs
@@ -30,13 +33,15 @@ same-length-4 c = search needs
 
 returns : tie.Need-returns
 returns c =
-    let c2 = c .before .before in
-    let c6 = c2 .before .before .before .before in
-    let c12 = c6 .before .before .before .before .before .before in
-    let c16 = c12 .before .before .before .before in
-    let p = c16 .before .before .before .before .before .before .before .pre in
-    known _ (p .ok) _ _ _ (rw (p .owners-reach) at (c16 .owners .ensures)) (rw (p .homes-reach) at (c12 .homes .ensures))
-    (rw (p .definitions-reach) at (c6 .definitions .ensures)) _ (rw (p .binders-reach) at (c2 .binders .ensures))
+    let bound = c .before .before in
+    let filled = bound .before .before .before .before in
+    let counted = filled .before .before in
+    let homed = counted .before .before .before .before .before in
+    let owned = homed .before .before .before .before in
+    let p = owned .before .before .before .before .before .before .before .pre in
+    known _ (p .ok) _ _ _ (rw (p .owners-reach) at (owned .owners .ensures)) (rw (p .homes-reach) at (homed .homes .ensures))
+    _ (counted .word16 .ensures .is) _ (p .definitions-clear) (filled .first-definitions .ensures)
+    _ (rw (p .binders-reach) at (bound .binders .ensures))
 
 pub fill-index-spec : {M : Type 1} → statement M
 fill-index-spec =
@@ -44,7 +49,8 @@ fill-index-spec =
     (tie.spec
     owners-requires
     homes-requires
-    definitions-requires
+    word16-requires
+    first-definitions-requires
     binders-requires
     same-length
     same-length-2

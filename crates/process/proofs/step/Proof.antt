@@ -40,7 +40,7 @@ fill-index-requires c κs =
       ok = accepted-here _ _ (sym (e .before .is-accepted .ensures) ∙ not-false _ (e .if1 .left)) (e .before .before .check .ensures);
       owners-reach = refl;
       homes-reach = refl;
-      definitions-reach = refl;
+      definitions-clear = refl;
       binders-reach = refl;
     }
 

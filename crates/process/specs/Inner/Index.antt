@@ -2,7 +2,7 @@
 use mathlib.Core.Path.{_≡_}
 use mathlib.Core.List.{List, map}
 use Prim.Native.Nat.{ℕ, _+_, _≤_, _<_}
-use lib.ListN.{length}
+use lib.ListN.{length, replicate}
 use Rattle.lists.specs.Lists.{word, range}
 use Rattle.table.specs.Words.{publics, bounds, threads}
 use Rattle.table.specs.Owners.{owner, home, definition}
@@ -34,12 +34,12 @@ pub record Known (w owners homes definitions binders : List ℕ) : Type 0 where
   pub bound : Bound w homes definitions binders
   pub owned : Owned w owners homes
 
--- the table is accepted, and the words have room for its index
+-- the table is accepted, the words have room for its index, and those for definitions are 0
 pub record Indexable (w owners homes definitions binders : List ℕ) : Type 0 where
   pub ok : cause w ≡ 0
   pub owners-reach : length owners ≡ 256
   pub homes-reach : length homes ≡ 256
-  pub definitions-reach : length definitions ≡ 256
+  pub definitions-clear : definitions ≡ replicate 256 0
   pub binders-reach : length binders ≡ 64
 
 -- as many words as a state has, and few names
