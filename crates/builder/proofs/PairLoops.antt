@@ -30,7 +30,8 @@ module _ (w rows : List ℕ) (plan : Layout) (k : Rowed w rows plan) (r : Reach)
   values-few = (l .order, omega (arith, l .inside, k .few-publics), omega (arith, k .privates-are, k .few-bounds))
 
   pub value-inside : (i n : ℕ) → n ≡ length (reached (plan .publics) (plan .privates) r) → i < n
-      → (r .low ≤ r .high) × (r .high ≤ 65536) × (plan .publics < 65536) × (plan .privates < 65536) × (i < length (reached (plan .publics) (plan .privates) r))
+      → (r .low ≤ r .high) × (r .high ≤ 65536) × (plan .publics < 65536) × (plan .privates < 65536) × (i < length (reached (plan .publics)
+      (plan .privates) r))
   value-inside i n e h = (
     l .order,
     omega (arith, l .inside, k .few-publics),
@@ -102,7 +103,9 @@ module _ (w rows : List ℕ) (plan : Layout) (k : Rowed w rows plan) (p : Pair) 
       values-are = sym (ValueLoops.reach-is w plan r (values w (p .sent)) (k .publics-are) (k .privates-are) l)
 
       split : sentAt i ≡ firstTold ++ map (toldAt i) (pick (r .privates) (from (plan .publics) (plan .privates)) [])
-      split = other-is s ∙ ap (map (toldAt i)) values-are ∙ map-append (toldAt i) (from (r .low) (r .high - r .low)) (pick (r .privates) (from (plan .publics) (plan .privates)) [])
+      split =
+          other-is s ∙ ap (map (toldAt i)) values-are
+          ∙ map-append (toldAt i) (from (r .low) (r .high - r .low)) (pick (r .privates) (from (plan .publics) (plan .privates)) [])
 
       reads : (v : ℕ) → member v (values w (p .sent)) ≡ true → Reads w (branchName w (p .send)) v
       reads v m = subst (λ (x : ℕ). Reads w x v) (q .sent-is) (record { high = sent-high; value = m })

@@ -13,49 +13,41 @@ use Rattle.builder.specs.Values.{Values}
 use Rattle.builder.specs.Places.{Place}
 use Rattle.builder.specs.Rows.{numberOf, Exists}
 use Rattle.builder.specs.Inner.Arcs.{insert, exists, numbersOf}
-use Rattle.builder.specs.Inner.Writing.{stepOf, rise}
+use Rattle.builder.specs.Inner.Writing.{maskOf, rise}
 use Rattle.builder.proofs.Rows.{number-unique}
 use Rattle.builder.proofs.Sorted.{insert-before, insert-here, insert-after, insert-last, Way, below, here, above, way, member-insert}
 use Rattle.builder.proofs.Split.{numbers-none, numbers-yes, numbers-no}
 
 -- ---- one number
 
-pub step-few : (ms : List ℕ) (x : ℕ) → stepOf ms x ≤ 1
-unfolding stepOf
-step-few ms x = go (member x ms) refl
-  where
-    go : (b : Bool) → member x ms ≡ b → stepOf ms x ≤ 1
-    go true e = rw e (omega arith)
-    go false e = rw e (omega arith)
-
-step-yes : (ms : List ℕ) (x : ℕ) → member x ms ≡ true → 1 ≡ stepOf ms x
-unfolding stepOf
-step-yes ms x h = rw h
+mask-yes : (ms : List ℕ) (x : ℕ) → member x ms ≡ true → 4294967295 ≡ maskOf ms x
+unfolding maskOf
+mask-yes ms x h = rw h
 
 module _ (x a b c : ℕ) where
-  pub step-first : x ≡ a → 1 ≡ stepOf (a ∷ b ∷ c ∷ []) x
-  step-first e = step-yes (a ∷ b ∷ c ∷ []) x (rw e (member-here a (b ∷ c ∷ [])))
+  pub mask-first : x ≡ a → 4294967295 ≡ maskOf (a ∷ b ∷ c ∷ []) x
+  mask-first e = mask-yes (a ∷ b ∷ c ∷ []) x (rw e (member-here a (b ∷ c ∷ [])))
 
-  pub step-second : x ≡ b → 1 ≡ stepOf (a ∷ b ∷ c ∷ []) x
-  step-second e = step-yes (a ∷ b ∷ c ∷ []) x (rw e (member-there b a (b ∷ c ∷ []) (member-here b (c ∷ []))))
+  pub mask-second : x ≡ b → 4294967295 ≡ maskOf (a ∷ b ∷ c ∷ []) x
+  mask-second e = mask-yes (a ∷ b ∷ c ∷ []) x (rw e (member-there b a (b ∷ c ∷ []) (member-here b (c ∷ []))))
 
-  pub step-third : x ≡ c → 1 ≡ stepOf (a ∷ b ∷ c ∷ []) x
-  step-third e = step-yes (a ∷ b ∷ c ∷ []) x (rw e (member-there c a (b ∷ c ∷ []) (member-there c b (c ∷ []) (member-here c []))))
+  pub mask-third : x ≡ c → 4294967295 ≡ maskOf (a ∷ b ∷ c ∷ []) x
+  mask-third e = mask-yes (a ∷ b ∷ c ∷ []) x (rw e (member-there c a (b ∷ c ∷ []) (member-there c b (c ∷ []) (member-here c []))))
 
   none-of : (x ≡ a → ⊥) → (x ≡ b → ⊥) → (x ≡ c → ⊥) → member x (a ∷ b ∷ c ∷ []) ≡ false
   unfolding member
   none-of f g h = member-not x a (b ∷ c ∷ []) f (member-not x b (c ∷ []) g (member-not x c [] h refl))
 
-  pub step-none : (x ≡ a → ⊥) → (x ≡ b → ⊥) → (x ≡ c → ⊥) → 0 ≡ stepOf (a ∷ b ∷ c ∷ []) x
-  unfolding stepOf
-  step-none f g h = rw (none-of f g h)
+  pub mask-none : (x ≡ a → ⊥) → (x ≡ b → ⊥) → (x ≡ c → ⊥) → 0 ≡ maskOf (a ∷ b ∷ c ∷ []) x
+  unfolding maskOf
+  mask-none f g h = rw (none-of f g h)
 
 pub rise-yes : (ms : List ℕ) (t x : ℕ) → member x ms ≡ true → rise ms t x ≡ x + t
-unfolding rise stepOf
+unfolding rise
 rise-yes ms t x h = rw h (omega arith)
 
 pub rise-no : (ms : List ℕ) (t x : ℕ) → member x ms ≡ false → rise ms t x ≡ x
-unfolding rise stepOf
+unfolding rise
 rise-no ms t x h = rw h (omega arith)
 
 -- x is not on the way of a number that rises t times

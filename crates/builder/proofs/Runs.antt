@@ -30,8 +30,9 @@ use Rattle.builder.proofs.Names.{restricted-private}
 use Rattle.builder.proofs.Controls.{publics-are}
 use Rattle.builder.proofs.CommunicationCounts.{not-y, not-heard, e-not-y}
 use Rattle.builder.proofs.Rising.{Shifted, shift-none, shift-no, Track, Aside, stays, goes-a, goes-b, goes-c}
-use Rattle.builder.proofs.Pairs.{Speaks, speaks, sends, receives, heard-free, takesOf, givesOf, told-inputs, told-outputs, branch-small, value-small}
-use Rattle.builder.proofs.Pairs.{reads-holds, holds-exists, differs-exists, differs-none, public-none, control-exists, home-inside, send-next, receive-next}
+use Rattle.builder.proofs.Pairs.{Speaks, speaks, sends, receives, heard-free, takesOf, givesOf, told-inputs, told-outputs, branch-small}
+use Rattle.builder.proofs.Pairs.{value-small, reads-holds, holds-exists, differs-exists, differs-none, public-none, control-exists}
+use Rattle.builder.proofs.Pairs.{home-inside, send-next, receive-next}
 
 -- transitions for the numbers from low on are those for the numbers from 0 on
 put-run : {A : Type 0} (f : A → Transition) (g : ℕ → A) (h : ℕ → Transition) (low n o : ℕ) (s : Writing.Heads)
@@ -193,7 +194,8 @@ module _ (w rows : List ℕ) (plan : Layout) (k : Rowed w rows plan) (p : Pair) 
         where
           go : Dec (publics w ≤ x) → Moved (equals x i ∷ ps) (equals x i ∷ qs)
           go (yes l) =
-              stays S U zn yn cn t A B C track-z track-y track-c ps qs m (equals x i) (holds-exists w x i (reads-holds w x i v l)) (beside-equals x i (f l) g)
+              stays S U zn yn cn t A B C track-z track-y track-c ps qs m (equals x i) (holds-exists w x i (reads-holds w x i v l)) (beside-equals x i
+              (f l) g)
               (λ e. f l (cc)) (λ e. g (cc)) (off x i 0 (f l))
           go (no l) =
               let n = public-none w x i (omega arith) in

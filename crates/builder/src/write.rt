@@ -4,7 +4,7 @@ ghost use mathlib.Core.List.{[], _∷_, map};
 ghost use Prim.Native.Nat.{_+_, _-_, _*_, _<_, _≤_};
 ghost use lib.ListN.{length, take};
 ghost use Rattle.lists.specs.Lists.{from, range};
-ghost use Rattle.builder.specs.Inner.Writing.{writes, putOne, putAll, Inside, stepOf, sums, Steady};
+ghost use Rattle.builder.specs.Inner.Writing.{writes, putOne, putAll, Inside, maskOf, sums, Steady};
 ghost use Rattle.builder.specs.Inner.Counting.{Few, sumsOf};
 ghost use Rattle.builder.specs.Inner.Plan.{state, arrow, risen, Short};
 ghost use Rattle.builder.specs.Inner.Plan.{headerOf};
@@ -102,52 +102,52 @@ pub(crate) fn go(out: &mut [u32], h: Heads, kind: u32, a: usize, from: u32, to: 
     transition(out, h, kind, a, 0, &ins, 1, &outs, 1)
 }
 
-// 1 for a number that rises, 0 for another.
-fn step(x: u32, a: u32, b: u32, c: u32) -> u32
-    ensures { λ r. ⌜ r ≡ stepOf (a ∷ b ∷ c ∷ []) x ⌝ }
+// All bits for a number that rises, none for another.
+fn mask(x: u32, a: u32, b: u32, c: u32) -> u32
+    ensures { λ r. ⌜ r ≡ maskOf (a ∷ b ∷ c ∷ []) x ⌝ }
 {
     if x == a {
-        return 1;
+        return 4294967295;
     }
     if x == b {
-        return 1;
+        return 4294967295;
     }
     if x == c {
-        return 1;
+        return 4294967295;
     }
     0
 }
 
-fn steps_of(list: &[u32; 16], a: u32, b: u32, c: u32) -> [u32; 16]
+fn masks_of(list: &[u32; 16], a: u32, b: u32, c: u32) -> [u32; 16]
     requires { ⌜ length (now list) ≡ 16 ⌝ }
-    ensures { λ r. ⌜ r ≡ map (stepOf (a ∷ b ∷ c ∷ [])) (now (list .entry)) ⌝ }
+    ensures { λ r. ⌜ r ≡ map (maskOf (a ∷ b ∷ c ∷ [])) (now (list .entry)) ⌝ }
 {
-    let mut steps = [0u32; 16];
+    let mut masks = [0u32; 16];
     let mut k = 0;
     while k < 16 {
-        steps[k] = step(list[k], a, b, c);
+        masks[k] = mask(list[k], a, b, c);
         k += 1;
     }
-    steps
+    masks
 }
 
-// Writes the first `count` numbers of a list, each after t of its steps.
+// Writes the first `count` numbers of a list, those with a mask raised by t.
 fn raised(
     out: &mut [u32],
     at: usize,
     list: &[u32; 16],
-    steps: &[u32; 16],
+    masks: &[u32; 16],
     count: usize,
     t: u32,
 ) -> usize
-    requires { ⌜ (count ≤ 16) × (at + count ≤ length (now out)) × Steady (now list) (now steps) count × (t < 65536) ⌝ }
+    requires { ⌜ (count ≤ 16) × (at + count ≤ length (now out)) × Steady (now list) (now masks) count × (t < 65536) ⌝ }
     ensures { λ r. ⌜ (r ≡ at + count)
         × (now (out .exit) ≡ writes (now (out .entry)) at
-        (take count (sums t (now (list .entry)) (now (steps .entry))))) ⌝ }
+        (take count (sums t (now (list .entry)) (now (masks .entry))))) ⌝ }
 {
     let mut i = 0;
     while i < count {
-        out[at + i] = list[i] + steps[i] * t;
+        out[at + i] = list[i] + (masks[i] & t);
         i += 1;
     }
     at + count
@@ -177,13 +177,13 @@ pub(crate) fn series(
     let mut list = [0u32; 16];
     let middle = words(&mut list, 0, &ins, arcs.inputs);
     let size = words(&mut list, middle, &outs, arcs.outputs);
-    let steps = steps_of(&list, a, b, c);
+    let masks = masks_of(&list, a, b, c);
     let mut place = h.place;
     let mut arc = h.arc;
     let mut t = 0;
     while t < count {
         put_record(out, place, kind, x, y, arc, arcs.inputs, arcs.outputs);
-        arc = raised(out, arc, &list, &steps, size, t as u32);
+        arc = raised(out, arc, &list, &masks, size, t as u32);
         place += 6;
         t += 1;
     }

@@ -1,9 +1,10 @@
 -- A buffer that is written at two heads: records at one, arcs at the other.
 use mathlib.Core.Path.{_≡_}
 use mathlib.Core.List.{List, [], _∷_}
-use Prim.Native.Nat.{ℕ, _+_, _*_, _<_, _≤_}
+use Prim.Native.Nat.{ℕ, _+_, _<_, _≤_}
+use lib.Bits.{bitAnd}
 use lib.ListN.{length, set}
-use Rattle.lists.specs.Lists.{bit, word, member}
+use Rattle.lists.specs.Lists.{pick, word, member}
 use Rattle.net.specs.Net.{Transition, arcsOf, recordWords}
 
 -- the words, one after the other, from place i on
@@ -38,23 +39,22 @@ pub record Inside (s : Heads) : Type 0 where
 
 -- ---- transitions that follow one another: from one to the next some numbers of arcs rise by 1
 
--- 1 for a number that rises, 0 for another
-unfoldable pub stepOf : List ℕ → ℕ → ℕ
-stepOf ms x = bit (member x ms)
+-- all 32 bits for a number that rises, none for another
+unfoldable pub maskOf : List ℕ → ℕ → ℕ
+maskOf ms x = pick (member x ms) 4294967295 0
 
 -- a number after t steps
 unfoldable pub rise : List ℕ → ℕ → ℕ → ℕ
-rise ms t x = x + stepOf ms x * t
+rise ms t x = x + pick (member x ms) t 0
 
--- numbers after t steps, each with its step beside it
+-- numbers after t steps, each with its mask beside it
 unfoldable pub sums : ℕ → List ℕ → List ℕ → List ℕ
-sums t [] ss = []
+sums t [] ms = []
 sums t (x ∷ xs) [] = []
-sums t (x ∷ xs) (s ∷ ss) = (x + s * t) ∷ sums t xs ss
+sums t (x ∷ xs) (m ∷ ms) = (x + bitAnd m t) ∷ sums t xs ms
 
--- small numbers with steps of 0 and 1
-pub record Steady (list steps : List ℕ) (count : ℕ) : Type 0 where
+-- small numbers with masks beside them
+pub record Steady (list masks : List ℕ) (count : ℕ) : Type 0 where
   pub enough : count ≤ length list
-  pub beside : length list ≡ length steps
+  pub beside : length list ≡ length masks
   pub small : (i : ℕ) → i < count → word list i < 65536
-  pub single : (i : ℕ) → i < count → word steps i ≤ 1

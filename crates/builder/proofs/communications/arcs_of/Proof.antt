@@ -78,7 +78,8 @@ filled2 c =
     ⊎-elim
     (λ v. read-bound w (l .ins) (c .if2 .ins) (l .c) (c .if2 .c) (places1 s) f (s .args .p .heard) (s .args .i) (v .2 .result) (known s .heard)
     (omega (arith, r, v .0 .taken)) (v .2 .ensures) (joined (v .3 .ensures) (v .6) (v .5)) (ap length (v .5) ∙ v .3 .kept .0))
-    (λ v. read-public w (l .ins) (c .if2 .ins) (l .c) (c .if2 .c) (places1 s) f (s .args .p .heard) (s .args .i) (omega (arith, r, v .0 .left)) (v .2) (v .1))
+    (λ v. read-public w (l .ins) (c .if2 .ins) (l .c) (c .if2 .c) (places1 s) f (s .args .p .heard) (s .args .i) (omega (arith, r, v .0 .left)) (v .2)
+    (v .1))
     (c .if2 .came)
 
 filled3 : (c : tie.Joined3) → Filled (table (start2 (c .before))) (c .if3 .ins) (c .if3 .c) (places3 (start2 (c .before)))
@@ -91,7 +92,8 @@ filled3 c =
     ⊎-elim
     (λ v. read-bound w (l .ins) (c .if3 .ins) (l .c) (c .if3 .c) (places2 s) f (s .args .p .sent) (s .args .j) (v .2 .result) (known s .sent)
     (omega (arith, r, v .0 .taken)) (v .2 .ensures) (joined (v .3 .ensures) (v .6) (v .5)) (ap length (v .5) ∙ v .3 .kept .0))
-    (λ v. read-public w (l .ins) (c .if3 .ins) (l .c) (c .if3 .c) (places2 s) f (s .args .p .sent) (s .args .j) (omega (arith, r, v .0 .left)) (v .2) (v .1))
+    (λ v. read-public w (l .ins) (c .if3 .ins) (l .c) (c .if3 .c) (places2 s) f (s .args .p .sent) (s .args .j) (omega (arith, r, v .0 .left)) (v .2)
+    (v .1))
     (c .if3 .came)
 
 -- ---- the outputs
@@ -150,7 +152,8 @@ filled4 c =
     ⊎-elim
     (λ v. take-private w (l .ins) (c .if4 .ins) (l .c) (c .if4 .c) (places3 s) f (s .args .p .bound) (s .args .j) (v .2 .result)
     (known s .differs (omega (arith, r, v .0 .taken))) (v .2 .ensures) (joined (v .3 .ensures) (v .6) (v .5)) (ap length (v .5) ∙ v .3 .kept .0))
-    (λ v. take-public w (l .ins) (c .if4 .ins) (l .c) (c .if4 .c) (places3 s) f (s .args .p .bound) (s .args .j) (omega (arith, r, v .0 .left)) (v .2) (v .1))
+    (λ v. take-public w (l .ins) (c .if4 .ins) (l .c) (c .if4 .c) (places3 s) f (s .args .p .bound) (s .args .j) (omega (arith, r, v .0 .left)) (v .2)
+    (v .1))
     (c .if4 .came)
 
 abbrev begun8 : tie.After-insert8 → tie.Start

@@ -25,7 +25,8 @@ begin c = c .before .before .before .before .before .before .before .before .bef
 
 told-first : (c : tie.Joined3) → state (c .if3 .out) (c .if3 .q)
     ≡ put (begin c .args .table .now) (begin c .args .out .now) (begin c .args .h) (map (told (begin c .args .table .now) (begin c .args .p .send)
-    (begin c .args .p .receive) (begin c .args .i)) (from (c .before .before .reach-of .result .low) (c .before .before .reach-of .result .high - c .before .before .reach-of .result .low)))
+    (begin c .args .p .receive) (begin c .args .i)) (from (c .before .before .reach-of .result .low)
+    (c .before .before .reach-of .result .high - c .before .before .reach-of .result .low)))
 told-first c =
     let s = begin c in
     let a = s .args in
@@ -34,7 +35,8 @@ told-first c =
     let o = c .before .before .before .before .before .before .if1 .left in
     ⊎-elim
     (λ v. same-state (v .3 .last .1 .1 .1 .0) (c .if3 .out) (v .3 .result) (c .if3 .q) (v .6) (v .7) ∙ v .3 .ensures)
-    (λ v. first-none (a .table .now) (a .rows .now) (a .plan) (s .pre .0) (a .p) (s .pre .1) (a .i) (s .pre .2) (s .pre .3) (r .result) (r .ensures) o b (state (a .out .now) (a .h)) (state (c .if3 .out) (c .if3 .q)) (v .0 .left)
+    (λ v. first-none (a .table .now) (a .rows .now) (a .plan) (s .pre .0) (a .p) (s .pre .1) (a .i) (s .pre .2) (s .pre .3) (r .result)
+    (r .ensures) o b (state (a .out .now) (a .h)) (state (c .if3 .out) (c .if3 .q)) (v .0 .left)
     (same-state (a .out .now) (c .if3 .out) (a .h) (c .if3 .q) (v .1) (v .2)))
     (c .if3 .came)
 
@@ -45,8 +47,16 @@ communicate-requires : tie.Need-communicate-requires
 communicate-requires c κs =
     let s = c .before .before .before .before .before .before in
     let a = s .args in
-    let e = c .before .if1 .taken in
-    (s .pre .0, s .pre .1, s .pre .2, s .pre .3, self-reads (a .table .now) (a .rows .now) (a .plan) (s .pre .0) (a .p) (s .pre .1) (a .i) (s .pre .2) (s .pre .3) e, subst (λ (ds : List Description). Inside (put (a .table .now) (a .out .now) (a .h) ds)) (self-is (a .table .now) (a .rows .now) (a .plan) (s .pre .0) (a .p) (s .pre .1) (a .i) (s .pre .2) (s .pre .3) e) (s .pre .4))
+    let e = c .before .if1 .taken in (
+      s .pre .0,
+      s .pre .1,
+      s .pre .2,
+      s .pre .3,
+      self-reads (a .table .now) (a .rows .now) (a .plan) (s .pre .0) (a .p) (s .pre .1) (a .i) (s .pre .2)
+          (s .pre .3) e,
+      subst (λ (ds : List Description). Inside (put (a .table .now) (a .out .now) (a .h) ds)) (self-is (a .table .now) (a .rows .now)
+          (a .plan) (s .pre .0) (a .p) (s .pre .1) (a .i) (s .pre .2) (s .pre .3) e) (s .pre .4),
+    )
 
 same-length : tie.Need-same-length
 same-length c = search needs
@@ -55,14 +65,23 @@ returns : tie.Need-returns
 returns c =
     let s = c .before .before .before .before .before .before .before .before .before in
     let a = s .args in
-    c .before .before .communicate .ensures ∙ ap (put (a .table .now) (a .out .now) (a .h)) (sym (self-is (a .table .now) (a .rows .now) (a .plan) (s .pre .0) (a .p) (s .pre .1) (a .i) (s .pre .2) (s .pre .3) (c .before .before .before .before .if1 .taken)))
+    c .before .before .communicate .ensures ∙ ap (put (a .table .now) (a .out .now) (a .h)) (sym (self-is (a .table .now) (a .rows .now) (a .plan)
+    (s .pre .0) (a .p) (s .pre .1) (a .i) (s .pre .2) (s .pre .3) (c .before .before .before .before .if1 .taken)))
 
 communicate-requires-2 : tie.Need-communicate-requires-2
 communicate-requires-2 c κs =
     let s = c .before .before .before .before .before .before .before .before .before in
     let a = s .args in
-    let l : a .p .sent < publics (a .table .now) = omega (arith, s .pre .0 .publics-are, c .before .if2 .taken) in
-    (s .pre .0, s .pre .1, s .pre .2, s .pre .3, public-reads (a .table .now) (a .rows .now) (a .plan) (s .pre .0) (a .p) (s .pre .1) (a .i) (s .pre .2) (s .pre .3) l, subst (λ (ds : List Description). Inside (put (a .table .now) (a .out .now) (a .h) ds)) (public-is (a .table .now) (a .rows .now) (a .plan) (s .pre .0) (a .p) (s .pre .1) (a .i) (s .pre .2) (s .pre .3) (c .before .before .before .before .if1 .left) l) (s .pre .4))
+    let l : a .p .sent < publics (a .table .now) = omega (arith, s .pre .0 .publics-are, c .before .if2 .taken) in (
+      s .pre .0,
+      s .pre .1,
+      s .pre .2,
+      s .pre .3,
+      public-reads (a .table .now) (a .rows .now) (a .plan) (s .pre .0) (a .p) (s .pre .1) (a .i)
+          (s .pre .2) (s .pre .3) l,
+      subst (λ (ds : List Description). Inside (put (a .table .now) (a .out .now) (a .h) ds)) (public-is (a .table .now)
+          (a .rows .now) (a .plan) (s .pre .0) (a .p) (s .pre .1) (a .i) (s .pre .2) (s .pre .3) (c .before .before .before .before .if1 .left) l) (s .pre .4),
+    )
 
 same-length-2 : tie.Need-same-length-2
 same-length-2 c = search needs
@@ -72,7 +91,8 @@ returns-2 c =
     let s = c .before .before .before .before .before .before .before .before .before .before .before .before in
     let a = s .args in
     let l : a .p .sent < publics (a .table .now) = omega (arith, s .pre .0 .publics-are, c .before .before .before .before .if2 .taken) in
-    c .before .before .communicate2 .ensures ∙ ap (put (a .table .now) (a .out .now) (a .h)) (sym (public-is (a .table .now) (a .rows .now) (a .plan) (s .pre .0) (a .p) (s .pre .1) (a .i) (s .pre .2) (s .pre .3) (c .before .before .before .before .before .before .before .if1 .left) l))
+    c .before .before .communicate2 .ensures ∙ ap (put (a .table .now) (a .out .now) (a .h)) (sym (public-is (a .table .now) (a .rows .now) (a .plan)
+    (s .pre .0) (a .p) (s .pre .1) (a .i) (s .pre .2) (s .pre .3) (c .before .before .before .before .before .before .before .if1 .left) l))
 
 reach-of-requires : tie.Need-reach-of-requires
 reach-of-requires c κs =
@@ -89,8 +109,16 @@ tell-requires c κs =
     let a = s .args in
     let r = c .before .before .before .before .reach-of in
     let b : publics (a .table .now) ≤ a .p .sent = omega (arith, s .pre .0 .publics-are, c .before .before .before .before .before .if2 .left) in
-    let o = c .before .before .before .before .before .before .before .before .if1 .left in
-    (s .pre .0, s .pre .1, s .pre .2, s .pre .3, first-run (a .table .now) (a .rows .now) (a .plan) (s .pre .0) (a .p) (s .pre .1) (a .i) (s .pre .2) (s .pre .3) (r .result) (r .ensures) o b (c .before .before .if3 .taken), first-inside (a .table .now) (a .rows .now) (a .plan) (s .pre .0) (a .p) (s .pre .1) (a .i) (s .pre .2) (s .pre .3) (r .result) (r .ensures) o b (state (a .out .now) (a .h)) (s .pre .4))
+    let o = c .before .before .before .before .before .before .before .before .if1 .left in (
+      s .pre .0,
+      s .pre .1,
+      s .pre .2,
+      s .pre .3,
+      first-run (a .table .now) (a .rows .now) (a .plan) (s .pre .0) (a .p) (s .pre .1) (a .i) (s .pre .2)
+          (s .pre .3) (r .result) (r .ensures) o b (c .before .before .if3 .taken),
+      first-inside (a .table .now) (a .rows .now) (a .plan) (s .pre .0) (a .p)
+          (s .pre .1) (a .i) (s .pre .2) (s .pre .3) (r .result) (r .ensures) o b (state (a .out .now) (a .h)) (s .pre .4),
+    )
 
 tell-requires-2 : tie.Need-tell-requires-2
 tell-requires-2 c κs =
@@ -100,8 +128,16 @@ tell-requires-2 c κs =
     let b : publics (a .table .now) ≤ a .p .sent = omega (arith, s .pre .0 .publics-are, c .before .before .before .before .before .if2 .left) in
     let o = c .before .before .before .before .before .before .before .before .if1 .left in
     let j = c .before .before in
-    let h = c .before .if4 .taken in
-    (s .pre .0, s .pre .1, s .pre .2, s .pre .3, last-run (a .table .now) (a .rows .now) (a .plan) (s .pre .0) (a .p) (s .pre .1) (a .i) (s .pre .2) (s .pre .3) (r .result) (r .ensures) o b h, last-inside (a .table .now) (a .rows .now) (a .plan) (s .pre .0) (a .p) (s .pre .1) (a .i) (s .pre .2) (s .pre .3) (r .result) (r .ensures) o b (state (a .out .now) (a .h)) (state (j .if3 .out) (j .if3 .q)) (told-first j) h (s .pre .4))
+    let h = c .before .if4 .taken in (
+      s .pre .0,
+      s .pre .1,
+      s .pre .2,
+      s .pre .3,
+      last-run (a .table .now) (a .rows .now) (a .plan) (s .pre .0) (a .p) (s .pre .1) (a .i) (s .pre .2)
+          (s .pre .3) (r .result) (r .ensures) o b h,
+      last-inside (a .table .now) (a .rows .now) (a .plan) (s .pre .0) (a .p) (s .pre .1) (a .i) (s .pre .2)
+          (s .pre .3) (r .result) (r .ensures) o b (state (a .out .now) (a .h)) (state (j .if3 .out) (j .if3 .q)) (told-first j) h (s .pre .4),
+    )
 
 same-length-3 : tie.Need-same-length-3
 same-length-3 c = c .before .before .tell2 .kept .1 .1 .1 .0 ∙ kept-first (c .before .before .before .before .before)
@@ -111,11 +147,14 @@ returns-3 c =
     let s = c .before .before .before .before .before .before .before .before .before .before .before .before .before .before .before .before in
     let a = s .args in
     let r = c .before .before .before .before .before .before .before .reach-of in
-    let b : publics (a .table .now) ≤ a .p .sent = omega (arith, s .pre .0 .publics-are, c .before .before .before .before .before .before .before .before .if2 .left) in
+    let b : publics (a .table .now) ≤ a .p .sent = omega
+    (arith, s .pre .0 .publics-are, c .before .before .before .before .before .before .before .before .if2 .left) in
     let o = c .before .before .before .before .before .before .before .before .before .before .before .if1 .left in
     let j = c .before .before .before .before .before in
     let u = c .before .before .tell2 in
-    sent-both (a .table .now) (a .rows .now) (a .plan) (s .pre .0) (a .p) (s .pre .1) (a .i) (s .pre .2) (s .pre .3) (r .result) (r .ensures) o b (state (a .out .now) (a .h)) (state (j .if3 .out) (j .if3 .q)) (told-first j) (c .before .before .before .before .if4 .taken) (state (u .last .1 .1 .1 .0) (u .result)) (u .ensures)
+    sent-both (a .table .now) (a .rows .now) (a .plan) (s .pre .0) (a .p) (s .pre .1) (a .i) (s .pre .2) (s .pre .3) (r .result) (r .ensures) o b
+    (state (a .out .now) (a .h)) (state (j .if3 .out) (j .if3 .q)) (told-first j) (c .before .before .before .before .if4 .taken) (state
+    (u .last .1 .1 .1 .0) (u .result)) (u .ensures)
 
 same-length-4 : tie.Need-same-length-4
 same-length-4 c = kept-first (c .before)
@@ -128,7 +167,8 @@ returns-4 c =
     let b : publics (a .table .now) ≤ a .p .sent = omega (arith, s .pre .0 .publics-are, c .before .before .before .before .if2 .left) in
     let o = c .before .before .before .before .before .before .before .if1 .left in
     let j = c .before in
-    sent-first (a .table .now) (a .rows .now) (a .plan) (s .pre .0) (a .p) (s .pre .1) (a .i) (s .pre .2) (s .pre .3) (r .result) (r .ensures) o b (state (a .out .now) (a .h)) (state (j .if3 .out) (j .if3 .q)) (told-first j) (c .if4 .left)
+    sent-first (a .table .now) (a .rows .now) (a .plan) (s .pre .0) (a .p) (s .pre .1) (a .i) (s .pre .2) (s .pre .3) (r .result) (r .ensures) o b
+    (state (a .out .now) (a .h)) (state (j .if3 .out) (j .if3 .q)) (told-first j) (c .if4 .left)
 
 pub sent-spec : {M : Type 1} → statement M
 sent-spec =

@@ -16,14 +16,20 @@ arcs-of-requires c κs =
 equals-requires : tie.Need-equals-requires
 equals-requires c κs =
     let s = c .before .before .before .before in
-    let a = s .args in
-    (s .pre .0, run-sent (a .table .now) (a .rows .now) (a .plan) (s .pre .0) (a .p) (s .pre .1) (a .i) (a .low) (a .count) (s .pre .2) (s .pre .3) (s .pre .4))
+    let a = s .args in (
+      s .pre .0,
+      run-sent (a .table .now) (a .rows .now) (a .plan) (s .pre .0) (a .p) (s .pre .1) (a .i) (a .low) (a .count) (s .pre .2) (s .pre .3)
+          (s .pre .4),
+    )
 
 equals-requires-2 : tie.Need-equals-requires-2
 equals-requires-2 c κs =
     let s = c .before .before .before .before .before in
-    let a = s .args in
-    (s .pre .0, run-says (a .table .now) (a .rows .now) (a .plan) (s .pre .0) (a .p) (s .pre .1) (a .i) (a .low) (a .count) (s .pre .2) (s .pre .3) (s .pre .4) .gives)
+    let a = s .args in (
+      s .pre .0,
+      run-says (a .table .now) (a .rows .now) (a .plan) (s .pre .0) (a .p) (s .pre .1) (a .i) (a .low) (a .count) (s .pre .2) (s .pre .3)
+          (s .pre .4) .gives,
+    )
 
 series-requires : tie.Need-series-requires
 series-requires c κs =
@@ -32,8 +38,16 @@ series-requires c κs =
     let t = c .before .before .before .before .before .arcs-of in
     let z = c .before .before .before .before .equals in
     let y = c .before .before .before .equals2 in
-    let f = run-few (a .table .now) (a .rows .now) (a .plan) (s .pre .0) (a .p) (s .pre .1) (a .i) (a .low) (a .count) (s .pre .2) (s .pre .3) (s .pre .4) in
-    (f .0, f .1, f .2, t .ensures .short, subst Inside (public-run (a .table .now) (a .rows .now) (a .plan) (s .pre .0) (a .p) (s .pre .1) (a .i) (a .low) (a .count) (s .pre .2) (s .pre .3) (s .pre .4) (z .result) (y .result) (z .ensures) (y .ensures) (t .result) (t .ensures) (a .out .now) (a .h) (c .before .if1 .taken)) (s .pre .5))
+    let f = run-few (a .table .now) (a .rows .now) (a .plan) (s .pre .0) (a .p) (s .pre .1) (a .i) (a .low) (a .count) (s .pre .2) (s .pre .3)
+    (s .pre .4) in (
+      f .0,
+      f .1,
+      f .2,
+      t .ensures .short,
+      subst Inside (public-run (a .table .now) (a .rows .now) (a .plan) (s .pre .0) (a .p) (s .pre .1) (a .i)
+          (a .low) (a .count) (s .pre .2) (s .pre .3) (s .pre .4) (z .result) (y .result) (z .ensures) (y .ensures) (t .result) (t .ensures) (a .out .now)
+          (a .h) (c .before .if1 .taken)) (s .pre .5),
+    )
 
 same-length : tie.Need-same-length
 same-length c = search needs
@@ -45,13 +59,18 @@ returns c =
     let t = c .before .before .before .before .before .before .before .before .arcs-of in
     let z = c .before .before .before .before .before .before .before .equals in
     let y = c .before .before .before .before .before .before .equals2 in
-    c .before .before .series .ensures ∙ sym (public-run (a .table .now) (a .rows .now) (a .plan) (s .pre .0) (a .p) (s .pre .1) (a .i) (a .low) (a .count) (s .pre .2) (s .pre .3) (s .pre .4) (z .result) (y .result) (z .ensures) (y .ensures) (t .result) (t .ensures) (a .out .now) (a .h) (c .before .before .before .before .if1 .taken))
+    c .before .before .series .ensures ∙ sym (public-run (a .table .now) (a .rows .now) (a .plan) (s .pre .0) (a .p) (s .pre .1) (a .i) (a .low)
+    (a .count) (s .pre .2) (s .pre .3) (s .pre .4) (z .result) (y .result) (z .ensures) (y .ensures) (t .result) (t .ensures) (a .out .now) (a .h)
+    (c .before .before .before .before .if1 .taken))
 
 differs-requires : tie.Need-differs-requires
 differs-requires c κs =
     let s = c .before .before .before .before .before .before .before .before in
-    let a = s .args in
-    (s .pre .0, run-says (a .table .now) (a .rows .now) (a .plan) (s .pre .0) (a .p) (s .pre .1) (a .i) (a .low) (a .count) (s .pre .2) (s .pre .3) (s .pre .4) .differs (omega (arith, s .pre .0 .publics-are, c .if1 .left)))
+    let a = s .args in (
+      s .pre .0,
+      run-says (a .table .now) (a .rows .now) (a .plan) (s .pre .0) (a .p) (s .pre .1) (a .i) (a .low) (a .count) (s .pre .2) (s .pre .3)
+          (s .pre .4) .differs (omega (arith, s .pre .0 .publics-are, c .if1 .left)),
+    )
 
 series-requires-2 : tie.Need-series-requires-2
 series-requires-2 c κs =
@@ -61,8 +80,16 @@ series-requires-2 c κs =
     let z = c .before .before .before .before .before .equals in
     let y = c .before .before .before .before .equals2 in
     let d = c .before .differs in
-    let f = run-few (a .table .now) (a .rows .now) (a .plan) (s .pre .0) (a .p) (s .pre .1) (a .i) (a .low) (a .count) (s .pre .2) (s .pre .3) (s .pre .4) in
-    (f .0, f .1, f .2, t .ensures .short, subst Inside (private-run (a .table .now) (a .rows .now) (a .plan) (s .pre .0) (a .p) (s .pre .1) (a .i) (a .low) (a .count) (s .pre .2) (s .pre .3) (s .pre .4) (z .result) (y .result) (z .ensures) (y .ensures) (t .result) (t .ensures) (a .out .now) (a .h) (d .result) (d .ensures) (c .before .before .if1 .left)) (s .pre .5))
+    let f = run-few (a .table .now) (a .rows .now) (a .plan) (s .pre .0) (a .p) (s .pre .1) (a .i) (a .low) (a .count) (s .pre .2) (s .pre .3)
+    (s .pre .4) in (
+      f .0,
+      f .1,
+      f .2,
+      t .ensures .short,
+      subst Inside (private-run (a .table .now) (a .rows .now) (a .plan) (s .pre .0) (a .p) (s .pre .1) (a .i)
+          (a .low) (a .count) (s .pre .2) (s .pre .3) (s .pre .4) (z .result) (y .result) (z .ensures) (y .ensures) (t .result) (t .ensures) (a .out .now)
+          (a .h) (d .result) (d .ensures) (c .before .before .if1 .left)) (s .pre .5),
+    )
 
 same-length-2 : tie.Need-same-length-2
 same-length-2 c = search needs
@@ -75,7 +102,9 @@ returns-2 c =
     let z = c .before .before .before .before .before .before .before .before .equals in
     let y = c .before .before .before .before .before .before .before .equals2 in
     let d = c .before .before .before .before .differs in
-    c .before .before .series2 .ensures ∙ sym (private-run (a .table .now) (a .rows .now) (a .plan) (s .pre .0) (a .p) (s .pre .1) (a .i) (a .low) (a .count) (s .pre .2) (s .pre .3) (s .pre .4) (z .result) (y .result) (z .ensures) (y .ensures) (t .result) (t .ensures) (a .out .now) (a .h) (d .result) (d .ensures) (c .before .before .before .before .before .if1 .left))
+    c .before .before .series2 .ensures ∙ sym (private-run (a .table .now) (a .rows .now) (a .plan) (s .pre .0) (a .p) (s .pre .1) (a .i) (a .low)
+    (a .count) (s .pre .2) (s .pre .3) (s .pre .4) (z .result) (y .result) (z .ensures) (y .ensures) (t .result) (t .ensures) (a .out .now) (a .h)
+    (d .result) (d .ensures) (c .before .before .before .before .before .if1 .left))
 
 pub tell-spec : {M : Type 1} → statement M
 tell-spec =

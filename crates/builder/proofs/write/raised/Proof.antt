@@ -3,21 +3,22 @@ use mathlib.Core.Path.{_≡_, refl, sym, _∙_}
 use Prim.Native.Nat.{_+_, _-_, _≤_, _<_}
 use native.Mathlib.Nat.{add-zero}
 use native.Mathlib.Omega.{arith}
+use lib.Bits.{and-le-r}
 use lib.ListN.{length, getD, take, length-set}
 use lib.Seq.{slice}
 use borrow.Author.Needs.{needs}
 use Rattle.builder.specs.Inner.Writing.{writes, sums}
 use Rattle.builder.proofs.Loops.{part-more, part-done}
-use Rattle.builder.proofs.Series.{once-few, sums-at, sums-length}
+use Rattle.builder.proofs.Series.{sums-at, sums-length}
 use Rattle.builder.proofs.write.raised.Statement.{statement}
 use Rattle.builder.proofs.write.raised.Tie as tie
 
 abbrev Inv-loop : tie.InvT-loop
-Inv-loop out₀ at list steps count t i₀ out i =
-    (writes out₀ at (take count (sums t list steps)) ≡ writes out (at + i) (slice i count (sums t list steps))) × (length out ≡ length out₀)
+Inv-loop out₀ at list masks count t i₀ out i =
+    (writes out₀ at (take count (sums t list masks)) ≡ writes out (at + i) (slice i count (sums t list masks))) × (length out ≡ length out₀)
 
 abbrev μ-loop : tie.MeasureT-loop
-μ-loop out₀ at list steps count t i₀ out i = count - i
+μ-loop out₀ at list masks count t i₀ out i = count - i
 
 loop-holds : tie.Need-loop-holds Inv-loop μ-loop
 loop-holds c = (rw (add-zero (c .args .at)), refl)
@@ -34,30 +35,21 @@ mul-out-2 c = search needs
 element-copy-out-out-2 : tie.Need-element-copy-out-out-2 Inv-loop μ-loop
 element-copy-out-out-2 c = omega arith
 
-mul-out-3 : tie.Need-mul-out-3 Inv-loop μ-loop
-mul-out-3 c =
-    let a = c .before .before .before .before .args in
-    let p = c .before .before .before .before .pre in
-    let i = c .before .before .before .loop .i in
-    let h : i < a .count = c .before .before .loop-test .taken in
-    let k = once-few (getD (a .steps .now) i 0) (a .t) (p .2 .single i h) in
-    omega (arith, p .3)
-
 add-out : tie.Need-add-out Inv-loop μ-loop
 add-out c =
     let a = c .before .before .before .before .args in
     let p = c .before .before .before .before .pre in
     let i = c .before .before .before .loop .i in
     let h : i < a .count = c .before .before .loop-test .taken in
-    let k = once-few (getD (a .steps .now) i 0) (a .t) (p .2 .single i h) in
+    let k = and-le-r (getD (a .masks .now) i 0) (a .t) in
     let m = p .2 .small i h in
     omega (arith, p .3)
 
 add-out-2 : tie.Need-add-out-2 Inv-loop μ-loop
 add-out-2 c = omega arith
 
-mul-out-4 : tie.Need-mul-out-4 Inv-loop μ-loop
-mul-out-4 c = search needs
+mul-out-3 : tie.Need-mul-out-3 Inv-loop μ-loop
+mul-out-3 c = search needs
 
 slice-write-out : tie.Need-slice-write-out Inv-loop μ-loop
 slice-write-out c = omega arith
@@ -74,9 +66,9 @@ loop-again c =
     let p = c .before .before .before .before .pre in
     let l = c .before .before .before .loop in
     let h : l .i < a .count = c .before .before .loop-test .taken in
-    let xs = sums (a .t) (a .list .now) (a .steps .now) in
-    let n : a .count ≤ length xs = omega (arith, sums-length (a .t) (a .list .now) (a .steps .now) (p .2 .beside), p .2 .enough) in
-    let v = sums-at (a .t) (a .list .now) (a .steps .now) (l .i) (omega (arith, p .2 .enough)) (omega (arith, p .2 .enough, p .2 .beside)) in (
+    let xs = sums (a .t) (a .list .now) (a .masks .now) in
+    let n : a .count ≤ length xs = omega (arith, sums-length (a .t) (a .list .now) (a .masks .now) (p .2 .beside), p .2 .enough) in
+    let v = sums-at (a .t) (a .list .now) (a .masks .now) (l .i) (omega (arith, p .2 .enough)) (omega (arith, p .2 .enough, p .2 .beside)) in (
       l .inv .0 ∙ part-more (l .out) xs (a .at) (l .i) (a .count) h n ∙ rw v,
       simp length-set (l .inv .1),
     )
@@ -91,7 +83,7 @@ returns : tie.Need-returns Inv-loop μ-loop
 returns c =
     let a = c .before .before .args in
     let l = c .before .loop in
-    (refl, sym (l .inv .0 ∙ part-done (l .out) (sums (a .t) (a .list .now) (a .steps .now)) (a .at) (l .i) (a .count) (c .loop-test .left)))
+    (refl, sym (l .inv .0 ∙ part-done (l .out) (sums (a .t) (a .list .now) (a .masks .now)) (a .at) (l .i) (a .count) (c .loop-test .left)))
 
 pub raised-spec : {M : Type 1} → statement M
 raised-spec =
@@ -104,10 +96,9 @@ raised-spec =
     element-copy-out-out
     mul-out-2
     element-copy-out-out-2
-    mul-out-3
     add-out
     add-out-2
-    mul-out-4
+    mul-out-3
     slice-write-out
     add-i
     loop-less

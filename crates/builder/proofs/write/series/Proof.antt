@@ -1,29 +1,87 @@
 -- `builder::write::series` meets its contract. Loop: the transitions left are still to be written. Measure: transitions left.
 use mathlib.Core.Path.{_≡_, refl, sym, ap, _∙_}
 use mathlib.Core.List.{List, [], _∷_}
-use Prim.Native.Nat.{ℕ, _-_}
+use Prim.Native.Nat.{ℕ, _+_, _-_, _≤_, _<_}
 use native.Mathlib.Omega.{arith}
 use lib.ListN.{length}
 use borrow.Author.Needs.{needs}
 use Rattle.lists.specs.Lists.{from, range}
 use Rattle.lists.proofs.Ranges.{from-whole}
-use Rattle.builder.specs.Inner.Writing.{heads, putAll}
+use Rattle.net.specs.Net.{Transition}
+use Rattle.builder.specs.Inner.Writing
+use Rattle.builder.specs.Inner.Writing.{heads, putOne, putAll, Inside}
 use Rattle.builder.specs.Inner.Plan.{state, risen}
-use Rattle.builder.proofs.Series.{size-few, steady, series-done, series-inside, series-room, series-more}
+use Rattle.builder.proofs.Series.{Merged, merge, steady, series-done, series-inside, series-room, series-more}
 use Rattle.builder.proofs.write.series.Statement.{statement}
 use Rattle.builder.proofs.write.series.Tie as tie
 
-abbrev zeros : List ℕ
-zeros = 0 ∷ 0 ∷ 0 ∷ 0 ∷ 0 ∷ 0 ∷ 0 ∷ 0 ∷ 0 ∷ 0 ∷ 0 ∷ 0 ∷ 0 ∷ 0 ∷ 0 ∷ 0 ∷ []
-
 abbrev Inv-loop : tie.InvT-loop
-Inv-loop out₀ kind x y arcs a b c count list middle size steps place₀ arc₀ t₀ out place arc t =
+Inv-loop out₀ kind x y arcs a b c count list middle size masks place₀ arc₀ t₀ out place arc t =
     (putAll (risen kind x y arcs (a ∷ b ∷ c ∷ [])) (heads out₀ place₀ arc₀) (range count)
     ≡ putAll (risen kind x y arcs (a ∷ b ∷ c ∷ [])) (heads out place arc) (from t (count - t)))
     × (length out ≡ length out₀)
 
 abbrev μ-loop : tie.MeasureT-loop
-μ-loop out₀ kind x y arcs a b c count list middle size steps place₀ arc₀ t₀ out place arc t = count - t
+μ-loop out₀ kind x y arcs a b c count list middle size masks place₀ arc₀ t₀ out place arc t = count - t
+
+-- ---- what is known where the loop starts, and in a turn
+
+abbrev Begun : Type 0
+Begun = tie.After-masks-of Inv-loop μ-loop
+
+abbrev Turn : Type 0
+Turn = tie.In-loop Inv-loop μ-loop
+
+abbrev start : Begun → tie.Start Inv-loop μ-loop
+start c = c .before .before .before .before .before .before .before .before .before .before .before .before .before
+
+abbrev zeros : List ℕ
+zeros = 0 ∷ 0 ∷ 0 ∷ 0 ∷ 0 ∷ 0 ∷ 0 ∷ 0 ∷ 0 ∷ 0 ∷ 0 ∷ 0 ∷ 0 ∷ 0 ∷ 0 ∷ 0 ∷ []
+
+abbrev moving : Begun → List ℕ
+moving c = start c .args .a ∷ start c .args .b ∷ start c .args .c ∷ []
+
+abbrev list : Begun → List ℕ
+list c = c .before .before .before .words2 .last .0
+
+abbrev size : Begun → ℕ
+size c = c .before .before .before .words2 .result
+
+merged : (c : Begun) → Merged (start c .args .arcs) (moving c) (list c) (c .masks-of .result) (size c)
+merged c =
+    let w = c .before .before .before .before .before .before .before .words in
+    let v = c .before .before .before .words2 in
+    merge (start c .args .arcs) (moving c) zeros (w .last .0) (list c) (c .masks-of .result) (w .result) (size c) (start c .pre .3) refl (w .ensures .1)
+    (w .ensures .0) (v .ensures .1) (v .ensures .0) (c .masks-of .ensures)
+
+abbrev each : Begun → ℕ → Transition
+each c = risen (start c .args .kind) (start c .args .x) (start c .args .y) (start c .args .arcs) (moving c)
+
+abbrev whole : Begun → Writing.Heads
+whole c = putAll (each c) (state (start c .args .out .now) (start c .args .h)) (range (start c .args .count))
+
+abbrev here : Turn → Writing.Heads
+here c = heads (c .before .loop .out) (c .before .loop .place) (c .before .loop .arc)
+
+inside : (c : Turn) → Inside (putOne (here c) (each (c .before .before) (c .before .loop .t)))
+inside c =
+    let b = c .before .before in
+    let a = start b .args in
+    series-inside (a .arcs) (moving b) (list b) (b .masks-of .result) (size b) (merged b) (a .kind) (a .x) (a .y) (whole b) (here c) (c .before .loop .t)
+    (a .count) (c .before .loop .inv .0) (c .loop-test .taken) (start b .pre .4)
+
+room : (c : Turn) → (c .before .loop .place + 6 ≤ length (c .before .loop .out))
+    × (c .before .loop .arc + size (c .before .before) ≤ length (c .before .loop .out)) × (c .before .loop .arc < 4294967296)
+room c =
+    let b = c .before .before in
+    let a = start b .args in
+    series-room (a .arcs) (moving b) (list b) (b .masks-of .result) (size b) (merged b) (a .kind) (a .x) (a .y) (whole b) (here c) (c .before .loop .t)
+    (a .count) (c .before .loop .inv .0) (c .loop-test .taken) (start b .pre .4)
+
+few : (c : Turn) → c .before .loop .t < 65535
+few c = omega (arith, start (c .before .before) .pre .2, c .loop-test .taken)
+
+-- ---- the answers
 
 slice-aggregate-words : tie.Need-slice-aggregate-words Inv-loop μ-loop
 slice-aggregate-words c = search needs
@@ -45,84 +103,53 @@ words-requires-2 c κs =
     let k = c .before .before .before .before .before .before .before .before .before .pre .3 in
     (omega (arith, k .outs-eight, k .outs-fit), omega (arith, c .before .before .before .words .ensures .0, k .ins-fit))
 
-steps-of-requires : tie.Need-steps-of-requires Inv-loop μ-loop
-steps-of-requires c κs = c .before .before .words2 .kept .0 ∙ c .before .before .before .before .before .before .words .kept .0
+masks-of-requires : tie.Need-masks-of-requires Inv-loop μ-loop
+masks-of-requires c κs = c .before .before .words2 .kept .0 ∙ c .before .before .before .before .before .before .words .kept .0
 
 loop-holds : tie.Need-loop-holds Inv-loop μ-loop
 loop-holds c =
-    let a = c .before .before .before .before .before .before .before .before .before .before .before .before .before .args in
-    (ap (putAll (risen (a .kind) (a .x) (a .y) (a .arcs) (a .a ∷ a .b ∷ a .c ∷ [])) (state (a .out .now) (a .h))) (from-whole (a .count)), refl)
+    let a = start c .args in
+    (ap (putAll (each c) (state (a .out .now) (a .h))) (from-whole (a .count)), refl)
 
 put-record-requires : tie.Need-put-record-requires Inv-loop μ-loop
 put-record-requires c κs =
-    let s = c .before .before .before .before .before .before .before .before .before .before .before .before .before .before .before .before in
-    let a = s .args in
-    let w = c .before .before .before .before .before .before .before .before .before .before .words in
-    let v = c .before .before .before .before .before .before .words2 in
-    let m = c .before .before .before .steps-of in
-    let l = c .before .before .loop in
-    let r = series-room (a .arcs) (s .pre .3) zeros (w .last .0) (v .last .0) (m .result) (a .a ∷ a .b ∷ a .c ∷ []) refl (w .result) (v .result) (w .ensures .1) (w .ensures .0)
-    (v .ensures .1) (v .ensures .0) (m .ensures) (a .kind) (a .x) (a .y) (putAll (risen (a .kind) (a .x) (a .y) (a .arcs) (a .a ∷ a .b ∷ a .c ∷ [])) (state (a .out .now) (a .h)) (range (a .count)))
-    (heads (l .out) (l .place) (l .arc)) (l .t) (a .count) (l .inv .0) (c .before .loop-test .taken) (s .pre .4) in
-    (r .0, s .pre .0, s .pre .1, r .2, omega (arith, s .pre .3 .ins-fit), omega (arith, s .pre .3 .outs-fit))
+    let r = room (c .before) in
+    let p = start (c .before .before .before) .pre in
+    (r .0, p .0, p .1, r .2, omega (arith, p .3 .ins-fit), omega (arith, p .3 .outs-fit))
 
 cast-raised : tie.Need-cast-raised Inv-loop μ-loop
-cast-raised c = omega (arith, c .before .before .before .before .before .before .before .before .before .before .before .before .before .before .before .before .before .before .before .before .before .before .pre .2, c .before .before .before .before .before .before .before .loop-test .taken)
+cast-raised c = omega (arith, few (c .before .before .before .before .before .before .before))
 
 raised-requires : tie.Need-raised-requires Inv-loop μ-loop
 raised-requires c κs =
-    let s = c .before .before .before .before .before .before .before .before .before .before .before .before .before .before .before .before .before .before .before .before .before .before in
-    let a = s .args in
-    let w = c .before .before .before .before .before .before .before .before .before .before .before .before .before .before .before .before .words in
-    let v = c .before .before .before .before .before .before .before .before .before .before .before .before .words2 in
-    let m = c .before .before .before .before .before .before .before .before .before .steps-of in
-    let l = c .before .before .before .before .before .before .before .before .loop in
-    let r = series-room (a .arcs) (s .pre .3) zeros (w .last .0) (v .last .0) (m .result) (a .a ∷ a .b ∷ a .c ∷ []) refl (w .result) (v .result) (w .ensures .1) (w .ensures .0)
-    (v .ensures .1) (v .ensures .0) (m .ensures) (a .kind) (a .x) (a .y) (putAll (risen (a .kind) (a .x) (a .y) (a .arcs) (a .a ∷ a .b ∷ a .c ∷ [])) (state (a .out .now) (a .h)) (range (a .count)))
-    (heads (l .out) (l .place) (l .arc)) (l .t) (a .count) (l .inv .0) (c .before .before .before .before .before .before .before .loop-test .taken) (s .pre .4) in (
-      size-few (a .arcs) (s .pre .3) zeros (w .last .0) (v .last .0) (m .result) (a .a ∷ a .b ∷ a .c ∷ []) refl (w .result) (v .result) (w .ensures .1) (w .ensures .0)
-          (v .ensures .1) (v .ensures .0) (m .ensures),
-      omega (arith, r .1, c .before .before .before .before .before .put-record .kept .0),
-      steady (a .arcs) (s .pre .3) zeros (w .last .0) (v .last .0) (m .result) (a .a ∷ a .b ∷ a .c ∷ []) refl (w .result) (v .result) (w .ensures .1) (w .ensures .0)
-          (v .ensures .1) (v .ensures .0) (m .ensures),
-      omega (arith, s .pre .2, c .before .before .before .before .before .before .before .loop-test .taken),
+    let i = c .before .before .before .before .before .before .before in
+    let b = i .before .before in (
+      merged b .few,
+      omega (arith, room i .1, c .before .before .before .before .before .put-record .kept .0),
+      steady (start b .args .arcs) (moving b) (list b) (b .masks-of .result) (size b) (merged b),
+      omega (arith, few i),
     )
 
 add-place : tie.Need-add-place Inv-loop μ-loop
-add-place c =
-    let s = c .before .before .before .before .before .before .before .before .before .before .before .before .before .before .before .before .before .before .before .before .before .before .before .before .before in
-    let a = s .args in
-    let w = c .before .before .before .before .before .before .before .before .before .before .before .before .before .before .before .before .before .before .before .words in
-    let v = c .before .before .before .before .before .before .before .before .before .before .before .before .before .before .before .words2 in
-    let m = c .before .before .before .before .before .before .before .before .before .before .before .before .steps-of in
-    let l = c .before .before .before .before .before .before .before .before .before .before .before .loop in
-    omega (
-      arith,
-      series-inside (a .arcs) (s .pre .3) zeros (w .last .0) (v .last .0) (m .result) (a .a ∷ a .b ∷ a .c ∷ []) refl (w .result) (v .result) (w .ensures .1) (w .ensures .0)
-          (v .ensures .1) (v .ensures .0) (m .ensures) (a .kind) (a .x) (a .y) (putAll (risen (a .kind) (a .x) (a .y) (a .arcs) (a .a ∷ a .b ∷ a .c ∷ [])) (state (a .out .now) (a .h)) (range (a .count)))
-          (heads (l .out) (l .place) (l .arc)) (l .t) (a .count) (l .inv .0) (c .before .before .before .before .before .before .before .before .before .before .loop-test .taken) (s .pre .4) .place-small,
-    )
+add-place c = omega (arith, inside (c .before .before .before .before .before .before .before .before .before .before) .place-small)
 
 add-t : tie.Need-add-t Inv-loop μ-loop
-add-t c = omega (arith, c .before .before .before .before .before .before .before .before .before .before .before .before .before .before .before .before .before .before .before .before .before .before .before .before .before .pre .2, c .before .before .before .before .before .before .before .before .before .before .loop-test .taken)
+add-t c = omega (arith, few (c .before .before .before .before .before .before .before .before .before .before))
 
 loop-less : tie.Need-loop-less Inv-loop μ-loop
 loop-less c = omega (arith, c .before .before .before .before .before .before .before .before .before .before .loop-test .taken)
 
 loop-again : tie.Need-loop-again Inv-loop μ-loop
 loop-again c =
-    let s = c .before .before .before .before .before .before .before .before .before .before .before .before .before .before .before .before .before .before .before .before .before .before .before .before .before in
-    let a = s .args in
-    let w = c .before .before .before .before .before .before .before .before .before .before .before .before .before .before .before .before .before .before .before .words in
-    let v = c .before .before .before .before .before .before .before .before .before .before .before .before .before .before .before .words2 in
-    let m = c .before .before .before .before .before .before .before .before .before .before .before .before .steps-of in
-    let l = c .before .before .before .before .before .before .before .before .before .before .before .loop in
+    let i = c .before .before .before .before .before .before .before .before .before .before in
+    let b = i .before .before in
+    let a = start b .args in
     let d = c .before .before .before .before .before .before .before .before .put-record in
     let r = c .before .before .raised in (
-      series-more (a .arcs) (s .pre .3) zeros (w .last .0) (v .last .0) (m .result) (a .a ∷ a .b ∷ a .c ∷ []) refl (w .result) (v .result) (w .ensures .1) (w .ensures .0)
-          (v .ensures .1) (v .ensures .0) (m .ensures) (a .kind) (a .x) (a .y) (putAll (risen (a .kind) (a .x) (a .y) (a .arcs) (a .a ∷ a .b ∷ a .c ∷ [])) (state (a .out .now) (a .h)) (range (a .count)))
-          (heads (l .out) (l .place) (l .arc)) (l .t) (a .count) (l .inv .0) (c .before .before .before .before .before .before .before .before .before .before .loop-test .taken) (d .last .0) (r .last .0) (r .result) (d .ensures) (r .ensures .1) (r .ensures .0),
-      r .kept .0 ∙ d .kept .0 ∙ l .inv .1,
+      series-more (a .arcs) (moving b) (list b) (b .masks-of .result) (size b) (merged b) (a .kind) (a .x) (a .y) (whole b) (here i) (i .before .loop .t)
+          (a .count) (i .before .loop .inv .0) (i .loop-test .taken) (d .last .0) (r .last .0) (r .result) (d .ensures) (r .ensures .1) (r .ensures .0)
+          (omega (arith, few i)),
+      r .kept .0 ∙ d .kept .0 ∙ i .before .loop .inv .1,
     )
 
 same-length : tie.Need-same-length Inv-loop μ-loop
@@ -130,14 +157,10 @@ same-length c = c .before .loop .inv .1
 
 returns : tie.Need-returns Inv-loop μ-loop
 returns c =
-    let s = c .before .before .before .before .before .before .before .before .before .before .before .before .before .before .before in
-    let a = s .args in
-    let w = c .before .before .before .before .before .before .before .before .before .words in
-    let v = c .before .before .before .before .before .words2 in
-    let m = c .before .before .steps-of in
+    let b = c .before .before in
+    let a = start b .args in
     let l = c .before .loop in
-    series-done (a .arcs) (s .pre .3) zeros (w .last .0) (v .last .0) (m .result) (a .a ∷ a .b ∷ a .c ∷ []) refl (w .result) (v .result) (w .ensures .1) (w .ensures .0)
-    (v .ensures .1) (v .ensures .0) (m .ensures) (a .kind) (a .x) (a .y) (putAll (risen (a .kind) (a .x) (a .y) (a .arcs) (a .a ∷ a .b ∷ a .c ∷ [])) (state (a .out .now) (a .h)) (range (a .count)))
+    series-done (a .arcs) (moving b) (list b) (b .masks-of .result) (size b) (merged b) (a .kind) (a .x) (a .y) (whole b)
     (heads (l .out) (l .place) (l .arc)) (l .t) (a .count) (l .inv .0) (c .loop-test .left)
 
 pub series-spec : {M : Type 1} → statement M
@@ -152,7 +175,7 @@ series-spec =
     slice-aggregate-words-3
     slice-aggregate-words-4
     words-requires-2
-    steps-of-requires
+    masks-of-requires
     loop-holds
     put-record-requires
     cast-raised

@@ -12,7 +12,8 @@ put-record-requires : tie.Need-put-record-requires
 put-record-requires c κs =
     let a = c .before .before .before .before .args in
     let p = c .before .before .before .before .pre in
-    let r = one-room (state (a .out .now) (a .h)) (arrow (a .kind) (a .a) (a .b) (take (a .inputs) (a .ins .now)) (take (a .outputs) (a .outs .now))) (p .4) in
+    let r = one-room (state (a .out .now) (a .h)) (arrow (a .kind) (a .a) (a .b) (take (a .inputs) (a .ins .now)) (take (a .outputs) (a .outs .now)))
+    (p .4) in
     let s = arcs-size (a .ins .now) (a .outs .now) (a .inputs) (a .outputs) (p .2) (p .3) in
     let m = p .4 .arc-small in
     (r .0, p .0, p .1, omega arith, omega arith, omega arith)
@@ -40,7 +41,8 @@ returns c =
     let w = c .before .before .before .before .before .before .words in
     let v = c .before .before .words2 in
     put-arrow (a .out .now) (a .ins .now) (a .outs .now) _ _ _ (a .h .place) (a .h .arc) (a .kind) (a .a) (a .b) (a .inputs) (a .outputs)
-    (w .result) (v .result) (p .2) (p .3) (c .before .before .before .before .before .before .before .before .before .before .put-record .ensures) (w .ensures .1) (w .ensures .0) (v .ensures .1) (v .ensures .0)
+    (w .result) (v .result) (p .2) (p .3) (c .before .before .before .before .before .before .before .before .before .before .put-record .ensures)
+    (w .ensures .1) (w .ensures .0) (v .ensures .1) (v .ensures .0)
 
 pub transition-spec : {M : Type 1} → statement M
 transition-spec =
