@@ -19,6 +19,7 @@ pub mod listing;
 pub mod net;
 pub mod places;
 pub mod process;
+pub mod program;
 pub mod random;
 pub mod readback;
 pub mod size;

@@ -1,26 +1,24 @@
 //! `oracle list FILE` prints the listing of a table file; `oracle check FILE` prints `accepted`
 //! or `refused` and the cause.
 
-use std::io::Write;
 use std::process::ExitCode;
+
+const USAGE: &str = "usage: oracle list FILE | oracle check FILE";
 
 fn main() -> ExitCode {
     let arguments: Vec<String> = std::env::args().skip(1).collect();
-    let [command, path] = arguments.as_slice() else {
-        return fail("usage: oracle list FILE | oracle check FILE");
-    };
-    let bytes = match std::fs::read(path) {
-        Ok(bytes) => bytes,
-        Err(error) => return fail(&format!("{path}: {error}")),
-    };
-    let text = match command.as_str() {
-        "list" => oracle::listing(&bytes),
-        "check" => checked(&bytes),
-        _ => return fail("usage: oracle list FILE | oracle check FILE"),
-    };
-    match std::io::stdout().write_all(text.as_bytes()) {
-        Ok(()) => ExitCode::SUCCESS,
-        Err(error) => fail(&error.to_string()),
+    oracle::program::print(match arguments.as_slice() {
+        [command, path] => told(command, path),
+        _ => Err(USAGE.to_string()),
+    })
+}
+
+fn told(command: &str, path: &str) -> Result<String, String> {
+    let bytes = std::fs::read(path).map_err(|error| format!("{path}: {error}"))?;
+    match command {
+        "list" => Ok(oracle::listing(&bytes)),
+        "check" => Ok(checked(&bytes)),
+        _ => Err(USAGE.to_string()),
     }
 }
 
@@ -33,9 +31,4 @@ fn checked(bytes: &[u8]) -> String {
         0 => "accepted\n".to_string(),
         cause => format!("refused {cause}\n"),
     }
-}
-
-fn fail(message: &str) -> ExitCode {
-    eprintln!("{message}");
-    ExitCode::FAILURE
 }

@@ -106,8 +106,7 @@ fn length_given(image: &[u32], arcs: usize) -> usize
 }
 
 // Whether header, length and initial list are right. The sums are of 32-bit words, so 64 bits hold them; counts that
-// the length does not
-// bear out are refused before any list is walked.
+// the length does not bear out are refused before any list is walked.
 fn header_right(image: &[u32]) -> bool
     ensures { λ r. ⌜ r ≡ headerRight (now (image .entry)) ⌝ }
 {
@@ -412,8 +411,7 @@ fn larger(a: usize, b: usize) -> usize
 }
 
 // Fires the lowest enabled transition, on an image and at a marking that are right, and writes each number to the
-// history. The records
-// below `seen` were met in an earlier search and found right, and are not looked over again.
+// history. The records below `seen` were met in an earlier search and found right, and are not looked over again.
 fn run_on(image: &[u32], marking: &mut [u8], limit: usize, history: &mut [u32]) -> Ran
     requires { ⌜ Header (now image) × (length (now marking) ≡ placeCount (now image)) ⌝ }
     ensures { λ r. ⌜ Leaves (runFrom (now (image .entry)) limit (length (now (history .entry))) (now (marking .entry)))
@@ -474,8 +472,7 @@ fn run_on(image: &[u32], marking: &mut [u8], limit: usize, history: &mut [u32]) 
 }
 
 // Runs: 11, 13, then before each firing limit reached, history full, nothing enabled; 12 at a malformed record met in
-// the search, 16 at
-// a contact. Of the history only the words written change, and nothing of it is read.
+// the search, 16 at a contact. Of the history only the words written change, and nothing of it is read.
 pub fn run(image: &[u32], marking: &mut [u8], limit: u64, history: &mut [u32]) -> Ran
     ensures { λ r. ⌜ Leaves (run (now (image .entry)) (now (marking .entry)) limit (length (now (history .entry)))) r
         (now (marking .exit)) (now (history .exit)) (now (history .entry)) ⌝ }

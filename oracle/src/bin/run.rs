@@ -1,7 +1,6 @@
 //! `run TABLE LIMIT` builds the net of a table file, runs it from its initial marking for at most
 //! LIMIT firings, and reads the state back. It prints what examples/c/run.c prints with the library.
 
-use std::io::Write;
 use std::process::ExitCode;
 
 use oracle::places::Places;
@@ -17,18 +16,7 @@ fn main() -> ExitCode {
         [path, limit] => run_file(path, limit),
         _ => Err(USAGE.to_string()),
     };
-    let written = text.and_then(|text| {
-        std::io::stdout()
-            .write_all(text.as_bytes())
-            .map_err(|error| error.to_string())
-    });
-    match written {
-        Ok(()) => ExitCode::SUCCESS,
-        Err(message) => {
-            eprintln!("{message}");
-            ExitCode::FAILURE
-        }
-    }
+    oracle::program::print(text)
 }
 
 fn run_file(path: &str, limit: &str) -> Result<String, String> {

@@ -1,7 +1,7 @@
 //! `vectors requests` prints the requests of crates/vectors/stdin; `vectors answers` reads requests
 //! on standard input and prints their answers; `vectors count` says what the requests hold.
 
-use std::io::{Read, Write};
+use std::io::Read;
 use std::process::ExitCode;
 
 use oracle::vectors::{answers, counts, requests};
@@ -14,18 +14,7 @@ fn main() -> ExitCode {
         ["count"] => counts(&requests()),
         _ => Err("usage: vectors requests | vectors answers | vectors count".to_string()),
     };
-    let written = text.and_then(|text| {
-        std::io::stdout()
-            .write_all(text.as_bytes())
-            .map_err(|error| error.to_string())
-    });
-    match written {
-        Ok(()) => ExitCode::SUCCESS,
-        Err(message) => {
-            eprintln!("{message}");
-            ExitCode::FAILURE
-        }
-    }
+    oracle::program::print(text)
 }
 
 fn input() -> Result<String, String> {
