@@ -14,19 +14,20 @@ use Rattle.table.specs.Scheme.{Scheme, scheme}
 use Rattle.table.specs.Causes.{cause}
 use Rattle.net.specs.Net.{Net, Transition, arcsOf, headerWords, recordsOffset, arcsOffset, encode}
 use Rattle.net.proofs.Encode
-use Rattle.builder.specs.Transitions.{Description, ofNode, ofPair, descriptions}
-use Rattle.builder.specs.Image.{transitionOf, netOf, imageOf}
+use Rattle.places.specs.Transitions.{Description, ofNode, ofPair, descriptions}
+use Rattle.places.specs.Image.{transitionOf, netOf, imageOf}
 use Rattle.builder.specs.Answer.{BuildOutcome, outcome, buildOutcome, laidOutcome}
-use Rattle.builder.specs.Inner.Arcs.{initialNumbers}
+use Rattle.places.specs.Inner.Arcs.{initialNumbers}
 use Rattle.builder.specs.Inner.Writing
 use Rattle.builder.specs.Inner.Writing.{writes, heads, putAll, Inside}
-use Rattle.builder.specs.Inner.Counting.{sumsOf, allSums}
-use Rattle.builder.specs.Inner.Plan.{today, headerOf, put, state, ofTable, Laid}
-use Rattle.builder.specs.declared.layout.Layout.{Layout}
-use Rattle.builder.specs.declared.count.Totals.{Totals}
+use Rattle.places.specs.Inner.Counting.{sumsOf, allSums}
+use Rattle.places.specs.Inner.Plan.{today, headerOf, Laid}
+use Rattle.builder.specs.Inner.Plan.{put, state, ofTable}
+use Rattle.places.specs.declared.layout.Layout.{Layout}
+use Rattle.places.specs.declared.count.Totals.{Totals}
 use Rattle.builder.proofs.Writing.{writes-length, put-append, put-place, put-arc, put-length, inside-first, begun, written}
-use Rattle.builder.proofs.Size.{image-below}
-use Rattle.builder.proofs.WholeSums.{image-words, initial-is, transitions-are, counts-are, tokens-is, header-is, words-are}
+use Rattle.places.proofs.Size.{image-below}
+use Rattle.places.proofs.WholeSums.{image-words, initial-is, transitions-are, counts-are, tokens-is, header-is, words-are}
 
 module _ (w : List ℕ) where
   abbrev pub ofNodes : List Description

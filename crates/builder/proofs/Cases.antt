@@ -8,10 +8,10 @@ use Rattle.table.specs.Words.{formals, branchesOf, argumentsOf}
 use Rattle.table.specs.Owners.{home, owner, pickOwner, heldBy, definitionBy, held, definition}
 use Rattle.table.specs.Scheme.{Scheme, scheme, nodeAt, branchAt, argumentsAt, pickBinder, binderOf}
 use Rattle.net.specs.Net.{encode, recordsFrom}
-use Rattle.builder.specs.Values.{allValues, valuesOf, privateValuesOf}
-use Rattle.builder.specs.Places.{controls, controlPlaces, row, rows, places}
-use Rattle.builder.specs.Transitions.{isInput, isOutput, releases, copies, descriptions}
-use Rattle.builder.specs.Image.{netWith, netOf, imageOf}
+use Rattle.places.specs.Values.{allValues, valuesOf, privateValuesOf}
+use Rattle.places.specs.Places.{controls, controlPlaces, row, rows, places}
+use Rattle.places.specs.Transitions.{isInput, isOutput, releases, copies, descriptions}
+use Rattle.places.specs.Image.{netWith, netOf, imageOf}
 
 abbrev tableE : List ℕ
 tableE =

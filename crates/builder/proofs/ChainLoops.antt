@@ -12,8 +12,8 @@ use Rattle.lists.proofs.Members.{member-getD, member-map}
 use Rattle.lists.proofs.Ranges.{member-from}
 use Rattle.table.specs.Scheme.{Scheme}
 use Rattle.net.specs.Net.{Transition}
-use Rattle.builder.specs.Values.{Values, valuesOf}
-use Rattle.builder.specs.Transitions.{releasing, releases, copying, copies}
+use Rattle.places.specs.Values.{Values, valuesOf}
+use Rattle.places.specs.Transitions.{releasing, releases, copying, copies}
 use Rattle.builder.specs.Inner.Writing.{Heads, putAll, Inside}
 use Rattle.builder.proofs.Writing.{put-append, inside-first}
 

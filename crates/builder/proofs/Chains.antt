@@ -13,21 +13,22 @@ use Rattle.table.specs.Words.{publics, names, nodes}
 use Rattle.table.specs.Scheme.{Scheme, Node, stop, choice, new, call, scheme}
 use Rattle.table.specs.Causes.{cause}
 use Rattle.net.specs.Net.{Transition}
-use Rattle.builder.specs.Values.{Values}
-use Rattle.builder.specs.Places.{Place, equals, differs, free, control, controlsAt, controls}
-use Rattle.builder.specs.Rows.{numberOf, IsBound, IsPrivate, Exists, has-differs, has-free, has-control}
-use Rattle.builder.specs.Transitions.{Description, on, releasing}
-use Rattle.builder.specs.Inner.Arcs.{reachedPlaces}
+use Rattle.places.specs.Values.{Values}
+use Rattle.places.specs.Places.{Place, equals, differs, free, control, controlsAt, controls}
+use Rattle.places.specs.Rows.{numberOf, IsBound, IsPrivate, Exists, has-differs, has-free, has-control}
+use Rattle.places.specs.Transitions.{Description, on, releasing}
+use Rattle.places.specs.Inner.Arcs.{reachedPlaces}
 use Rattle.builder.specs.Inner.Writing
 use Rattle.builder.specs.Inner.Writing.{putOne, Inside}
-use Rattle.builder.specs.Inner.Plan.{today, Chained, Holds, Differs, ofTable, put, state, arrow}
+use Rattle.places.specs.Inner.Plan.{today, Holds, Differs}
+use Rattle.builder.specs.Inner.Plan.{Chained, ofTable, put, state, arrow}
 use Rattle.builder.specs.declared.chain.Chain.{Chain}
 use Rattle.builder.specs.declared.write.Heads.{Heads}
-use Rattle.builder.proofs.Today.{private-reached}
-use Rattle.builder.proofs.ByKind.{on-chain, on-next, value-exists}
-use Rattle.builder.proofs.Explicit.{releasing-inputs, releasing-gives, releasing-frees, releasing-public}
+use Rattle.places.proofs.Today.{private-reached}
+use Rattle.places.proofs.ByKind.{on-chain, on-next, value-exists}
+use Rattle.places.proofs.Explicit.{releasing-inputs, releasing-gives, releasing-frees, releasing-public}
 use Rattle.builder.proofs.Writing.{put-cons, put-none, put-length}
-use Rattle.builder.proofs.Controls.{nodes-are, publics-are, bounds-are, privates-are, control-few, control-last}
+use Rattle.places.proofs.Controls.{nodes-are, publics-are, bounds-are, privates-are, control-few, control-last}
 
 -- every node has a control place
 pub controls-some : (S : Scheme) (n : ℕ) → 1 ≤ controls S n

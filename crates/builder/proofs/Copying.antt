@@ -12,19 +12,20 @@ use borrow.Author.Tests.{lt-ltb, le-ltb}
 use Rattle.lists.specs.Lists.{pick}
 use Rattle.table.specs.Words.{publics, names}
 use Rattle.table.specs.Scheme.{Scheme, scheme}
-use Rattle.builder.specs.Values.{Values}
-use Rattle.builder.specs.Places.{Place, equals, differs, control}
-use Rattle.builder.specs.Rows.{numberOf, Exists}
-use Rattle.builder.specs.Transitions.{take, copying}
-use Rattle.builder.specs.Inner.Arcs.{takenPlaces, givenPlaces, exists, numbersOf}
-use Rattle.builder.specs.Inner.Spans.{firstValue, endValue}
-use Rattle.builder.specs.Inner.Plan.{today, Chained, Holds, Reads, Inserted, ofTable, arrow}
+use Rattle.places.specs.Values.{Values}
+use Rattle.places.specs.Places.{Place, equals, differs, control}
+use Rattle.places.specs.Rows.{numberOf, Exists}
+use Rattle.places.specs.Transitions.{take, copying}
+use Rattle.places.specs.Inner.Arcs.{takenPlaces, givenPlaces, exists, numbersOf}
+use Rattle.places.specs.Inner.Spans.{firstValue, endValue}
+use Rattle.places.specs.Inner.Plan.{today, Holds, Reads}
+use Rattle.builder.specs.Inner.Plan.{Chained, Inserted, ofTable, arrow}
 use Rattle.builder.specs.declared.chain.Chain.{Chain}
-use Rattle.builder.proofs.Arcs.{inputs-named, outputs-named}
-use Rattle.builder.proofs.Spans.{value-member, member-value}
-use Rattle.builder.proofs.Split.{numbers-tail, numbers-swap}
-use Rattle.builder.proofs.ByKind.{on-left, equals-public, differs-public}
-use Rattle.builder.proofs.Controls.{publics-are, bounds-are}
+use Rattle.places.proofs.Arcs.{inputs-named, outputs-named}
+use Rattle.places.proofs.Spans.{value-member, member-value}
+use Rattle.places.proofs.Split.{numbers-tail, numbers-swap}
+use Rattle.places.proofs.ByKind.{on-left, equals-public, differs-public}
+use Rattle.places.proofs.Controls.{publics-are, bounds-are}
 use Rattle.builder.proofs.Chains.{next-place}
 use Rattle.builder.proofs.Filling.{Filled, fill-none, fill-with, fill-without}
 

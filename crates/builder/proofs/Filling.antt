@@ -8,15 +8,16 @@ use lib.ListN.{length, take}
 use Rattle.table.specs.Words.{nodes}
 use Rattle.table.specs.Scheme.{Scheme, scheme}
 use Rattle.table.specs.Causes.{cause}
-use Rattle.builder.specs.Values.{Values}
-use Rattle.builder.specs.Places.{Place, free}
-use Rattle.builder.specs.Rows.{controlStart, numberOf, Exists}
-use Rattle.builder.specs.Inner.Arcs.{insert, exists, numbersOf}
-use Rattle.builder.specs.Inner.Plan.{today, Rising, Inserted}
-use Rattle.builder.proofs.Rows.{places-length, number-below}
-use Rattle.builder.proofs.Numbers.{numbers-few}
-use Rattle.builder.proofs.Split.{numbers-none, numbers-yes, numbers-no, numbers-tail, numbers-swap, numbers-ascend}
-use Rattle.builder.proofs.Controls.{nodes-are, control-few}
+use Rattle.places.specs.Values.{Values}
+use Rattle.places.specs.Places.{Place, free}
+use Rattle.places.specs.Rows.{controlStart, numberOf, Exists}
+use Rattle.places.specs.Inner.Arcs.{insert, exists, numbersOf}
+use Rattle.places.specs.Inner.Plan.{today}
+use Rattle.builder.specs.Inner.Plan.{Rising, Inserted}
+use Rattle.places.proofs.Rows.{places-length, number-below}
+use Rattle.places.proofs.Numbers.{numbers-few}
+use Rattle.places.proofs.Split.{numbers-none, numbers-yes, numbers-no, numbers-tail, numbers-swap, numbers-ascend}
+use Rattle.places.proofs.Controls.{nodes-are, control-few}
 
 -- the first `count` words are the numbers of those of the places that the net has
 pub record Filled (w list : List ℕ) (count : ℕ) (ps : List Place) : Type 0 where

@@ -16,12 +16,13 @@ use Rattle.table.specs.Index.{heldIn, HeldNames}
 use Rattle.table.specs.Scheme.{Scheme, call, scheme}
 use Rattle.table.specs.Causes.{cause}
 use Rattle.table.proofs.Accepted.{accepted}
-use Rattle.builder.specs.Places.{controls}
-use Rattle.builder.specs.Transitions.{releases, copies, calling, ofNode}
-use Rattle.builder.specs.Inner.Plan.{today, Known, Spotted, Chained, Named, Bounded, Frees, argumentName}
-use Rattle.builder.proofs.Controls.{nodes-are, publics-are, bounds-are}
-use Rattle.builder.proofs.ByWords.{called-inside, arguments-inside, argument-inside, formals-of, arguments-of, held-of, held-known}
-use Rattle.builder.proofs.ByWords.{count-stop, count-call}
+use Rattle.places.specs.Places.{controls}
+use Rattle.places.specs.Transitions.{releases, copies, calling, ofNode}
+use Rattle.places.specs.Inner.Plan.{today, Known, Spotted, Named, Bounded, Frees, argumentName}
+use Rattle.builder.specs.Inner.Plan.{Chained}
+use Rattle.places.proofs.Controls.{nodes-are, publics-are, bounds-are}
+use Rattle.places.proofs.ByWords.{called-inside, arguments-inside, argument-inside, formals-of, arguments-of, held-of, held-known}
+use Rattle.places.proofs.ByWords.{count-stop, count-call}
 
 -- ---- the held names in the lent words
 

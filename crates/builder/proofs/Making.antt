@@ -14,18 +14,19 @@ use Rattle.table.specs.Words.{publics, bounds, names, nodes, nodeKind, nodeFirs
 use Rattle.table.specs.Scheme.{Scheme, new, scheme}
 use Rattle.table.specs.Causes.{cause}
 use Rattle.table.proofs.Accepted.{accepted}
-use Rattle.builder.specs.Values.{Values}
-use Rattle.builder.specs.Places.{Place, equals, differs, free, control}
-use Rattle.builder.specs.Rows.{numberOf}
-use Rattle.builder.specs.Inner.Arcs.{allDiffer, numbersOf}
-use Rattle.builder.specs.Inner.Plan.{today, Holds, Differs, Inserted, ofTable, made, arrow}
-use Rattle.builder.proofs.Names.{values-restricted}
-use Rattle.builder.proofs.Arcs.{inputs-named, outputs-named}
-use Rattle.builder.proofs.ByKind.{differs-restricted}
-use Rattle.builder.proofs.Controls.{nodes-are, publics-are, bounds-are}
+use Rattle.places.specs.Values.{Values}
+use Rattle.places.specs.Places.{Place, equals, differs, free, control}
+use Rattle.places.specs.Rows.{numberOf}
+use Rattle.places.specs.Inner.Arcs.{allDiffer, numbersOf}
+use Rattle.places.specs.Inner.Plan.{today, Holds, Differs}
+use Rattle.builder.specs.Inner.Plan.{Inserted, ofTable, made, arrow}
+use Rattle.places.proofs.Names.{values-restricted}
+use Rattle.places.proofs.Arcs.{inputs-named, outputs-named}
+use Rattle.places.proofs.ByKind.{differs-restricted}
+use Rattle.places.proofs.Controls.{nodes-are, publics-are, bounds-are}
 use Rattle.builder.proofs.Chains.{has-difference}
 use Rattle.builder.proofs.Filling.{Filled, numbers-last, fill-none, fill-same, fill-with, fill-without}
-use Rattle.builder.proofs.ByWords.{new-node}
+use Rattle.places.proofs.ByWords.{new-node}
 
 -- every [y≠v] of the bound names below x
 abbrev pub differsBelow : List ℕ → ℕ → ℕ → List Place

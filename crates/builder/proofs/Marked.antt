@@ -19,20 +19,21 @@ use Rattle.table.specs.Words.{publics, bounds, names, nodes, threads, root, ent
 use Rattle.table.specs.Scheme.{Scheme, scheme}
 use Rattle.table.specs.Causes.{cause}
 use Rattle.table.proofs.Accepted.{accepted}
-use Rattle.builder.specs.Values.{allValues, privateValuesOf}
-use Rattle.builder.specs.Places.{controls}
-use Rattle.builder.specs.Rows.{freeStart}
-use Rattle.builder.specs.Inner.Arcs.{insert, startsAt, initialNumbers}
+use Rattle.places.specs.Values.{allValues, privateValuesOf}
+use Rattle.places.specs.Places.{controls}
+use Rattle.places.specs.Rows.{freeStart}
+use Rattle.places.specs.Inner.Arcs.{insert, startsAt, initialNumbers}
 use Rattle.builder.specs.Inner.Writing.{writes}
-use Rattle.builder.specs.Inner.Plan.{today, values, controlOf, rowOf, Rowed, Spotted, Rising, Inserted, initialRows, initialSpots}
-use Rattle.builder.specs.declared.layout.Layout.{Layout}
-use Rattle.builder.proofs.Rows.{control-next}
-use Rattle.builder.proofs.Order.{control-rises}
-use Rattle.builder.proofs.Today
-use Rattle.builder.proofs.Names
-use Rattle.builder.proofs.Controls.{bounds-are}
-use Rattle.builder.proofs.Initial.{some-control}
-use Rattle.builder.proofs.Sorted.{insert-ascends, member-insert, insert-length}
+use Rattle.places.specs.Inner.Plan.{today, values, controlOf, rowOf, Rowed, Spotted}
+use Rattle.builder.specs.Inner.Plan.{Rising, Inserted, initialRows, initialSpots}
+use Rattle.places.specs.declared.layout.Layout.{Layout}
+use Rattle.places.proofs.Rows.{control-next}
+use Rattle.places.proofs.Order.{control-rises}
+use Rattle.places.proofs.Today
+use Rattle.places.proofs.Names
+use Rattle.places.proofs.Controls.{bounds-are}
+use Rattle.places.proofs.Initial.{some-control}
+use Rattle.places.proofs.Sorted.{insert-ascends, member-insert, insert-length}
 use Rattle.builder.proofs.Writing.{writes-none, writes-append, writes-length}
 
 -- ---- rows

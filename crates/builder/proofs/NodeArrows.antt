@@ -12,16 +12,17 @@ use Rattle.table.specs.Owners.{held}
 use Rattle.table.specs.Scheme.{Scheme, call, absent, send, receive, nextNode, branchAt, scheme}
 use Rattle.table.specs.Causes.{cause}
 use Rattle.table.proofs.Accepted.{accepted}
-use Rattle.builder.specs.Values.{Values}
-use Rattle.builder.specs.Places.{control}
-use Rattle.builder.specs.Rows.{numberOf, Exists}
-use Rattle.builder.specs.Transitions.{Description, releases, silents, going, calling, ofNode}
-use Rattle.builder.specs.Inner.Plan.{today, controlOf, Chained, ofTable, made, arrow}
+use Rattle.places.specs.Values.{Values}
+use Rattle.places.specs.Places.{control}
+use Rattle.places.specs.Rows.{numberOf, Exists}
+use Rattle.places.specs.Transitions.{Description, releases, silents, going, calling, ofNode}
+use Rattle.places.specs.Inner.Plan.{today, controlOf}
+use Rattle.builder.specs.Inner.Plan.{Chained, ofTable, made, arrow}
 use Rattle.builder.specs.declared.chain.Chain.{Chain}
-use Rattle.builder.proofs.Explicit.{going-inputs, going-outputs, calling-inputs, calling-outputs}
-use Rattle.builder.proofs.Controls.{nodes-are, publics-are, bounds-are, privates-are}
+use Rattle.places.proofs.Explicit.{going-inputs, going-outputs, calling-inputs, calling-outputs}
+use Rattle.places.proofs.Controls.{nodes-are, publics-are, bounds-are, privates-are}
 use Rattle.builder.proofs.Chains.{controls-some, has-place, next-place, own-number}
-use Rattle.builder.proofs.ByWords.{stop-node, choice-node, new-node, call-node, held-of, silent-branch}
+use Rattle.places.proofs.ByWords.{stop-node, choice-node, new-node, call-node, held-of, silent-branch}
 
 -- the transitions of a branch if it is silent, and those of a node
 abbrev pub silentsAt : List ℕ → ℕ → ℕ → List Description

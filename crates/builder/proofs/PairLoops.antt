@@ -12,16 +12,17 @@ use Rattle.lists.proofs.Members.{member-here, member-left, member-right, member
 use Rattle.lists.proofs.Ranges.{member-from}
 use Rattle.table.specs.Words.{publics, bounds, names, branchKind, channel, branchName}
 use Rattle.table.specs.Scheme.{scheme}
-use Rattle.builder.specs.Transitions.{Description, common, sentOn}
+use Rattle.places.specs.Transitions.{Description, common, sentOn}
 use Rattle.builder.specs.Inner.Writing
 use Rattle.builder.specs.Inner.Writing.{putAll, Inside}
-use Rattle.builder.specs.Inner.Plan.{today, values, ofTable, told, sentTold, pairTold, Rowed, Paired, Reads, Run, Lists, InBoth, reached}
-use Rattle.builder.specs.declared.layout.Layout.{Layout}
-use Rattle.builder.specs.declared.layout.Reach.{Reach}
+use Rattle.places.specs.Inner.Plan.{today, values, Rowed, Reads, Lists, InBoth, reached}
+use Rattle.builder.specs.Inner.Plan.{ofTable, told, sentTold, pairTold, Paired, Run}
+use Rattle.places.specs.declared.layout.Layout.{Layout}
+use Rattle.places.specs.declared.layout.Reach.{Reach}
 use Rattle.builder.specs.declared.communications.Pair.{Pair}
 use Rattle.builder.proofs.Writing.{put-none, put-append, inside-first}
-use Rattle.builder.proofs.Names.{values-public}
-use Rattle.builder.proofs.ByWords.{channel-inside, name-inside}
+use Rattle.places.proofs.Names.{values-public}
+use Rattle.places.proofs.ByWords.{channel-inside, name-inside}
 use Rattle.builder.proofs.ValueLoops
 
 -- what reading values by their index asks

@@ -16,24 +16,25 @@ use Rattle.table.specs.Owners.{home}
 use Rattle.table.specs.Scheme.{Scheme, send, receive, present, nextNode, scheme}
 use Rattle.table.specs.Causes.{cause}
 use Rattle.table.proofs.Accepted.{accepted}
-use Rattle.builder.specs.Values.{allValues}
-use Rattle.builder.specs.Places.{Place, equals, differs, control, places}
-use Rattle.builder.specs.Rows.{numberOf, IsBound, Exists, has-differs, has-control}
-use Rattle.builder.specs.Inner.Arcs.{insert, exists, numbersOf}
+use Rattle.places.specs.Values.{allValues}
+use Rattle.places.specs.Places.{Place, equals, differs, control, places}
+use Rattle.places.specs.Rows.{numberOf, IsBound, Exists, has-differs, has-control}
+use Rattle.places.specs.Inner.Arcs.{insert, exists, numbersOf}
 use Rattle.builder.specs.Inner.Writing.{putOne, putAll, Inside}
-use Rattle.builder.specs.Inner.Plan.{today, values, controlOf, Holds, Reads, Differs, ofTable, state, put, told, Paired, arrow, Rising, Inserted, insOf, outsOf, Tells}
+use Rattle.places.specs.Inner.Plan.{today, values, controlOf, Holds, Reads, Differs}
+use Rattle.builder.specs.Inner.Plan.{ofTable, state, put, told, Paired, arrow, Rising, Inserted, insOf, outsOf, Tells}
 use Rattle.builder.specs.declared.write.Heads.{Heads}
 use Rattle.builder.specs.declared.write.Arcs.{Arcs}
 use Rattle.builder.specs.declared.communications.Pair.{Pair}
-use Rattle.builder.proofs.Rows.{places-length, number-below}
-use Rattle.builder.proofs.Numbers.{numbers-few}
-use Rattle.builder.proofs.Names.{values-public, values-free, values-restricted}
-use Rattle.builder.proofs.Arcs.{inputs-named, outputs-named}
-use Rattle.builder.proofs.Initial.{some-control}
-use Rattle.builder.proofs.Split.{numbers-none, numbers-yes, numbers-no, numbers-tail, numbers-swap, numbers-ascend}
-use Rattle.builder.proofs.ByKind.{value-exists, equals-public, differs-public}
-use Rattle.builder.proofs.Controls.{nodes-are, publics-are, bounds-are, privates-are, control-few}
-use Rattle.builder.proofs.ByWords.{few-branches, send-branch, receive-branch}
+use Rattle.places.proofs.Rows.{places-length, number-below}
+use Rattle.places.proofs.Numbers.{numbers-few}
+use Rattle.places.proofs.Names.{values-public, values-free, values-restricted}
+use Rattle.places.proofs.Arcs.{inputs-named, outputs-named}
+use Rattle.places.proofs.Initial.{some-control}
+use Rattle.places.proofs.Split.{numbers-none, numbers-yes, numbers-no, numbers-tail, numbers-swap, numbers-ascend}
+use Rattle.places.proofs.ByKind.{value-exists, equals-public, differs-public}
+use Rattle.places.proofs.Controls.{nodes-are, publics-are, bounds-are, privates-are, control-few}
+use Rattle.places.proofs.ByWords.{few-branches, send-branch, receive-branch}
 
 -- ---- eight words that hold the numbers of places
 

@@ -15,14 +15,15 @@ use Rattle.table.specs.Scheme.{Branch, absent, silent, send, receive, present, 
 use Rattle.table.specs.Causes.{cause}
 use Rattle.table.proofs.Accepted.{accepted}
 use Rattle.net.specs.Net.{Transition}
-use Rattle.builder.specs.Transitions.{Description, ofPair}
+use Rattle.places.specs.Transitions.{Description, ofPair}
 use Rattle.builder.specs.Inner.Writing
 use Rattle.builder.specs.Inner.Writing.{putAll, Inside}
-use Rattle.builder.specs.Inner.Plan.{today, state, pairTold, withBranch, withAll, Spotted, Defined, Paired}
+use Rattle.places.specs.Inner.Plan.{today, Spotted, Defined}
+use Rattle.builder.specs.Inner.Plan.{state, pairTold, withBranch, withAll, Paired}
 use Rattle.builder.specs.declared.write.Heads.{Heads}
 use Rattle.builder.proofs.Writing.{put-none, put-append, inside-first}
-use Rattle.builder.proofs.Controls.{nodes-are}
-use Rattle.builder.proofs.ByWords.{send-branch, receive-branch}
+use Rattle.places.proofs.Controls.{nodes-are}
+use Rattle.places.proofs.ByWords.{send-branch, receive-branch}
 
 -- ---- a loop over the numbers from i to e with a list for each: `all` is what the whole loop writes, s are the heads where i is due
 

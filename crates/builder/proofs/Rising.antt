@@ -9,14 +9,14 @@ use native.Mathlib.Omega.{arith}
 use Rattle.lists.specs.Lists.{member}
 use Rattle.lists.proofs.Members.{member-here, member-there, member-cases, member-nil, member-not}
 use Rattle.table.specs.Scheme.{Scheme}
-use Rattle.builder.specs.Values.{Values}
-use Rattle.builder.specs.Places.{Place}
-use Rattle.builder.specs.Rows.{numberOf, Exists}
-use Rattle.builder.specs.Inner.Arcs.{insert, exists, numbersOf}
+use Rattle.places.specs.Values.{Values}
+use Rattle.places.specs.Places.{Place}
+use Rattle.places.specs.Rows.{numberOf, Exists}
+use Rattle.places.specs.Inner.Arcs.{insert, exists, numbersOf}
 use Rattle.builder.specs.Inner.Writing.{maskOf, rise}
-use Rattle.builder.proofs.Rows.{number-unique}
-use Rattle.builder.proofs.Sorted.{insert-before, insert-here, insert-after, insert-last, Way, below, here, above, way, member-insert}
-use Rattle.builder.proofs.Split.{numbers-none, numbers-yes, numbers-no}
+use Rattle.places.proofs.Rows.{number-unique}
+use Rattle.places.proofs.Sorted.{insert-before, insert-here, insert-after, insert-last, Way, below, here, above, way, member-insert}
+use Rattle.places.proofs.Split.{numbers-none, numbers-yes, numbers-no}
 
 -- ---- one number
 

@@ -14,21 +14,22 @@ use Rattle.table.specs.Owners.{home}
 use Rattle.table.specs.Scheme.{Scheme, send, receive, scheme}
 use Rattle.table.proofs.Accepted.{accepted}
 use Rattle.net.specs.Net.{Transition}
-use Rattle.builder.specs.Values.{Values}
-use Rattle.builder.specs.Places.{Place, equals, differs, control}
-use Rattle.builder.specs.Rows.{numberOf}
-use Rattle.builder.specs.Inner.Arcs.{numbersOf}
+use Rattle.places.specs.Values.{Values}
+use Rattle.places.specs.Places.{Place, equals, differs, control}
+use Rattle.places.specs.Rows.{numberOf}
+use Rattle.places.specs.Inner.Arcs.{numbersOf}
 use Rattle.builder.specs.Inner.Writing
 use Rattle.builder.specs.Inner.Writing.{putOne, putAll, rise}
-use Rattle.builder.specs.Inner.Plan.{today, Rowed, Holds, Reads, Paired, Run, Tells, ofTable, state, put, told, arrow, insOf, outsOf, risen}
-use Rattle.builder.specs.declared.layout.Layout.{Layout}
+use Rattle.places.specs.Inner.Plan.{today, Rowed, Holds, Reads}
+use Rattle.builder.specs.Inner.Plan.{Paired, Run, Tells, ofTable, state, put, told, arrow, insOf, outsOf, risen}
+use Rattle.places.specs.declared.layout.Layout.{Layout}
 use Rattle.builder.specs.declared.write.Heads.{Heads}
 use Rattle.builder.specs.declared.write.Arcs.{Arcs}
 use Rattle.builder.specs.declared.communications.Pair.{Pair}
-use Rattle.builder.proofs.Today
-use Rattle.builder.proofs.Names.{restricted-private}
-use Rattle.builder.proofs.Controls.{publics-are}
-use Rattle.builder.proofs.CommunicationCounts.{not-y, not-heard, e-not-y}
+use Rattle.places.proofs.Today
+use Rattle.places.proofs.Names.{restricted-private}
+use Rattle.places.proofs.Controls.{publics-are}
+use Rattle.places.proofs.CommunicationCounts.{not-y, not-heard, e-not-y}
 use Rattle.builder.proofs.Rising.{Shifted, shift-none, shift-no, Track, Aside, stays, goes-a, goes-b, goes-c}
 use Rattle.builder.proofs.Pairs.{Speaks, speaks, sends, receives, heard-free, takesOf, givesOf, told-inputs, told-outputs, branch-small}
 use Rattle.builder.proofs.Pairs.{value-small, reads-holds, holds-exists, differs-exists, differs-none, public-none, control-exists}

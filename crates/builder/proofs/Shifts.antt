@@ -9,8 +9,8 @@ use lib.Seq.{slice, take-suc, set-at, set-append-left, getD-take, length-take-le
 use Rattle.lists.specs.Lists.{ascends}
 use Rattle.lists.proofs.Slices.{slice-step, slice-none}
 use Rattle.lists.proofs.Ascending.{ascends-first, ascends-rest}
-use Rattle.builder.specs.Inner.Arcs.{insert}
-use Rattle.builder.proofs.Sorted.{insert-before, insert-here, insert-after, insert-last}
+use Rattle.places.specs.Inner.Arcs.{insert}
+use Rattle.places.proofs.Sorted.{insert-before, insert-here, insert-after, insert-last}
 
 -- a list that ascends does not fall
 rises-from : (n lo : ℕ) (xs : List ℕ) → ascends n lo xs ≡ true → (j : ℕ) → j < length xs → lo ≤ getD xs j 0

@@ -11,9 +11,9 @@ use Rattle.lists.proofs.Members.{member-getD}
 use Rattle.table.specs.Words.{publics, bounds}
 use Rattle.net.specs.Net.{Transition}
 use Rattle.builder.specs.Inner.Writing.{Heads, putAll, Inside}
-use Rattle.builder.specs.Inner.Plan.{Lists, reached}
-use Rattle.builder.specs.declared.layout.Layout.{Layout}
-use Rattle.builder.specs.declared.layout.Reach.{Reach}
+use Rattle.places.specs.Inner.Plan.{Lists, reached}
+use Rattle.places.specs.declared.layout.Layout.{Layout}
+use Rattle.places.specs.declared.layout.Reach.{Reach}
 use Rattle.builder.proofs.Writing.{put-none, put-append, inside-first}
 
 module _ {A : Type 0} (f : A → Transition) (all s : Heads) (vs : List ℕ) (i : ℕ) where

@@ -6,7 +6,7 @@ use lib.ListN.{length, drop}
 use Rattle.lists.specs.Lists.{pick, same}
 use Rattle.table.specs.Answer.{causeOf}
 use Rattle.table.specs.Causes.{cause}
-use Rattle.builder.specs.Image.{imageOf}
+use Rattle.places.specs.Image.{imageOf}
 use Rattle.builder.specs.declared.Built.{Built}
 use Rattle.builder.specs.declared.Built.the-variants.{Words, Refused, Room}
 

@@ -1,7 +1,2 @@
-pub mod Values
-pub mod Places
-pub mod Rows
-pub mod Transitions
-pub mod Image
 pub mod Answer
 pub mod Inner

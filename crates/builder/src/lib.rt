@@ -1,29 +1,23 @@
 // The net of a table, as an image.
 ghost use mathlib.Core.Path.{_≡_};
+ghost use Prim.Native.Nat.{_+_, _*_, _<_};
+ghost use Rattle.places.specs.Inner.Plan.{Known, Defined, Laid};
+ghost use Rattle.places.specs.Inner.Counting.{Few, sumsOf, allSums};
 ghost use Rattle.builder.specs.Answer.{builtOutcome, laidOutcome, buildOutcome};
-ghost use Rattle.builder.specs.Inner.Plan.{Known, Defined, Laid};
-ghost use Rattle.builder.specs.Inner.Planning.{Room, PlanRight};
 
 mod chain;
 mod communications;
-mod count;
 mod insertion;
-pub mod layout;
+mod layout;
 mod marking;
 mod nodes;
 mod write;
 
-use layout::Layout;
-use lists::word16;
+use places::Measured;
+use places::count::Totals;
+use places::layout::Layout;
 use table::Verdict;
 use write::Heads;
-
-// What `plan` finds: where places stand, the table's cause, or that the lent words are too few.
-pub enum Planned {
-    Places(Layout),
-    Refused(Verdict),
-    Short,
-}
 
 // What `build` answers: the words written, the table's cause, or that the buffer is too short.
 pub enum Built {
@@ -32,55 +26,12 @@ pub enum Built {
     Room,
 }
 
-// Whether lists of these lengths have room for every table's index and layout.
-fn is_room(owners: usize, homes: usize, definitions: usize, rows: usize, spots: usize) -> bool
-    ensures { λ r. ⌜ Room owners homes definitions rows spots r ⌝ }
+// How many words the image has.
+fn length_of(plan: Layout, t: Totals) -> usize
+    requires { ⌜ (plan .tokens < 65536) × Few (sumsOf t) ⌝ }
+    ensures { λ r. ⌜ r ≡ 8 + plan .tokens + 6 * t .transitions + t .inputs + t .outputs ⌝ }
 {
-    if owners < 256 {
-        return false;
-    }
-    if homes < 256 {
-        return false;
-    }
-    if definitions < 256 {
-        return false;
-    }
-    if rows < 64 {
-        return false;
-    }
-    256 <= spots
-}
-
-// Checks a table and fills in its index and where its places stand: 256 words for owners, homes, definitions and
-// control places, 64 for rows.
-pub fn plan(
-    table: &[u16],
-    owners: &mut [u32],
-    homes: &mut [u32],
-    definitions: &mut [u16],
-    rows: &mut [u32],
-    spots: &mut [u32],
-) -> Planned
-    ensures { λ r. ⌜ PlanRight (now (table .entry)) (now (owners .exit)) (now (homes .exit)) (now (definitions .exit))
-        (now (rows .exit)) (now (spots .exit)) r ⌝ }
-{
-    let verdict = table::check(table);
-    if !table::is_accepted(verdict) {
-        return Planned::Refused(verdict);
-    }
-    if !is_room(
-        owners.len(),
-        homes.len(),
-        definitions.len(),
-        rows.len(),
-        spots.len(),
-    ) {
-        return Planned::Short;
-    }
-    table::index::owners(table, owners);
-    table::index::homes(table, homes);
-    table::index::first_definitions(owners, homes, word16(table, 4), definitions);
-    Planned::Places(layout::lay_out(table, owners, homes, rows, spots))
+    8 + plan.tokens + 6 * t.transitions + t.inputs + t.outputs
 }
 
 // Writes the image of a table that is laid out.
@@ -92,14 +43,14 @@ fn write_image(
     rows: &[u32],
     spots: &[u32],
     plan: Layout,
+    totals: Totals,
     out: &mut [u32],
 ) -> Built
     requires { ⌜ Known (now table) (now owners) (now homes) × Defined (now table) (now homes) (now definitions)
-        × Laid (now table) (now rows) (now spots) plan ⌝ }
+        × Laid (now table) (now rows) (now spots) plan × (sumsOf totals ≡ allSums (now table)) ⌝ }
     ensures { λ r. ⌜ builtOutcome r (now (out .exit)) ≡ laidOutcome (now (table .entry)) (now (out .entry)) ⌝ }
 {
-    let totals = count::totals_of(table, owners, homes, definitions, plan);
-    let words = count::words(plan, totals);
+    let words = length_of(plan, totals);
     if out.len() < words {
         return Built::Room;
     }
@@ -124,7 +75,7 @@ pub fn build(table: &[u16], out: &mut [u32]) -> Built
     let mut definitions = [0u16; 256];
     let mut rows = [0u32; 64];
     let mut spots = [0u32; 256];
-    match plan(
+    match places::measure(
         table,
         &mut owners,
         &mut homes,
@@ -132,17 +83,18 @@ pub fn build(table: &[u16], out: &mut [u32]) -> Built
         &mut rows,
         &mut spots,
     ) {
-        Planned::Places(places) => write_image(
+        Measured::Net(plan, totals) => write_image(
             table,
             &owners,
             &homes,
             &definitions,
             &rows,
             &spots,
-            places,
+            plan,
+            totals,
             out,
         ),
-        Planned::Refused(verdict) => Built::Refused(verdict),
-        Planned::Short => Built::Room,
+        Measured::Refused(verdict) => Built::Refused(verdict),
+        Measured::Short => Built::Room,
     }
 }

@@ -5,12 +5,12 @@ ghost use Prim.Native.Nat.{_+_, _-_, _*_, _<_, _≤_};
 ghost use lib.ListN.{length, take};
 ghost use Rattle.lists.specs.Lists.{from, range};
 ghost use Rattle.builder.specs.Inner.Writing.{writes, putOne, putAll, Inside, maskOf, sums, Steady};
-ghost use Rattle.builder.specs.Inner.Counting.{Few, sumsOf};
+ghost use Rattle.places.specs.Inner.Counting.{Few, sumsOf};
 ghost use Rattle.builder.specs.Inner.Plan.{state, arrow, risen, Short};
-ghost use Rattle.builder.specs.Inner.Plan.{headerOf};
-use crate::count::Totals;
-use crate::layout::Layout;
+ghost use Rattle.places.specs.Inner.Plan.{headerOf};
 use lists::store32;
+use places::count::Totals;
+use places::layout::Layout;
 
 // Where the next record and the next arc go.
 pub struct Heads {

@@ -15,12 +15,12 @@ use Rattle.table.specs.Causes.{cause}
 use Rattle.table.specs.Scheme.{scheme}
 use Rattle.table.proofs.Accepted.{accepted}
 use Rattle.net.specs.Firing.{isMarking}
-use Rattle.builder.specs.Values.{allValues}
-use Rattle.builder.specs.Places.{places}
-use Rattle.builder.specs.Image.{imageOf}
+use Rattle.places.specs.Values.{allValues}
+use Rattle.places.specs.Places.{places}
+use Rattle.places.specs.Image.{imageOf}
 use Rattle.builder.specs.Answer as Build
 use Rattle.builder.specs.Answer.{buildOutcome}
-use Rattle.builder.proofs.Size.{image-below}
+use Rattle.places.proofs.Size.{image-below}
 use Rattle.process.specs.States.{State}
 use Rattle.process.specs.Steps.{take, isOpen}
 use Rattle.process.specs.Labels.{stepOf}

@@ -8,10 +8,10 @@ use Rattle.table.specs.Causes as CausesT
 use Rattle.net.specs.Image as ImageN
 use Rattle.net.specs.Net as NetN
 use Rattle.net.specs.Firing as FiringN
-use Rattle.builder.specs.Values as ValuesB
-use Rattle.builder.specs.Places as PlacesB
-use Rattle.builder.specs.Transitions as TransitionsB
-use Rattle.builder.specs.Image as ImageB
+use Rattle.places.specs.Values as ValuesB
+use Rattle.places.specs.Places as PlacesB
+use Rattle.places.specs.Transitions as TransitionsB
+use Rattle.places.specs.Image as ImageB
 use Rattle.builder.specs.Answer as AnswerB
 use Rattle.process.specs.States as StatesP
 use Rattle.process.specs.Steps as StepsP

@@ -6,7 +6,7 @@ use lib.ListN.{length, take, replicate}
 use Rattle.table.specs.Causes.{cause}
 use Rattle.net.specs.Firing as Firing
 use Rattle.net.specs.Firing.{Ending, limitReached, nothingEnabled, initialMarking}
-use Rattle.builder.specs.Image.{imageOf}
+use Rattle.places.specs.Image.{imageOf}
 use Rattle.builder.specs.Answer.{buildOutcome}
 use Rattle.readback.specs.Answers.{readOutcome}
 

@@ -12,7 +12,7 @@ use Rattle.lists.specs.Lists.{pick, same, member}
 use Rattle.lists.proofs.Tests.{not-true-false, and-left, and-right, and-false, and-true, or-cases, or-right, or-false, same-self, same-true, same-no}
 use Rattle.lists.proofs.Members.{member-append, member-one}
 use Rattle.process.specs.States.{put}
-use Rattle.builder.specs.Transitions.{Test, test}
+use Rattle.places.specs.Transitions.{Test, test}
 use Rattle.readback.specs.Configurations.{Spot, spot}
 use Rattle.fidelity.specs.Inner.Marks.{sameSpot, holds, given, Motion, stay, pass, asks}
 

@@ -20,10 +20,10 @@ use Rattle.net.specs.Firing.{Step, made, refused, step, isEnabled, hasContact, 
 use Rattle.net.specs.Net.{Net, Transition, transitionAt, blank, encode, ascending, isAscending}
 use Rattle.net.proofs.Steps.{step-off, step-made}
 use Rattle.net.proofs.Encode.{transition-count, label-at, inputs-at, outputs-at, step-at, step-past, initial-marking}
-use Rattle.builder.specs.Values.{Values}
-use Rattle.builder.specs.Places.{places, isInitial}
-use Rattle.builder.specs.Transitions.{Description, skip, isInput, isOutput, descriptions}
-use Rattle.builder.specs.Image.{transitionOf, netWith}
+use Rattle.places.specs.Values.{Values}
+use Rattle.places.specs.Places.{places, isInitial}
+use Rattle.places.specs.Transitions.{Description, skip, isInput, isOutput, descriptions}
+use Rattle.places.specs.Image.{transitionOf, netWith}
 use Rattle.readback.specs.Configurations.{Configuration}
 use Rattle.fidelity.specs.Inner.Marks.{mark, after, Fits, Enabled, WellFormed, Shaped}
 use Rattle.fidelity.specs.Inner.Shapes.{Described, EnoughValues}

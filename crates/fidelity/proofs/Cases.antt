@@ -11,10 +11,10 @@ use Rattle.net.specs.Net.{encode, recordsFrom}
 use Rattle.net.specs.Image.{headerRight, recordRight}
 use Rattle.net.specs.Firing as Firing
 use Rattle.net.specs.Firing.{isMarking, isEnabled, hasContact, step, inTurn, initialMarking, searchFrom, lowestEnabled, runFrom}
-use Rattle.builder.specs.Values.{allValues, valuesOf, privateValuesOf}
-use Rattle.builder.specs.Places.{controls, controlPlaces, row, rows, places}
-use Rattle.builder.specs.Transitions.{isInput, isOutput, releases, copies, descriptions}
-use Rattle.builder.specs.Image.{netWith, netOf, imageOf}
+use Rattle.places.specs.Values.{allValues, valuesOf, privateValuesOf}
+use Rattle.places.specs.Places.{controls, controlPlaces, row, rows, places}
+use Rattle.places.specs.Transitions.{isInput, isOutput, releases, copies, descriptions}
+use Rattle.places.specs.Image.{netWith, netOf, imageOf}
 use Rattle.process.specs.States.{State, start, put}
 use Rattle.process.specs.Steps.{take, passed, isOpen}
 use Rattle.process.specs.Labels.{stepOf, steps, openSteps, openLabels}

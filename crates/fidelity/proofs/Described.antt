@@ -13,10 +13,10 @@ use Rattle.lists.proofs.Ranges.{member-from, from-member}
 use Rattle.lists.proofs.Members.{member-here, one-member, member-getD, member-keep}
 use Rattle.table.specs.Scheme.{Scheme, Node, stop, choice, new, call, Branch, absent, silent, send, receive}
 use Rattle.table.specs.Accepted.{NameOf, Usable, Chosen, Accepted}
-use Rattle.builder.specs.Values.{Values, valuesOf, privateValues}
-use Rattle.builder.specs.Transitions.{Description, releasing, releases, copying, copies, making, going, silents, calling, ofNode, communicating, common}
-use Rattle.builder.specs.Transitions.{sentOn, ofPair}
-use Rattle.builder.specs.Transitions.{descriptions}
+use Rattle.places.specs.Values.{Values, valuesOf, privateValues}
+use Rattle.places.specs.Transitions.{Description, releasing, releases, copying, copies, making, going, silents, calling, ofNode, communicating, common}
+use Rattle.places.specs.Transitions.{sentOn, ofPair}
+use Rattle.places.specs.Transitions.{descriptions}
 use Rattle.fidelity.specs.Inner.Elements.{Element, here, there}
 use Rattle.fidelity.specs.Inner.Marks.{allows, Takes}
 use Rattle.fidelity.specs.Inner.Shapes.{entering, copyingAt, releasingAt, ending, goingBy}

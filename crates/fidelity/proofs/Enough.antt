@@ -11,7 +11,7 @@ use Rattle.lists.proofs.Tests.{and-left, and-right, or-true}
 use Rattle.lists.proofs.Members.{member-getD}
 use Rattle.table.specs.Scheme.{Scheme, new, call, send, receive}
 use Rattle.table.specs.Accepted.{NameOf, Accepted}
-use Rattle.builder.specs.Values.{Values, allValues}
+use Rattle.places.specs.Values.{Values, allValues}
 use Rattle.readback.specs.Configurations.{spot, Configuration}
 use Rattle.fidelity.specs.Inner.Marks.{given, allows, Takes, WellFormed}
 use Rattle.fidelity.specs.Inner.Shapes.{count, EnoughValues}

@@ -16,8 +16,8 @@ use Rattle.table.specs.Scheme.{Scheme, choice, new, send, receive}
 use Rattle.table.specs.Accepted.{NameOf, Usable, Accepted}
 use Rattle.process.specs.States.{State}
 use Rattle.process.specs.Steps.{Step, newStep, communication, isOpen}
-use Rattle.builder.specs.Values.{Values}
-use Rattle.builder.specs.Transitions.{test, Description, making, communicating}
+use Rattle.places.specs.Values.{Values}
+use Rattle.places.specs.Transitions.{test, Description, making, communicating}
 use Rattle.readback.specs.Configurations.{Spot, spot, Configuration}
 use Rattle.fidelity.specs.Inner.Marks.{stay, pass, Fits, WellFormed, Takes}
 use Rattle.fidelity.specs.Inner.Shapes.{pair, onward}

@@ -11,9 +11,9 @@ use Rattle.lists.specs.Lists.{same}
 use Rattle.lists.proofs.Tests.{not-true-false, and-left, and-right, and-false, and-true, or-cases, or-right, or-false, or-true, same-self, same-true, same-no}
 use Rattle.table.specs.Scheme.{Scheme}
 use Rattle.process.specs.States.{put}
-use Rattle.builder.specs.Values.{Values}
-use Rattle.builder.specs.Places.{Place, equals, differs, free, control}
-use Rattle.builder.specs.Transitions.{Command, skip, take, release, Description, commandTakes, commandGives, isInput, isOutput}
+use Rattle.places.specs.Values.{Values}
+use Rattle.places.specs.Places.{Place, equals, differs, free, control}
+use Rattle.places.specs.Transitions.{Command, skip, take, release, Description, commandTakes, commandGives, isInput, isOutput}
 use Rattle.readback.specs.Configurations.{Spot, spot, Configuration}
 use Rattle.fidelity.specs.Inner.Marks.{sameSpot, holds, given, Motion, stay, pass, leaves, arrives, ends, asks, edit, fired, threadOf, isPlace}
 use Rattle.fidelity.specs.Inner.Marks.{isHeld, motion, after, used, mark}

@@ -16,8 +16,8 @@ use Rattle.table.specs.Kinds.{isStop}
 use Rattle.table.specs.Accepted.{Accepted}
 use Rattle.process.specs.States.{State, put, valueOf}
 use Rattle.process.specs.Steps.{arrived, called, received, silently, newly, calling, meeting}
-use Rattle.builder.specs.Values.{Values}
-use Rattle.builder.specs.Transitions.{Description, making, communicating}
+use Rattle.places.specs.Values.{Values}
+use Rattle.places.specs.Transitions.{Description, making, communicating}
 use Rattle.readback.specs.Configurations.{Spot, spot, Configuration, nodeShownAt, nodeShown, nameShown}
 use Rattle.fidelity.specs.Inner.Marks.{Motion, stay, pass, ends, motion, after, Fits, WellFormed}
 use Rattle.fidelity.specs.Inner.Shapes.{single, pair, chain, onward, entering, copyingAt, releasingAt, ending, goingBy}

@@ -9,8 +9,8 @@ use Rattle.lists.specs.Lists.{pick, same, keep}
 use Rattle.lists.proofs.Tests.{and-left, and-right, both-ways, same-self, same-true}
 use Rattle.table.specs.Scheme.{Scheme}
 use Rattle.table.specs.Accepted.{Accepted}
-use Rattle.builder.specs.Values.{Values}
-use Rattle.builder.specs.Places.{Place, equals, differs, free, control, places}
+use Rattle.places.specs.Values.{Values}
+use Rattle.places.specs.Places.{Place, equals, differs, free, control, places}
 use Rattle.readback.specs.Configurations.{Configuration}
 use Rattle.readback.specs.Reading.{samePlace, has}
 use Rattle.fidelity.specs.Inner.Elements.{Element, here, there}

@@ -22,7 +22,7 @@ use Rattle.net.specs.Net.{Net, encode}
 use Rattle.net.proofs.Steps.{turn-last, turn-refused, marking-length}
 use Rattle.net.proofs.Outcomes.{turn-first, turn-keeps, run-in-turn, run-count}
 use Rattle.net.proofs.Built.{initial-is-marking, fire-built, replay-built, run-built}
-use Rattle.builder.specs.Image.{netOf, imageOf}
+use Rattle.places.specs.Image.{netOf, imageOf}
 use Rattle.readback.specs.Configurations.{Configuration}
 use Rattle.fidelity.specs.Calls.{Call, fire, run, replay, Answer, Plain, ofOutcome, ofRun, endingCause, image, advances, begun, makes, hears}
 use Rattle.fidelity.specs.Calls.{leavesAll, World, calledOn, after, world}

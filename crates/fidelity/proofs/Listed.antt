@@ -16,10 +16,10 @@ use Rattle.lists.proofs.Ranges.{member-from, from-member}
 use Rattle.lists.proofs.Members.{member-here, one-member, member-getD, member-keep}
 use Rattle.table.specs.Scheme.{Scheme, Node, stop, choice, new, call, Branch, absent, silent, send, receive}
 use Rattle.table.specs.Accepted.{NameOf, Usable, Chosen, Accepted}
-use Rattle.builder.specs.Values.{Values, valuesOf, privateValues}
-use Rattle.builder.specs.Places.{controls}
-use Rattle.builder.specs.Transitions.{Move, move, Description, on, releasing, releases, copying, copies, making, going, silents, calling, ofNode}
-use Rattle.builder.specs.Transitions.{communicating, common, sentOn, ofPair, descriptions}
+use Rattle.places.specs.Values.{Values, valuesOf, privateValues}
+use Rattle.places.specs.Places.{controls}
+use Rattle.places.specs.Transitions.{Move, move, Description, on, releasing, releases, copying, copies, making, going, silents, calling, ofNode}
+use Rattle.places.specs.Transitions.{communicating, common, sentOn, ofPair, descriptions}
 use Rattle.readback.specs.Configurations.{spot}
 use Rattle.fidelity.specs.Inner.Elements.{Element, here, there}
 use Rattle.fidelity.specs.Inner.Marks.{allows, Takes}

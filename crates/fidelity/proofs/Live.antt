@@ -16,8 +16,8 @@ use Rattle.table.specs.Kinds.{isStop}
 use Rattle.table.specs.Accepted.{NameOf, Chosen, Accepted}
 use Rattle.process.specs.States.{State}
 use Rattle.process.specs.Steps.{Step, silentStep, communication, callStep}
-use Rattle.builder.specs.Values.{Values}
-use Rattle.builder.specs.Transitions.{Description}
+use Rattle.places.specs.Values.{Values}
+use Rattle.places.specs.Transitions.{Description}
 use Rattle.readback.specs.Configurations.{Spot, spot, Configuration, isSpot, nodeShownAt}
 use Rattle.fidelity.specs.Inner.Marks.{WellFormed}
 use Rattle.fidelity.specs.Inner.Shapes.{count, chain, onward, entering, goingBy, is-call, is-silent, EnoughValues}

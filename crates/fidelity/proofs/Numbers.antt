@@ -15,9 +15,9 @@ use Rattle.table.specs.Scheme.{Scheme}
 use Rattle.table.specs.Accepted.{Accepted}
 use Rattle.net.specs.Firing.{isMarked, isEnabled, hasContact, put, moved}
 use Rattle.net.proofs.Marks.{length-put}
-use Rattle.builder.specs.Values.{Values}
-use Rattle.builder.specs.Places.{Place, free, places, isInitial}
-use Rattle.builder.specs.Transitions.{Description, isInput, isOutput}
+use Rattle.places.specs.Values.{Values}
+use Rattle.places.specs.Places.{Place, free, places, isInitial}
+use Rattle.places.specs.Transitions.{Description, isInput, isOutput}
 use Rattle.readback.specs.Configurations.{Configuration}
 use Rattle.fidelity.specs.Inner.Elements.{Element}
 use Rattle.fidelity.specs.Inner.Marks.{fired, after, mark, Fits, Exists, Enabled, Safe, WellFormed, Shaped}

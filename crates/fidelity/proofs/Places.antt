@@ -14,8 +14,8 @@ use Rattle.lists.proofs.Ranges.{member-from, from-member}
 use Rattle.lists.proofs.Members.{member-keep}
 use Rattle.table.specs.Scheme.{Scheme, Node, stop, choice, new, call}
 use Rattle.table.specs.Accepted.{Accepted}
-use Rattle.builder.specs.Values.{Values, valuesOf, privateValues, privateValuesOf}
-use Rattle.builder.specs.Places.{Place, equals, differs, free, control, controlsAt, controls, controlPlaces, row, rows, places}
+use Rattle.places.specs.Values.{Values, valuesOf, privateValues, privateValuesOf}
+use Rattle.places.specs.Places.{Place, equals, differs, free, control, controlsAt, controls, controlPlaces, row, rows, places}
 use Rattle.readback.specs.Configurations.{spot, isSpot}
 use Rattle.fidelity.specs.Inner.Elements.{Element}
 use Rattle.fidelity.specs.Inner.Marks.{isPlace, allows, Exists, exists-equals, exists-differs, exists-free, exists-control}

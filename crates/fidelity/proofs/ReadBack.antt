@@ -16,8 +16,8 @@ use Rattle.table.specs.Accepted.{Accepted}
 use Rattle.process.specs.States.{valueOf}
 use Rattle.process.specs.StateWords.{stateWords, valueWords}
 use Rattle.net.specs.Firing.{isMarking}
-use Rattle.builder.specs.Values.{Values, allValues}
-use Rattle.builder.specs.Places.{Place, places}
+use Rattle.places.specs.Values.{Values, allValues}
+use Rattle.places.specs.Places.{Place, places}
 use Rattle.readback.specs.Configurations.{Configuration, nodeShown, nameShown, stateShown}
 use Rattle.readback.specs.Reading.{marked, configuration, standsForState, readBack, words}
 use Rattle.fidelity.specs.Inner.Elements.{Element, here, there}

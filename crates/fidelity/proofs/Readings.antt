@@ -15,8 +15,8 @@ use Rattle.lists.proofs.Ranges.{member-from}
 use Rattle.lists.proofs.Members.{distinct-from, distinct-keep, distinct-one}
 use Rattle.table.specs.Scheme.{Scheme}
 use Rattle.table.specs.Accepted.{Accepted}
-use Rattle.builder.specs.Values.{Values, valuesOf, privateValues, privateValuesOf}
-use Rattle.builder.specs.Places.{Place, equals, differs, free, control, controls, controlPlaces, row, rows, places}
+use Rattle.places.specs.Values.{Values, valuesOf, privateValues, privateValuesOf}
+use Rattle.places.specs.Places.{Place, equals, differs, free, control, controls, controlPlaces, row, rows, places}
 use Rattle.readback.specs.Configurations.{Spot, spot, Configuration, isSpot}
 use Rattle.readback.specs.Reading.{marked, spotsOf, valuesIn, spots, values}
 use Rattle.fidelity.specs.Inner.Elements.{Element, here, there}

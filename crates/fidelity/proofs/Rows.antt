@@ -14,8 +14,8 @@ use Rattle.lists.specs.Lists.{pick, bit, same}
 use Rattle.lists.proofs.Tests.{same-self, same-no}
 use Rattle.table.specs.Scheme.{Scheme, Node, stop, choice, new, call}
 use Rattle.table.specs.Accepted.{Accepted}
-use Rattle.builder.specs.Values.{Values}
-use Rattle.builder.specs.Transitions.{Description}
+use Rattle.places.specs.Values.{Values}
+use Rattle.places.specs.Transitions.{Description}
 use Rattle.readback.specs.Configurations.{Spot, spot, Configuration}
 use Rattle.fidelity.specs.Inner.Marks.{ends, threadOf, motion, after, Fits, WellFormed}
 use Rattle.fidelity.specs.Inner.Shapes.{single, count, chain, onward, copyingAt, releasingAt, ending}

@@ -16,8 +16,8 @@ use Rattle.lists.proofs.Members.{member-getD, member-head, distinct-earlier}
 use Rattle.table.specs.Scheme.{Scheme, call}
 use Rattle.table.specs.Accepted.{NameOf, Usable, Accepted}
 use Rattle.process.specs.States.{State}
-use Rattle.builder.specs.Values.{Values}
-use Rattle.builder.specs.Transitions.{Description}
+use Rattle.places.specs.Values.{Values}
+use Rattle.places.specs.Transitions.{Description}
 use Rattle.readback.specs.Configurations.{Spot, spot, Configuration}
 use Rattle.fidelity.specs.Inner.Marks.{pass, isHeld, motion, after, Fits, allows, WellFormed, Takes}
 use Rattle.fidelity.specs.Inner.Shapes.{single, chain, onward, copyingAt, releasingAt, Described, is-copy, is-release, EnoughValues}

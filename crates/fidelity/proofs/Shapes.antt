@@ -18,9 +18,9 @@ use Rattle.lists.proofs.Members.{member-append, member-getD, member-rest, disti
 use Rattle.table.specs.Scheme.{Scheme, Node, stop, choice, new, call, silent, send, receive}
 use Rattle.table.specs.Accepted.{NameOf, Accepted}
 use Rattle.net.specs.Image.{Label, labelOf}
-use Rattle.builder.specs.Values.{Values}
-use Rattle.builder.specs.Places.{control}
-use Rattle.builder.specs.Transitions.{move, Test, test, Command, skip, take as taking, release, Description, isLeft, isReached, making, communicating}
+use Rattle.places.specs.Values.{Values}
+use Rattle.places.specs.Places.{control}
+use Rattle.places.specs.Transitions.{move, Test, test, Command, skip, take as taking, release, Description, isLeft, isReached, making, communicating}
 use Rattle.readback.specs.Configurations.{Spot, spot, heldAt, isSpot}
 use Rattle.fidelity.specs.Inner.Marks.{Motion, stay, pass, leaves, arrives, asks, threadOf, isPlace, isHeld, heldAfter, Untouched, Holding, allows}
 use Rattle.fidelity.specs.Inner.Marks.{Takes, Commands, Shaped}

@@ -19,8 +19,8 @@ use Rattle.table.specs.Kinds.{isStop}
 use Rattle.table.specs.Accepted.{NameOf, Accepted}
 use Rattle.process.specs.States.{put, valueOf}
 use Rattle.process.specs.Steps.{passed, arrived, called, received}
-use Rattle.builder.specs.Values.{Values}
-use Rattle.builder.specs.Transitions.{test, Command, skip, take as taking, release, Description, making, communicating}
+use Rattle.places.specs.Values.{Values}
+use Rattle.places.specs.Transitions.{test, Command, skip, take as taking, release, Description, making, communicating}
 use Rattle.readback.specs.Configurations.{Spot, spot, Configuration, nameShownAt, nameShown}
 use Rattle.fidelity.specs.Inner.Marks.{given, Motion, stay, pass, ends, edit, threadOf, isHeld, motion, after, Fits, Untouched, WellFormed, Shaped}
 use Rattle.fidelity.specs.Inner.Shapes.{single, pair, chain, onward, entering, copyingAt, releasingAt, ending, goingBy}

@@ -11,7 +11,7 @@ use Rattle.lists.specs.Lists as Lists
 use Rattle.lists.specs.Lists.{pick, bit, same, from, range, keep, flat, member, Distinct}
 use Rattle.lists.proofs.Tests.{same-self, same-no, same-true}
 use Rattle.lists.proofs.Members.{distinct-head, distinct-tail}
-use Rattle.builder.specs.Places.{Place}
+use Rattle.places.specs.Places.{Place}
 use Rattle.readback.specs.Reading.{marked}
 use Rattle.fidelity.specs.Inner.Elements.{Element, here, there}
 use Rattle.fidelity.proofs.Elements.{element-cases, element-member, no-element}

@@ -16,8 +16,8 @@ use Rattle.lists.proofs.Members.{distinct-from}
 use Rattle.lists.proofs.Counts.{flat-keep-length}
 use Rattle.table.specs.Scheme.{Scheme}
 use Rattle.table.specs.Accepted.{Accepted}
-use Rattle.builder.specs.Values.{Values, allValues, privateValues}
-use Rattle.builder.specs.Places.{Place, equals, differs, free, places}
+use Rattle.places.specs.Values.{Values, allValues, privateValues}
+use Rattle.places.specs.Places.{Place, equals, differs, free, places}
 use Rattle.readback.specs.Configurations.{Spot, Configuration, heldHere}
 use Rattle.readback.specs.Reading.{has, spots, values, configuration, firstValue, oneSpot, oneValue, opposite, freeRight, standsForState}
 use Rattle.fidelity.specs.Inner.Marks.{holds, given, isHeld, mark, used, WellFormed, exists-equals, exists-differs, exists-free}

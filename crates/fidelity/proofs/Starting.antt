@@ -16,8 +16,8 @@ use Rattle.table.specs.Scheme.{Scheme}
 use Rattle.table.specs.Kinds.{isStop}
 use Rattle.table.specs.Accepted.{NameOf, Accepted}
 use Rattle.process.specs.States.{start, valueOf}
-use Rattle.builder.specs.Values.{Values}
-use Rattle.builder.specs.Places.{Place, equals, differs, free, control, isInitial}
+use Rattle.places.specs.Values.{Values}
+use Rattle.places.specs.Places.{Place, equals, differs, free, control, isInitial}
 use Rattle.readback.specs.Configurations.{spot, Configuration}
 use Rattle.fidelity.specs.Inner.Elements.{Element}
 use Rattle.fidelity.specs.Inner.Marks.{isHeld, mark, Exists, exists-equals, exists-differs, exists-free, exists-control, WellFormed}

@@ -6,7 +6,7 @@ use Rattle.table.specs.Causes.{cause}
 use Rattle.table.specs.Scheme.{scheme}
 use Rattle.table.proofs.Accepted.{accepted}
 use Rattle.process.proofs.Renaming.{words-renamed}
-use Rattle.builder.proofs.Size.{image-size}
+use Rattle.places.proofs.Size.{image-size}
 use Rattle.fidelity.specs.Calls.{Call}
 use Rattle.fidelity.specs.Demand.{Demand3}
 use Rattle.fidelity.proofs.Whole.{demand-3}

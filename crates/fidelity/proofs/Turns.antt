@@ -19,9 +19,9 @@ use Rattle.net.specs.Image.{Label, labelAt}
 use Rattle.net.specs.Firing.{Outcome, outcome, Step, made, refused, step, inTurn}
 use Rattle.net.specs.Firing as Firing
 use Rattle.net.proofs.Steps.{turn-made, turn-refused}
-use Rattle.builder.specs.Values.{Values, allValues}
-use Rattle.builder.specs.Image.{netOf, imageOf}
-use Rattle.builder.specs.Transitions.{descriptions}
+use Rattle.places.specs.Values.{Values, allValues}
+use Rattle.places.specs.Image.{netOf, imageOf}
+use Rattle.places.specs.Transitions.{descriptions}
 use Rattle.readback.specs.Configurations.{Configuration}
 use Rattle.fidelity.specs.Calls.{image, isQuiet, stepAt, advance, advances}
 use Rattle.fidelity.specs.Demand.{lawful, rowsWithin}

@@ -17,8 +17,8 @@ use Rattle.process.specs.Labels.{isBookkeeping, stepOf}
 use Rattle.net.specs.Image.{Label, labelAt}
 use Rattle.net.specs.Firing.{Outcome, made, step, inTurn}
 use Rattle.net.proofs.Steps.{turn-made, turn-last}
-use Rattle.builder.specs.Image.{netOf, imageOf}
-use Rattle.builder.specs.Transitions.{Description, descriptions}
+use Rattle.places.specs.Image.{netOf, imageOf}
+use Rattle.places.specs.Transitions.{Description, descriptions}
 use Rattle.readback.specs.Configurations.{Configuration}
 use Rattle.fidelity.specs.Calls.{image, isQuiet, stepAt}
 use Rattle.fidelity.specs.Demand.{CanFire}

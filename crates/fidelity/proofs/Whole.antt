@@ -13,9 +13,9 @@ use Rattle.table.specs.Accepted.{Accepted}
 use Rattle.process.specs.States.{State, Renamed}
 use Rattle.process.specs.StateWords.{stateWords}
 use Rattle.net.specs.Firing.{isMarking}
-use Rattle.builder.specs.Values.{allValues}
-use Rattle.builder.specs.Places.{places}
-use Rattle.builder.specs.Image.{netWith}
+use Rattle.places.specs.Values.{allValues}
+use Rattle.places.specs.Places.{places}
+use Rattle.places.specs.Image.{netWith}
 use Rattle.readback.specs.Configurations.{Configuration, stateShown}
 use Rattle.readback.specs.Reading.{readBack, words}
 use Rattle.fidelity.specs.Calls.{Call, image, world}

@@ -18,7 +18,7 @@ use Rattle.net.specs.Net.{Net, encode}
 use Rattle.net.proofs.Steps.{turn-made, turn-refused, turn-last, marking-length}
 use Rattle.net.proofs.Outcomes.{turn-first, turn-keeps, run-cases, run-in-turn, run-count, lowest-refused}
 use Rattle.net.proofs.Built.{initial-is-marking, fire-built, replay-built, run-built, never-malformed}
-use Rattle.builder.specs.Image.{netOf, imageOf}
+use Rattle.places.specs.Image.{netOf, imageOf}
 use Rattle.readback.specs.Configurations.{Configuration}
 use Rattle.fidelity.specs.Calls.{Call, fire, run, replay, Answer, Plain, endingCause, image, advance, advances, begun, makes, leavesAll, World}
 use Rattle.fidelity.specs.Calls.{calledOn, after, world}

@@ -13,7 +13,7 @@ use Rattle.process.specs.Labels.{isBookkeeping, stepOf}
 use Rattle.net.specs.Image.{labelAt}
 use Rattle.net.specs.Firing as Firing
 use Rattle.net.specs.Firing.{Outcome, RunOutcome, Ending, limitReached, historyFull, nothingEnabled, stopped, initialMarking}
-use Rattle.builder.specs.Image.{imageOf}
+use Rattle.places.specs.Image.{imageOf}
 
 -- a firing by number, a run with its limit and the length of its history, a replay with its numbers
 pub data Call : Type 0 where

@@ -17,7 +17,7 @@ use Rattle.table.specs.Causes.{cause, firstFailed, longEnough, countsRight, lay
 use Rattle.table.proofs.Inside.{counted}
 use Rattle.table.proofs.Sizes.{whole-length}
 use Rattle.table.proofs.Passed.{passed}
-use Rattle.builder.specs.Image.{imageOf}
+use Rattle.places.specs.Image.{imageOf}
 use Rattle.builder.specs.Answer.{BuildOutcome, outcome, builtOutcome, laidOutcome, buildOutcome}
 use Rattle.builder.specs.declared.Built.{Built}
 use Rattle.builder.specs.declared.Built.the-variants.{Words, Refused, Room}

@@ -8,7 +8,7 @@ use lib.Dec.{ltb}
 use lib.ListN.{length}
 use Rattle.lists.specs.Lists.{pick, same}
 use Rattle.table.specs.Causes.{cause}
-use Rattle.builder.specs.Image.{imageOf}
+use Rattle.places.specs.Image.{imageOf}
 use Rattle.print.specs.Text.{refusal}
 use Rattle.print.specs.Words.{wordsOf}
 use Rattle.print.specs.Listing.{listing}

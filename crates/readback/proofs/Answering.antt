@@ -29,15 +29,15 @@ use Rattle.process.specs.Outcomes.{Outcome, refusal, answered, written, checked
 use Rattle.process.specs.Inner.Values.{valueAt}
 use Rattle.process.proofs.Sets.{sets-whole}
 use Rattle.process.proofs.Stepping.{state-words-length, state-written}
-use Rattle.builder.specs.Places
-use Rattle.builder.specs.Inner.Plan.{today}
-use Rattle.builder.specs.Inner.Planning.{PlanRight}
-use Rattle.builder.specs.declared.layout.Layout.{Layout}
-use Rattle.builder.specs.declared.Planned.{Planned}
-use Rattle.builder.specs.declared.Planned.the-variants as Planned
+use Rattle.places.specs.Places
+use Rattle.places.specs.Inner.Plan.{today}
+use Rattle.places.specs.Inner.Planning.{PlanRight}
+use Rattle.places.specs.declared.layout.Layout.{Layout}
+use Rattle.places.specs.declared.Planned.{Planned}
+use Rattle.places.specs.declared.Planned.the-variants as Planned
 use Rattle.table.specs.declared.Verdict.{Verdict}
 use Rattle.table.specs.Answer.{causeOf}
-use Rattle.builder.proofs.Controls.{publics-are, bounds-are}
+use Rattle.places.proofs.Controls.{publics-are, bounds-are}
 use Rattle.readback.specs.Configurations.{Spot, spot, Configuration, nodeShown, nameShownAt, nameShown, stateShown}
 use Rattle.readback.specs.Reading.{marked, configuration, readBack}
 use Rattle.readback.specs.Answers.{readInto, laidOutcome, readOutcome}

@@ -6,11 +6,11 @@ use native.Mathlib.Omega.{arith}
 use Rattle.lists.specs.Lists.{word}
 use Rattle.table.specs.Words.{nodes}
 use Rattle.table.specs.Scheme.{scheme}
-use Rattle.builder.specs.Places.{controls}
-use Rattle.builder.specs.Inner.Plan.{controlOf}
+use Rattle.places.specs.Places.{controls}
+use Rattle.places.specs.Inner.Plan.{controlOf}
 use Rattle.readback.specs.Inner.Noting.{Placed}
-use Rattle.builder.specs.declared.layout.Layout.{Layout}
-use Rattle.builder.proofs.Controls.{control-goes-on, few-nodes, control-few, control-last}
+use Rattle.places.specs.declared.layout.Layout.{Layout}
+use Rattle.places.proofs.Controls.{control-goes-on, few-nodes, control-few, control-last}
 
 module _ (w spots : List ℕ) (plan : Layout) (L : Placed w spots plan) (n : ℕ) (h : n < nodes w) where
   pub nodes-small : nodes w ≤ 256

@@ -13,12 +13,12 @@ use Rattle.lists.proofs.Ranges.{member-from, from-member}
 use Rattle.lists.proofs.Members.{flat-same, distinct-from}
 use Rattle.lists.proofs.Numbered.{map-keep-flat}
 use Rattle.table.specs.Scheme.{Scheme}
-use Rattle.builder.specs.Values.{Values, allValues, valuesOf, privateValues, privateValuesOf}
-use Rattle.builder.specs.Places.{Place, equals, differs, free, control, controls, controlPlaces, row, rows, places}
-use Rattle.builder.specs.Rows.{rowStart, controlStart, numberOf}
-use Rattle.builder.specs.Inner.Spans.{firstValue, endValue}
-use Rattle.builder.proofs.Spans.{values-span}
-use Rattle.builder.proofs.Today.{equals-number, equals-restricted}
+use Rattle.places.specs.Values.{Values, allValues, valuesOf, privateValues, privateValuesOf}
+use Rattle.places.specs.Places.{Place, equals, differs, free, control, controls, controlPlaces, row, rows, places}
+use Rattle.places.specs.Rows.{rowStart, controlStart, numberOf}
+use Rattle.places.specs.Inner.Spans.{firstValue, endValue}
+use Rattle.places.proofs.Spans.{values-span}
+use Rattle.places.proofs.Today.{equals-number, equals-restricted}
 use Rattle.readback.specs.Configurations.{Spot, spot}
 use Rattle.readback.specs.Reading.{spotsOf, valuesIn, spots, values}
 use Rattle.readback.specs.Inner.Hits.{token, hits}

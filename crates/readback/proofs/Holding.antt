@@ -14,9 +14,9 @@ use Rattle.table.specs.Words.{nodes, threads, nodeKind, nodeFirst, isChoice, is
 use Rattle.table.specs.Index.{heldIn, HeldNames}
 use Rattle.table.specs.Scheme.{Scheme, scheme}
 use Rattle.net.specs.Firing.{put}
-use Rattle.builder.specs.Inner.Plan.{Known}
-use Rattle.builder.proofs.ByWords.{stop-node, choice-node, new-node, call-node, other-call, formals-of, called-inside, held-of}
-use Rattle.builder.proofs.NodeCounts.{names-fit, names-taken}
+use Rattle.places.specs.Inner.Plan.{Known}
+use Rattle.places.proofs.ByWords.{stop-node, choice-node, new-node, call-node, other-call, formals-of, called-inside, held-of}
+use Rattle.places.proofs.NodeCounts.{names-fit, names-taken}
 use Rattle.readback.specs.Configurations.{Spot, spot, heldHere}
 use Rattle.readback.specs.Inner.Showing.{spotAt}
 use Rattle.readback.specs.Inner.Holding.{heldAll}

@@ -10,10 +10,10 @@ use Rattle.lists.specs.Lists.{pick, same, word, every, keep}
 use Rattle.lists.proofs.Tests.{and-left, and-right, both-ways, same-self, same-true}
 use Rattle.table.specs.Scheme.{Scheme}
 use Rattle.net.specs.Firing.{isMarking}
-use Rattle.builder.specs.Values.{Values}
-use Rattle.builder.specs.Places.{Place, equals, differs, free, control, places}
-use Rattle.builder.specs.Rows.{numberOf, Exists}
-use Rattle.builder.proofs.Rows.{place-at, number-below, number-at}
+use Rattle.places.specs.Values.{Values}
+use Rattle.places.specs.Places.{Place, equals, differs, free, control, places}
+use Rattle.places.specs.Rows.{numberOf, Exists}
+use Rattle.places.proofs.Rows.{place-at, number-below, number-at}
 use Rattle.readback.specs.Reading.{samePlace, marked, has}
 use Rattle.readback.specs.Inner.Hits.{token}
 use Rattle.readback.proofs.Elements.{Element, here, there, no-element, element-cases, element-at, some-element, element-some}

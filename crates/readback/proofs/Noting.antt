@@ -16,12 +16,12 @@ use Rattle.table.specs.Index.{threadIn}
 use Rattle.table.specs.Scheme.{Scheme, scheme}
 use Rattle.table.specs.Accepted.{Accepted}
 use Rattle.table.proofs.Accepted.{accepted}
-use Rattle.builder.specs.Values.{allValues}
-use Rattle.builder.specs.Places.{controls}
-use Rattle.builder.specs.Rows.{controlStart}
-use Rattle.builder.specs.Inner.Plan.{controlOf}
-use Rattle.builder.specs.declared.layout.Layout.{Layout}
-use Rattle.builder.proofs.Controls.{controls-few}
+use Rattle.places.specs.Values.{allValues}
+use Rattle.places.specs.Places.{controls}
+use Rattle.places.specs.Rows.{controlStart}
+use Rattle.places.specs.Inner.Plan.{controlOf}
+use Rattle.places.specs.declared.layout.Layout.{Layout}
+use Rattle.places.proofs.Controls.{controls-few}
 use Rattle.readback.specs.Configurations.{Spot, spot}
 use Rattle.readback.specs.Inner.Hits.{hits, FoundOf}
 use Rattle.readback.specs.Inner.Standing.{firstOf, spotsOn, spotsBelow, spotsAt, spotsRight}

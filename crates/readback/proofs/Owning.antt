@@ -17,10 +17,10 @@ use Rattle.table.specs.Accepted.{Accepted, NameOf}
 use Rattle.table.specs.Causes.{cause}
 use Rattle.table.proofs.Accepted.{accepted}
 use Rattle.net.specs.Firing.{put}
-use Rattle.builder.specs.Values.{allValues}
-use Rattle.builder.specs.Places.{controls}
-use Rattle.builder.specs.Rows.{controlStart}
-use Rattle.builder.proofs.Controls.{publics-are, bounds-are}
+use Rattle.places.specs.Values.{allValues}
+use Rattle.places.specs.Places.{controls}
+use Rattle.places.specs.Rows.{controlStart}
+use Rattle.places.proofs.Controls.{publics-are, bounds-are}
 use Rattle.readback.specs.Configurations.{Spot, spot, heldAt, heldHere}
 use Rattle.readback.specs.Inner.Hits.{hits}
 use Rattle.readback.specs.Inner.Standing.{firstOf, spotsOn, spotsBelow, spotsAt, spotsRight, valuesAt, valueRight, valuesRight, heldBit}

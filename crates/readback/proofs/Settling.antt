@@ -9,12 +9,12 @@ use Rattle.lists.specs.Lists.{word}
 use Rattle.table.specs.Words.{names, nodes}
 use Rattle.table.specs.Scheme.{Scheme, scheme}
 use Rattle.net.specs.Firing.{isMarking, put}
-use Rattle.builder.specs.Values.{allValues}
-use Rattle.builder.specs.Places
-use Rattle.builder.specs.Inner.Plan.{today, controlOf, Known, Defined, Laid}
-use Rattle.builder.specs.declared.layout.Layout.{Layout}
-use Rattle.builder.proofs.Rows.{places-length}
-use Rattle.builder.proofs.Controls.{nodes-are}
+use Rattle.places.specs.Values.{allValues}
+use Rattle.places.specs.Places
+use Rattle.places.specs.Inner.Plan.{today, controlOf, Known, Defined, Laid}
+use Rattle.places.specs.declared.layout.Layout.{Layout}
+use Rattle.places.proofs.Rows.{places-length}
+use Rattle.places.proofs.Controls.{nodes-are}
 use Rattle.readback.specs.Inner.Standing.{spotsRight, valuesRight, heldBit, opposedAll, freedAll}
 use Rattle.readback.specs.Inner.Noting.{Placed, Room, Clear, Seeking, SpotsFound}
 use Rattle.readback.specs.Inner.Showing.{AtNodes}

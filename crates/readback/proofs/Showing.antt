@@ -28,9 +28,9 @@ use Rattle.process.specs.Steps.{passed}
 use Rattle.process.specs.Inner.Values.{Number, Valued, valueAt}
 use Rattle.process.proofs.Taking.{passed-below, passed-above, passed-inside}
 use Rattle.process.proofs.Decoding.{call-there}
-use Rattle.builder.specs.Inner.Plan.{Defined}
-use Rattle.builder.proofs.ByWords.{other-call, stop-node, choice-node, new-node, call-node}
-use Rattle.builder.proofs.ByWords.{called-inside, formals-of, arguments-of, arguments-inside, argument-inside}
+use Rattle.places.specs.Inner.Plan.{Defined}
+use Rattle.places.proofs.ByWords.{other-call, stop-node, choice-node, new-node, call-node}
+use Rattle.places.proofs.ByWords.{called-inside, formals-of, arguments-of, arguments-inside, argument-inside}
 use Rattle.readback.specs.Configurations.{spot, nodeShownAt, nodeShown, nameShownAt, nameShown}
 use Rattle.readback.specs.Inner.Showing.{AtNodes, spotAt, valueIn, NodeOf, CallOf, Bindings}
 

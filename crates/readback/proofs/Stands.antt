@@ -13,10 +13,10 @@ use Rattle.lists.proofs.Ranges.{from-member, every-same}
 use Rattle.lists.proofs.Members.{keep-same}
 use Rattle.table.specs.Scheme.{Scheme}
 use Rattle.net.specs.Firing.{isMarking}
-use Rattle.builder.specs.Values.{Values, allValues, privateValues}
-use Rattle.builder.specs.Places.{Place, equals, differs, free, control, places}
-use Rattle.builder.specs.Rows.{rowStart, freeStart, numberOf, Exists, has-equals, has-differs, has-free}
-use Rattle.builder.proofs.Today.{private-reached, equals-number, equals-restricted, differs-number}
+use Rattle.places.specs.Values.{Values, allValues, privateValues}
+use Rattle.places.specs.Places.{Place, equals, differs, free, control, places}
+use Rattle.places.specs.Rows.{rowStart, freeStart, numberOf, Exists, has-equals, has-differs, has-free}
+use Rattle.places.proofs.Today.{private-reached, equals-number, equals-restricted, differs-number}
 use Rattle.readback.specs.Configurations.{Spot, spot, Configuration, heldHere}
 use Rattle.readback.specs.Reading.{marked, has, spots, values, firstSpot, firstValue, configuration}
 use Rattle.readback.specs.Reading.{oneSpot, oneValue, opposite, freeRight, standsForState}

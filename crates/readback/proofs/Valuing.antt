@@ -14,11 +14,11 @@ use Rattle.lists.proofs.Ranges.{from-more, from-done}
 use Rattle.table.specs.Words.{publics, bounds, names}
 use Rattle.table.specs.Scheme.{Scheme, scheme}
 use Rattle.process.specs.Inner.Values.{valueAt}
-use Rattle.builder.specs.Values.{allValues}
-use Rattle.builder.specs.Rows.{rowStart}
-use Rattle.builder.specs.Inner.Plan.{Rowed}
-use Rattle.builder.specs.declared.layout.Layout.{Layout}
-use Rattle.builder.proofs.Controls.{publics-are, bounds-are}
+use Rattle.places.specs.Values.{allValues}
+use Rattle.places.specs.Rows.{rowStart}
+use Rattle.places.specs.Inner.Plan.{Rowed}
+use Rattle.places.specs.declared.layout.Layout.{Layout}
+use Rattle.places.proofs.Controls.{publics-are, bounds-are}
 use Rattle.readback.specs.Inner.Hits.{token, hits, FoundOf}
 use Rattle.readback.specs.Inner.Standing.{valueOf, justOne, lowest, valuesAt, valueRight, valuesRight, opposedAt, opposedFor, opposedAll}
 use Rattle.readback.specs.Inner.Standing.{holdsAt, holdersAt, wantedAt, freedFor, freedAll}

@@ -12,8 +12,8 @@ use Rattle.lists.specs.Lists.{pick, bit, same, from, range, every, keep, member
 use Rattle.table.specs.Scheme.{Scheme, scheme}
 use Rattle.process.specs.StateWords.{stateWords}
 use Rattle.net.specs.Firing.{isMarking}
-use Rattle.builder.specs.Values.{Values, allValues, privateValues}
-use Rattle.builder.specs.Places.{Place, equals, differs, free, control, places}
+use Rattle.places.specs.Values.{Values, allValues, privateValues}
+use Rattle.places.specs.Places.{Place, equals, differs, free, control, places}
 use Rattle.readback.specs.Configurations.{Spot, spot, Configuration, heldHere, stateShown}
 
 abbrev pub samePlace : Place → Place → Bool

@@ -8,9 +8,9 @@ mod names;
 mod shown;
 mod spots;
 
-use builder::Planned;
-use builder::layout::Layout;
 use lists::word16;
+use places::Planned;
+use places::layout::Layout;
 
 // What `read` did: how many words it wrote, or what it refuses: the table, bytes that are no marking of its net, a
 // marking that stands for no state, a lent output that is too short.
@@ -111,7 +111,7 @@ pub fn read(table: &[u16], marking: &[u8], state: &mut [u16]) -> Answer
     let mut definitions = [0u16; 256];
     let mut rows = [0u32; 64];
     let mut spots = [0u32; 256];
-    match builder::plan(
+    match places::plan(
         table,
         &mut owners,
         &mut homes,

@@ -11,7 +11,7 @@ ghost use Rattle.table.specs.Scheme.{scheme};
 ghost use Rattle.process.specs.States.{valueOf};
 ghost use Rattle.process.specs.StateWords.{valueWords};
 ghost use Rattle.process.specs.Inner.Values.{Number, Valued, valueAt};
-ghost use Rattle.builder.specs.Inner.Plan.{Defined};
+ghost use Rattle.places.specs.Inner.Plan.{Defined};
 ghost use Rattle.readback.specs.Configurations.{spot, nodeShown, nameShownAt, nameShown};
 ghost use Rattle.readback.specs.Inner.Showing.{AtNodes, spotAt, valueIn, NodeOf, CallOf, Bindings};
 use lists::store16;

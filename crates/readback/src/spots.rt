@@ -5,14 +5,14 @@ ghost use lib.ListN.{replicate};
 ghost use Rattle.lists.specs.Lists.{word, same, every, range};
 ghost use Rattle.table.specs.Words.{nodes, threads};
 ghost use Rattle.table.specs.Scheme.{scheme};
-ghost use Rattle.builder.specs.Places.{controls};
+ghost use Rattle.places.specs.Places.{controls};
 ghost use Rattle.readback.specs.Inner.Standing.{spotsRight};
 ghost use Rattle.readback.specs.Inner.Noting.{Placed, Noting, NotedAll, Seeking, SpotsFound};
 use crate::found::find;
-use builder::layout::Layout;
 use lists::store32;
 use lists::word16;
 use lists::word32;
+use places::layout::Layout;
 
 // How many control places a node has: they end where those of the next node start.
 fn control_count(table: &[u16], spots: &[u32], plan: Layout, node: usize) -> usize

@@ -11,9 +11,9 @@ use Rattle.lists.specs.Lists as Lists
 use Rattle.lists.specs.Lists.{pick, same, member}
 use Rattle.table.specs.Scheme.{Scheme}
 use Rattle.process.specs.States.{put}
-use Rattle.builder.specs.Values.{Values}
-use Rattle.builder.specs.Places.{Place, equals, differs, free, control}
-use Rattle.builder.specs.Transitions.{Move, Test, Command, skip, take, release, Description, isInput, isOutput, isLeft, isReached}
+use Rattle.places.specs.Values.{Values}
+use Rattle.places.specs.Places.{Place, equals, differs, free, control}
+use Rattle.places.specs.Transitions.{Move, Test, Command, skip, take, release, Description, isInput, isOutput, isLeft, isReached}
 use Rattle.readback.specs.Configurations.{Spot, spot, Configuration, heldHere, isSpot}
 
 abbrev pub sameSpot : Spot → Spot → Bool

@@ -8,8 +8,8 @@ use Rattle.table.specs.Scheme.{Scheme, new, call, silent, send, receive}
 use Rattle.process.specs.States.{State}
 use Rattle.process.specs.Steps.{Step, newStep, silentStep, communication, callStep}
 use Rattle.process.specs.Labels.{isBookkeeping, stepOf}
-use Rattle.builder.specs.Values.{Values}
-use Rattle.builder.specs.Transitions.{Description}
+use Rattle.places.specs.Values.{Values}
+use Rattle.places.specs.Transitions.{Description}
 use Rattle.readback.specs.Configurations.{Configuration}
 use Rattle.fidelity.specs.Inner.Marks.{after, Fits}
 use Rattle.fidelity.specs.Inner.Shapes.{Described}

@@ -9,8 +9,8 @@ use lib.ListN.{length, getD}
 use Rattle.lists.specs.Lists.{pick, bit, same}
 use Rattle.table.specs.Scheme.{Scheme, stop, new, call, silent, send, receive}
 use Rattle.net.specs.Image.{labelOf}
-use Rattle.builder.specs.Values.{Values}
-use Rattle.builder.specs.Transitions.{Move, move, test, skip, take, release, Description, making, going, communicating}
+use Rattle.places.specs.Values.{Values}
+use Rattle.places.specs.Transitions.{Move, move, test, skip, take, release, Description, making, going, communicating}
 use Rattle.readback.specs.Configurations.{Spot, spot, Configuration}
 use Rattle.fidelity.specs.Inner.Marks.{given, Motion, stay, pass, allows, Takes, WellFormed}
 

@@ -10,9 +10,9 @@ use Rattle.process.specs.States.{State, valueOf}
 use Rattle.process.specs.Steps as Steps
 use Rattle.process.specs.Labels.{isBookkeeping, stepOf}
 use Rattle.net.specs.Image.{Label}
-use Rattle.builder.specs.Values.{Values}
-use Rattle.builder.specs.Places.{places}
-use Rattle.builder.specs.Transitions.{Description}
+use Rattle.places.specs.Values.{Values}
+use Rattle.places.specs.Places.{places}
+use Rattle.places.specs.Transitions.{Description}
 use Rattle.readback.specs.Configurations.{Spot, spot, Configuration, nodeShown, nameShownAt, nameShown}
 use Rattle.fidelity.specs.Inner.Marks.{given, mark, WellFormed}
 

@@ -7,8 +7,8 @@ use Rattle.lists.specs.Lists.{word}
 use Rattle.table.specs.Words.{nodes, threads}
 use Rattle.table.specs.Owners.{definition}
 use Rattle.table.specs.Scheme.{scheme}
-use Rattle.builder.specs.Inner.Plan.{Spotted, controlOf}
-use Rattle.builder.specs.declared.layout.Layout.{Layout}
+use Rattle.places.specs.Inner.Plan.{Spotted, controlOf}
+use Rattle.places.specs.declared.layout.Layout.{Layout}
 use Rattle.readback.specs.Configurations.{spot}
 use Rattle.readback.specs.Inner.Standing.{firstOf, spotsBelow, spotsAt}
 

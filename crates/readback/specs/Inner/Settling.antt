@@ -7,9 +7,9 @@ use lib.ListN.{length, replicate}
 use Rattle.table.specs.Words.{names}
 use Rattle.table.specs.Scheme.{scheme}
 use Rattle.net.specs.Firing.{isMarking}
-use Rattle.builder.specs.Places
-use Rattle.builder.specs.Inner.Plan.{today, Known, Defined, Laid}
-use Rattle.builder.specs.declared.layout.Layout.{Layout}
+use Rattle.places.specs.Places
+use Rattle.places.specs.Inner.Plan.{today, Known, Defined, Laid}
+use Rattle.places.specs.declared.layout.Layout.{Layout}
 use Rattle.readback.specs.Reading.{marked, standsForState}
 use Rattle.readback.specs.Inner.Noting.{Seeking, SpotsFound}
 use Rattle.readback.specs.Inner.Showing.{AtNodes}

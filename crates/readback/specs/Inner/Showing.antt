@@ -11,7 +11,7 @@ use Rattle.table.specs.Causes.{cause}
 use Rattle.table.specs.Scheme.{binderOf}
 use Rattle.table.specs.Index.{binderNumber}
 use Rattle.process.specs.Inner.Values.{valueAt}
-use Rattle.builder.specs.Inner.Plan.{Defined}
+use Rattle.places.specs.Inner.Plan.{Defined}
 use Rattle.readback.specs.Configurations.{Spot, spot}
 
 -- each thread stands at a node of the table

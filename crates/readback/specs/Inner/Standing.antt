@@ -6,9 +6,9 @@ use Prim.Native.Nat.{ℕ, _+_, _-_}
 use lib.ListN.{length}
 use Rattle.lists.specs.Lists.{pick, bit, same, from, range, every, keep, flat, member}
 use Rattle.table.specs.Scheme.{Scheme}
-use Rattle.builder.specs.Values.{Values, allValues}
-use Rattle.builder.specs.Places.{controls}
-use Rattle.builder.specs.Rows.{rowStart, freeStart, controlStart}
+use Rattle.places.specs.Values.{Values, allValues}
+use Rattle.places.specs.Places.{controls}
+use Rattle.places.specs.Rows.{rowStart, freeStart, controlStart}
 use Rattle.readback.specs.Configurations.{Spot, spot, heldHere}
 use Rattle.readback.specs.Inner.Hits.{token, hits}
 

@@ -5,8 +5,8 @@ use mathlib.Core.Logic.{⊎-elim}
 use Prim.Native.Nat.{_+_}
 use native.Mathlib.Omega.{arith}
 use lib.ListN.{length}
-use Rattle.builder.specs.Places.{equals, differs, control}
-use Rattle.builder.proofs.Controls.{few-nodes}
+use Rattle.places.specs.Places.{equals, differs, control}
+use Rattle.places.proofs.Controls.{few-nodes}
 use Rattle.builder.proofs.Chains.{chain-few, has-value, has-difference, next-place, own-place, own-number, put-as, inside-as}
 use Rattle.builder.proofs.Filling.{Filled, fill-none, fill-with, fill-without, fill-few, fill-rising}
 use Rattle.builder.proofs.Copying.{read-few, read-holds, free-holds, no-value, no-difference, copy-arrow, Begun, begun-with, begun-without}

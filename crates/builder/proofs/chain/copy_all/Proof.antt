@@ -7,8 +7,9 @@ use lib.ListN.{length}
 use Rattle.lists.specs.Lists.{from}
 use Rattle.lists.proofs.Ranges.{member-from}
 use Rattle.table.specs.Scheme.{scheme}
-use Rattle.builder.specs.Transitions.{copies}
-use Rattle.builder.specs.Inner.Plan.{today, put, state, ofTable, argumentName}
+use Rattle.places.specs.Transitions.{copies}
+use Rattle.places.specs.Inner.Plan.{today, argumentName}
+use Rattle.builder.specs.Inner.Plan.{put, state, ofTable}
 use Rattle.builder.proofs.Writing.{put-none}
 use Rattle.builder.proofs.Chains.{chain-few, state-length}
 use Rattle.builder.proofs.ChainLoops.{part-inside, part-more, argument-member, copies-start, copies-more, copies-done}

@@ -5,15 +5,16 @@ use Prim.Native.Nat.{_-_, _≤_, _<_}
 use native.Mathlib.Omega.{arith}
 use lib.ListN.{length, drop}
 use Rattle.table.specs.Scheme.{scheme}
-use Rattle.builder.specs.Transitions.{copying}
-use Rattle.builder.specs.Inner.Plan.{today, values, put, state, ofTable}
+use Rattle.places.specs.Transitions.{copying}
+use Rattle.places.specs.Inner.Plan.{today, values}
+use Rattle.builder.specs.Inner.Plan.{put, state, ofTable}
 use Rattle.builder.proofs.Chains.{state-length}
 use Rattle.builder.proofs.ValueLoops.{map-done, map-inside, map-more, reach-count, reach-at, reach-member}
 use borrow.Author.Needs.{needs}
 use Rattle.builder.proofs.chain.copy_formal.Statement.{statement}
 use Rattle.builder.proofs.chain.copy_formal.Tie as tie
 use Rattle.builder.proofs.chain.copy.Reads as copy-reads
-use Rattle.builder.proofs.layout.reach_of.Reads as reach-of-reads
+use Rattle.places.proofs.layout.reach_of.Reads as reach-of-reads
 use Rattle.builder.proofs.layout.value_at.Reads as value-at-reads
 use Rattle.builder.proofs.layout.value_count.Reads as value-count-reads
 
@@ -32,7 +33,7 @@ reach-of-requires c κs = search needs
 value-count-requires : tie.Need-value-count-requires Inv-loop μ-loop
 value-count-requires c κs =
     let p = c .before .before .before .before .pre in
-    let l = c .reach-of .ensures in
+    let l = c .reach-of .ensures (p .6) in
     (l .order, omega (arith, l .inside, p .0 .few-publics), omega (arith, p .0 .privates-are, p .0 .few-bounds))
 
 loop-holds : tie.Need-loop-holds Inv-loop μ-loop
@@ -41,7 +42,7 @@ loop-holds c = (refl, refl, omega arith)
 value-at-requires : tie.Need-value-at-requires Inv-loop μ-loop
 value-at-requires c κs =
     let p = c .before .before .before .before .before .before .before .before .pre in
-    let l = c .before .before .before .before .reach-of .ensures in (
+    let l = c .before .before .before .before .reach-of .ensures (p .6) in (
       l .order,
       omega (arith, l .inside, p .0 .few-publics),
       omega (arith, p .0 .publics-are, p .0 .few-publics),
@@ -59,10 +60,10 @@ copy-requires c κs =
     let r = c .before .before .before .before .before .reach-of in
     let v = c .value-at in
     let vs = values w (a .a) in
-    let k = reach-count w (a .plan) (r .result) vs (p .0 .publics-are) (p .0 .privates-are) (r .ensures) (n .result) (n .ensures) in
+    let k = reach-count w (a .plan) (r .result) vs (p .0 .publics-are) (p .0 .privates-are) (r .ensures (p .6)) (n .result) (n .ensures) in
     let u : l .i < length vs = omega (arith, k, c .before .before .loop-test .taken) in
-    let e = reach-at w (a .plan) (r .result) vs (p .0 .publics-are) (p .0 .privates-are) (r .ensures) (l .i) (v .result) (v .ensures) in
-    let m = reach-member w (a .plan) (r .result) vs (p .0 .publics-are) (p .0 .privates-are) (r .ensures) (l .i) (v .result) u (v .ensures) in (
+    let e = reach-at w (a .plan) (r .result) vs (p .0 .publics-are) (p .0 .privates-are) (r .ensures (p .6)) (l .i) (v .result) (v .ensures) in
+    let m = reach-member w (a .plan) (r .result) vs (p .0 .publics-are) (p .0 .privates-are) (r .ensures (p .6)) (l .i) (v .result) u (v .ensures) in (
       p .0,
       p .1,
       p .2,
@@ -90,9 +91,9 @@ loop-again c =
     let r = c .before .before .before .before .before .before .before .before .reach-of in
     let v = c .before .before .before .value-at in
     let vs = values w (a .a) in
-    let k = reach-count w (a .plan) (r .result) vs (p .0 .publics-are) (p .0 .privates-are) (r .ensures) (n .result) (n .ensures) in
+    let k = reach-count w (a .plan) (r .result) vs (p .0 .publics-are) (p .0 .privates-are) (r .ensures (p .6)) (n .result) (n .ensures) in
     let u : l .i < length vs = omega (arith, k, c .before .before .before .before .before .loop-test .taken) in
-    let e = reach-at w (a .plan) (r .result) vs (p .0 .publics-are) (p .0 .privates-are) (r .ensures) (l .i) (v .result) (v .ensures) in (
+    let e = reach-at w (a .plan) (r .result) vs (p .0 .publics-are) (p .0 .privates-are) (r .ensures (p .6)) (l .i) (v .result) (v .ensures) in (
       map-more (ofTable w) _ (state (l .out) (l .q)) vs (l .i) (copying (scheme w) (today w) (a .c .node) (a .c .to) (a .k) (a .f) (a .a)) (l .inv .0)
           (v .result) u e _ (c .before .before .copy .ensures),
       state-length w (l .out) _ (l .q) _ _ (c .before .before .copy .ensures) ∙ l .inv .1,
@@ -111,7 +112,7 @@ returns c =
     let n = c .before .before .value-count in
     let r = c .before .before .before .reach-of in
     let vs = values w (a .a) in
-    let k = reach-count w (a .plan) (r .result) vs (p .0 .publics-are) (p .0 .privates-are) (r .ensures) (n .result) (n .ensures) in
+    let k = reach-count w (a .plan) (r .result) vs (p .0 .publics-are) (p .0 .privates-are) (r .ensures (p .6)) (n .result) (n .ensures) in
     map-done (ofTable w) _ (state (l .out) (l .q)) vs (l .i) (copying (scheme w) (today w) (a .c .node) (a .c .to) (a .k) (a .f) (a .a)) (l .inv .0)
     (omega (arith, k, c .loop-test .left))
 

@@ -1,8 +1,8 @@
 -- `builder::chain::release` meets its contract.
 use mathlib.Core.Path.{sym, _∙_}
 use native.Mathlib.Omega.{arith}
-use Rattle.builder.proofs.Names.{restricted-private, free-value}
-use Rattle.builder.proofs.Controls.{few-nodes}
+use Rattle.places.proofs.Names.{restricted-private, free-value}
+use Rattle.places.proofs.Controls.{few-nodes}
 use Rattle.builder.proofs.Chains.{chain-few, release-frees, release-public, release-gives, put-as, inside-as}
 use borrow.Author.Needs.{needs}
 use Rattle.builder.proofs.chain.release.Statement.{statement}
@@ -11,7 +11,7 @@ use Rattle.builder.proofs.chain.on.Reads as on-reads
 use Rattle.builder.proofs.layout.differs.Reads as differs-reads
 use Rattle.builder.proofs.layout.equals.Reads as equals-reads
 use Rattle.builder.proofs.layout.free_place.Reads as free-place-reads
-use Rattle.builder.proofs.layout.is_restricted.Reads as is-restricted-reads
+use Rattle.places.proofs.layout.is_restricted.Reads as is-restricted-reads
 use Rattle.builder.proofs.write.transition.Reads as transition-reads
 
 equals-requires : tie.Need-equals-requires
@@ -50,7 +50,7 @@ free-place-requires : tie.Need-free-place-requires
 free-place-requires c κs =
     let a = c .before .before .before .before .before .before .before .args in
     let p = c .before .before .before .before .before .before .before .pre in
-    let v = restricted-private (a .table .now) (a .rows .now) (a .plan) (p .0) (a .z) (a .v) (p .3) (sym (c .before .is-restricted .ensures)
+    let v = restricted-private (a .table .now) (a .rows .now) (a .plan) (p .0) (a .z) (a .v) (p .3) (sym (c .before .is-restricted .ensures (p .3 .high))
     ∙ c .if1 .taken) in
     (p .0, v .0, v .1)
 
@@ -78,7 +78,7 @@ transition-requires c κs =
     let a = c .before .before .before .before .before .before .before .before .before .before .before .before .args in
     let p = c .before .before .before .before .before .before .before .before .before .before .before .before .pre in
     let w = a .table .now in
-    let r = sym (c .before .before .before .before .before .before .is-restricted .ensures) ∙ c .before .before .before .before .before .if1 .taken in
+    let r = sym (c .before .before .before .before .before .before .is-restricted .ensures (p .3 .high)) ∙ c .before .before .before .before .before .if1 .taken in
     let v = restricted-private w (a .rows .now) (a .plan) (p .0) (a .z) (a .v) (p .3) r in
     let e = release-frees w (a .c) (p .1) (a .k) (p .2) (a .z) (a .v) (p .3)
     (c .before .before .before .before .before .before .before .before .equals .result) (c .before .before .before .on .result)
@@ -100,7 +100,7 @@ returns c =
     let a = c .before .before .before .before .before .before .before .before .before .before .before .before .before .before .before .args in
     let p = c .before .before .before .before .before .before .before .before .before .before .before .before .before .before .before .pre in
     let w = a .table .now in
-    let r = sym (c .before .before .before .before .before .before .before .before .before .is-restricted .ensures)
+    let r = sym (c .before .before .before .before .before .before .before .before .before .is-restricted .ensures (p .3 .high))
     ∙ c .before .before .before .before .before .before .before .before .if1 .taken in
     let v = restricted-private w (a .rows .now) (a .plan) (p .0) (a .z) (a .v) (p .3) r in
     let e = release-frees w (a .c) (p .1) (a .k) (p .2) (a .z) (a .v) (p .3)
@@ -163,7 +163,7 @@ differs-requires : tie.Need-differs-requires
 differs-requires c κs =
     let a = c .before .before .before .before .before .before .before .before .before .args in
     let p = c .before .before .before .before .before .before .before .before .before .pre in
-    let r = sym (c .before .before .before .is-restricted .ensures) ∙ c .before .before .if1 .left in
+    let r = sym (c .before .before .before .is-restricted .ensures (p .3 .high)) ∙ c .before .before .if1 .left in
     let v = free-value (a .table .now) (a .rows .now) (a .plan) (p .0) (a .z) (a .v) (p .3) r in
     (p .0, record { low = p .3 .low; high = p .3 .high; free = r; private = omega (arith, p .0 .publics-are, c .if2 .left); value = v })
 
@@ -191,7 +191,7 @@ transition-requires-3 c κs =
     let a = c .before .before .before .before .before .before .before .before .before .before .before .before .before .before .args in
     let p = c .before .before .before .before .before .before .before .before .before .before .before .before .before .before .pre in
     let w = a .table .now in
-    let r = sym (c .before .before .before .before .before .before .before .before .is-restricted .ensures)
+    let r = sym (c .before .before .before .before .before .before .before .before .is-restricted .ensures (p .3 .high))
     ∙ c .before .before .before .before .before .before .before .if1 .left in
     let v = free-value w (a .rows .now) (a .plan) (p .0) (a .z) (a .v) (p .3) r in
     let e = release-gives w (a .c) (p .1) (a .k) (p .2) (a .z) (a .v) (p .3)
@@ -220,7 +220,7 @@ returns-3 c =
     let a = c .before .before .before .before .before .before .before .before .before .before .before .before .before .before .before .before .before .args in
     let p = c .before .before .before .before .before .before .before .before .before .before .before .before .before .before .before .before .before .pre in
     let w = a .table .now in
-    let r = sym (c .before .before .before .before .before .before .before .before .before .before .before .is-restricted .ensures)
+    let r = sym (c .before .before .before .before .before .before .before .before .before .before .before .is-restricted .ensures (p .3 .high))
     ∙ c .before .before .before .before .before .before .before .before .before .before .if1 .left in
     let v = free-value w (a .rows .now) (a .plan) (p .0) (a .z) (a .v) (p .3) r in
     let e = release-gives w (a .c) (p .1) (a .k) (p .2) (a .z) (a .v) (p .3)

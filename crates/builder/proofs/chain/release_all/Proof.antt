@@ -4,8 +4,9 @@ use Prim.Native.Nat.{_+_, _-_, _≤_}
 use native.Mathlib.Omega.{arith}
 use lib.ListN.{length, take, drop}
 use Rattle.table.specs.Scheme.{scheme}
-use Rattle.builder.specs.Transitions.{releases}
-use Rattle.builder.specs.Inner.Plan.{today, put, state, ofTable}
+use Rattle.places.specs.Transitions.{releases}
+use Rattle.places.specs.Inner.Plan.{today}
+use Rattle.builder.specs.Inner.Plan.{put, state, ofTable}
 use Rattle.builder.proofs.Writing.{put-none}
 use Rattle.builder.proofs.Chains.{chain-few, state-length}
 use Rattle.builder.proofs.ChainLoops.{part-inside, part-more, taken-member, releases-start, releases-more, releases-done}

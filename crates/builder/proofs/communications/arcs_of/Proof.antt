@@ -8,7 +8,7 @@ use native.Mathlib.Omega.{arith}
 use lib.ListN.{length}
 use Rattle.table.specs.Words.{next}
 use Rattle.table.specs.Owners.{home}
-use Rattle.builder.specs.Places.{Place, equals, differs, control}
+use Rattle.places.specs.Places.{Place, equals, differs, control}
 use Rattle.builder.specs.Inner.Plan.{Rising}
 use Rattle.builder.proofs.Pairs.{Filled, Speaks, fill-none, fill-rising, speaks, reads-holds, takesOf, givesOf, read-bound, read-public}
 use Rattle.builder.proofs.Pairs.{joined, take-private, take-public, give, move-at, home-inside, send-next, receive-next, tells}

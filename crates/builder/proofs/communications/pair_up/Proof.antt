@@ -8,9 +8,10 @@ use lib.ListN.{length, drop}
 use Rattle.lists.specs.Lists.{flat}
 use Rattle.table.specs.Words.{publics, bounds}
 use Rattle.table.specs.Scheme.{scheme}
-use Rattle.builder.specs.Transitions.{Description, common}
+use Rattle.places.specs.Transitions.{Description, common}
 use Rattle.builder.specs.Inner.Writing.{Inside}
-use Rattle.builder.specs.Inner.Plan.{today, state, put, sentTold, Lists}
+use Rattle.places.specs.Inner.Plan.{today, Lists}
+use Rattle.builder.specs.Inner.Plan.{state, put, sentTold}
 use Rattle.builder.proofs.PairLoops.{values-few, value-inside, channel-high, heard-high, both-lists, pair-is, pair-done}
 use Rattle.builder.proofs.PairLoops.{pair-needs, pair-more}
 use Rattle.builder.proofs.communications.pair_up.Statement.{statement}
@@ -38,7 +39,8 @@ lists c =
     let a = s .args in
     both-lists (a .table .now) (a .rows .now) (a .plan) (s .pre .0) (a .p) (s .pre .1) (c .before .before .reach-of .result) (c .before .reach-of2 .result)
     (c .common .result)
-    (c .before .before .reach-of .ensures) (c .before .reach-of2 .ensures) (c .common .ensures)
+    (c .before .before .reach-of .ensures (channel-high (a .table .now) (a .rows .now) (a .plan) (s .pre .0) (a .p) (s .pre .1)))
+    (c .before .reach-of2 .ensures (heard-high (a .table .now) (a .rows .now) (a .plan) (s .pre .0) (a .p) (s .pre .1))) (c .common .ensures)
 
 inside : (s : tie.Start Inv-loop μ-loop) → Inside (put (s .args .table .now) (s .args .out .now) (s .args .h)
     (flat (sentTold (s .args .table .now) (s .args .p .send) (s .args .p .receive)) (both s)))
@@ -48,18 +50,10 @@ inside s =
     subst (λ (ds : List Description). Inside (put w (a .out .now) (a .h) ds)) (pair-is w (a .rows .now) (a .plan) (s .pre .0) (a .p) (s .pre .1)) (s .pre .2)
 
 reach-of-requires : tie.Need-reach-of-requires Inv-loop μ-loop
-reach-of-requires c κs =
-    let s = c .before .before .before in
-    let a = s .args in
-    let w = a .table .now in
-    channel-high w (a .rows .now) (a .plan) (s .pre .0) (a .p) (s .pre .1)
+reach-of-requires c κs = search needs
 
 reach-of-requires-2 : tie.Need-reach-of-requires-2 Inv-loop μ-loop
-reach-of-requires-2 c κs =
-    let s = c .before .before .before .before in
-    let a = s .args in
-    let w = a .table .now in
-    heard-high w (a .rows .now) (a .plan) (s .pre .0) (a .p) (s .pre .1)
+reach-of-requires-2 c κs = search needs
 
 common-requires : tie.Need-common-requires Inv-loop μ-loop
 common-requires c κs = search needs

@@ -11,7 +11,7 @@ use Rattle.lists.specs.Lists.{from, flat}
 use Rattle.lists.proofs.Tests.{same-true}
 use Rattle.table.specs.Words.{branches, branchKind}
 use Rattle.table.specs.Owners.{branchThread}
-use Rattle.builder.specs.Transitions.{Description}
+use Rattle.places.specs.Transitions.{Description}
 use Rattle.builder.specs.Inner.Writing.{Inside}
 use Rattle.builder.specs.Inner.Plan.{ofTable, state, put, withBranch, withAll}
 use Rattle.builder.proofs.Partners.{flat-done, flat-inside, flat-more, flat-skip, same-state, partner-told, partner-same}
@@ -30,8 +30,7 @@ word16-requires : tie.Need-word16-requires Inv-loop μ-loop
 word16-requires c κs = search needs
 
 thread-of-requires : tie.Need-thread-of-requires Inv-loop μ-loop
-thread-of-requires c κs =
-    (c .before .before .before .before .before .before .before .pre .0, c .before .before .before .before .before .before .before .pre .2)
+thread-of-requires c κs = search needs
 
 loop-holds : tie.Need-loop-holds Inv-loop μ-loop
 loop-holds c =
@@ -45,11 +44,7 @@ field4-requires : tie.Need-field4-requires Inv-loop μ-loop
 field4-requires c κs = search needs
 
 thread-of-requires-2 : tie.Need-thread-of-requires-2 Inv-loop μ-loop
-thread-of-requires-2 c κs = (
-  c .before .before .before .before .before .before .before .before .before .before .before .before .pre .0,
-  omega
-      (arith, c .before .before .loop-test .taken, c .before .before .before .before .before .word16 .ensures .is),
-)
+thread-of-requires-2 c κs = search needs
 
 field4-requires-2 : tie.Need-field4-requires-2 Inv-loop μ-loop
 field4-requires-2 c κs = search needs
@@ -117,8 +112,8 @@ pair-up-requires c κs =
     .before .if1 .taken in
     let d : (branchThread w (l .r) ≡ branchThread w (a .send) → ⊥) = λ e. c .before .before .before .before .before .before .before .before .before .before
     .before .before .before .if2 .taken (c .before .before .before .before .before .before .before .before .before .before .before .before .before .before
-    .thread-of2 .ensures ∙ e ∙ sym (c .before .before .before .before .before .before .before .before .before .before .before .before .before .before .before
-    .before .before .before .before .thread-of .ensures)) in (
+    .thread-of2 .ensures (s .pre .0) u ∙ e ∙ sym (c .before .before .before .before .before .before .before .before .before .before .before .before .before .before .before
+    .before .before .before .before .thread-of .ensures (s .pre .0) (s .pre .2))) in (
       s .pre .1 .rowed,
       pair-known w (a .homes .now) (a .definitions .now) (a .spots .now) (a .send) (l .r)
           (c .before .before .before .before .before .before .before .before .before .before .before .before .field42 .result)
@@ -162,7 +157,7 @@ loop-again c =
     let t = state (c .if1 .out) (c .if1 .q) in
     let u : l .r < branches w = omega (arith, n .ensures .is) in
     let f = c .before .field4 .ensures .is in
-    let o = c .before .before .before .before .thread-of .ensures in
+    let o = c .before .before .before .before .thread-of .ensures (s .pre .0) (s .pre .2) in
     let m = same-true (branchKind w (a .send)) 1 (s .pre .3) in
     ⊎-elim
     (λ v. (
@@ -170,14 +165,14 @@ loop-again c =
           h t
           (same-state (v .16 .last .1 .1 .1 .0) (c .if1 .out) (v .16 .result) (c .if1 .q) (v .19) (v .20) ∙ v .16 .ensures
           ∙ ap (put w (l .out) (l .q)) (sym (partner-told w (s .pre .0 .accepted) (a .send) (s .pre .2) m (l .r) u (sym f ∙ v .0 .taken)
-          (λ e. v .2 .taken (v .1 .ensures ∙ e ∙ sym o))))),
+          (λ e. v .2 .taken (v .1 .ensures (s .pre .0) u ∙ e ∙ sym o))))),
       ap length (v .19) ∙ v .16 .kept .1 .1 .1 .0 ∙ l .inv .1,
     ))
     (⊎-elim
     (λ v. (
       flat-skip (ofTable w) (put w (a .out .now) (a .h) (withAll w (a .send))) (state (l .out) (l .q)) (withBranch w (a .send)) (l .r) (n .result) (l .inv .0)
           h t (same-state (l .out) (c .if1 .out) (l .q) (c .if1 .q) (v .3) (v .4))
-          (partner-same w (s .pre .0 .accepted) (a .send) (s .pre .2) m (l .r) u (sym f ∙ v .0 .taken) (sym (v .1 .ensures) ∙ v .2 .left ∙ o)),
+          (partner-same w (s .pre .0 .accepted) (a .send) (s .pre .2) m (l .r) u (sym f ∙ v .0 .taken) (sym (v .1 .ensures (s .pre .0) u) ∙ v .2 .left ∙ o)),
       ap length (v .3) ∙ l .inv .1,
     ))
     (λ v. (

@@ -8,7 +8,7 @@ use native.Mathlib.Omega.{arith}
 use lib.ListN.{length}
 use Rattle.lists.specs.Lists.{from}
 use Rattle.table.specs.Words.{publics}
-use Rattle.builder.specs.Transitions.{Description}
+use Rattle.places.specs.Transitions.{Description}
 use Rattle.builder.specs.Inner.Writing.{Inside}
 use Rattle.builder.specs.Inner.Plan.{told, state, put}
 use Rattle.builder.proofs.PairLoops.{sent-high, self-is, self-reads, public-is, public-reads, first-run, first-inside, first-none, last-run}
@@ -31,12 +31,13 @@ told-first c =
     let s = begin c in
     let a = s .args in
     let r = c .before .before .reach-of in
+    let l = r .ensures (sent-high (a .table .now) (a .rows .now) (a .plan) (s .pre .0) (a .p) (s .pre .1)) in
     let b : publics (a .table .now) ≤ a .p .sent = omega (arith, s .pre .0 .publics-are, c .before .before .before .if2 .left) in
     let o = c .before .before .before .before .before .before .if1 .left in
     ⊎-elim
     (λ v. same-state (v .3 .last .1 .1 .1 .0) (c .if3 .out) (v .3 .result) (c .if3 .q) (v .6) (v .7) ∙ v .3 .ensures)
     (λ v. first-none (a .table .now) (a .rows .now) (a .plan) (s .pre .0) (a .p) (s .pre .1) (a .i) (s .pre .2) (s .pre .3) (r .result)
-    (r .ensures) o b (state (a .out .now) (a .h)) (state (c .if3 .out) (c .if3 .q)) (v .0 .left)
+    l o b (state (a .out .now) (a .h)) (state (c .if3 .out) (c .if3 .q)) (v .0 .left)
     (same-state (a .out .now) (c .if3 .out) (a .h) (c .if3 .q) (v .1) (v .2)))
     (c .if3 .came)
 
@@ -95,19 +96,20 @@ returns-2 c =
     (s .pre .0) (a .p) (s .pre .1) (a .i) (s .pre .2) (s .pre .3) (c .before .before .before .before .before .before .before .if1 .left) l))
 
 reach-of-requires : tie.Need-reach-of-requires
-reach-of-requires c κs =
-    let s = c .before .before .before .before .before .before .before .before in
-    let a = s .args in
-    sent-high (a .table .now) (a .rows .now) (a .plan) (s .pre .0) (a .p) (s .pre .1)
+reach-of-requires c κs = search needs
 
 sub-tell : tie.Need-sub-tell
-sub-tell c = search needs
+sub-tell c =
+    let s = c .before .before .before .before .before .before .before .before .before .before .before .before .before in
+    let a = s .args in
+    c .before .before .before .before .reach-of .ensures (sent-high (a .table .now) (a .rows .now) (a .plan) (s .pre .0) (a .p) (s .pre .1)) .order
 
 tell-requires : tie.Need-tell-requires
 tell-requires c κs =
     let s = c .before .before .before .before .before .before .before .before .before .before .before .before .before in
     let a = s .args in
     let r = c .before .before .before .before .reach-of in
+    let l = r .ensures (sent-high (a .table .now) (a .rows .now) (a .plan) (s .pre .0) (a .p) (s .pre .1)) in
     let b : publics (a .table .now) ≤ a .p .sent = omega (arith, s .pre .0 .publics-are, c .before .before .before .before .before .if2 .left) in
     let o = c .before .before .before .before .before .before .before .before .if1 .left in (
       s .pre .0,
@@ -115,9 +117,9 @@ tell-requires c κs =
       s .pre .2,
       s .pre .3,
       first-run (a .table .now) (a .rows .now) (a .plan) (s .pre .0) (a .p) (s .pre .1) (a .i) (s .pre .2)
-          (s .pre .3) (r .result) (r .ensures) o b (c .before .before .if3 .taken),
+          (s .pre .3) (r .result) l o b (c .before .before .if3 .taken),
       first-inside (a .table .now) (a .rows .now) (a .plan) (s .pre .0) (a .p)
-          (s .pre .1) (a .i) (s .pre .2) (s .pre .3) (r .result) (r .ensures) o b (state (a .out .now) (a .h)) (s .pre .4),
+          (s .pre .1) (a .i) (s .pre .2) (s .pre .3) (r .result) l o b (state (a .out .now) (a .h)) (s .pre .4),
     )
 
 tell-requires-2 : tie.Need-tell-requires-2
@@ -125,6 +127,7 @@ tell-requires-2 c κs =
     let s = c .before .before .before .before .before .before .before .before .before .before .before .before .before in
     let a = s .args in
     let r = c .before .before .before .before .reach-of in
+    let l = r .ensures (sent-high (a .table .now) (a .rows .now) (a .plan) (s .pre .0) (a .p) (s .pre .1)) in
     let b : publics (a .table .now) ≤ a .p .sent = omega (arith, s .pre .0 .publics-are, c .before .before .before .before .before .if2 .left) in
     let o = c .before .before .before .before .before .before .before .before .if1 .left in
     let j = c .before .before in
@@ -134,9 +137,9 @@ tell-requires-2 c κs =
       s .pre .2,
       s .pre .3,
       last-run (a .table .now) (a .rows .now) (a .plan) (s .pre .0) (a .p) (s .pre .1) (a .i) (s .pre .2)
-          (s .pre .3) (r .result) (r .ensures) o b h,
+          (s .pre .3) (r .result) l o b h,
       last-inside (a .table .now) (a .rows .now) (a .plan) (s .pre .0) (a .p) (s .pre .1) (a .i) (s .pre .2)
-          (s .pre .3) (r .result) (r .ensures) o b (state (a .out .now) (a .h)) (state (j .if3 .out) (j .if3 .q)) (told-first j) h (s .pre .4),
+          (s .pre .3) (r .result) l o b (state (a .out .now) (a .h)) (state (j .if3 .out) (j .if3 .q)) (told-first j) h (s .pre .4),
     )
 
 same-length-3 : tie.Need-same-length-3
@@ -147,12 +150,13 @@ returns-3 c =
     let s = c .before .before .before .before .before .before .before .before .before .before .before .before .before .before .before .before in
     let a = s .args in
     let r = c .before .before .before .before .before .before .before .reach-of in
+    let l = r .ensures (sent-high (a .table .now) (a .rows .now) (a .plan) (s .pre .0) (a .p) (s .pre .1)) in
     let b : publics (a .table .now) ≤ a .p .sent = omega
     (arith, s .pre .0 .publics-are, c .before .before .before .before .before .before .before .before .if2 .left) in
     let o = c .before .before .before .before .before .before .before .before .before .before .before .if1 .left in
     let j = c .before .before .before .before .before in
     let u = c .before .before .tell2 in
-    sent-both (a .table .now) (a .rows .now) (a .plan) (s .pre .0) (a .p) (s .pre .1) (a .i) (s .pre .2) (s .pre .3) (r .result) (r .ensures) o b
+    sent-both (a .table .now) (a .rows .now) (a .plan) (s .pre .0) (a .p) (s .pre .1) (a .i) (s .pre .2) (s .pre .3) (r .result) l o b
     (state (a .out .now) (a .h)) (state (j .if3 .out) (j .if3 .q)) (told-first j) (c .before .before .before .before .if4 .taken) (state
     (u .last .1 .1 .1 .0) (u .result)) (u .ensures)
 
@@ -164,10 +168,11 @@ returns-4 c =
     let s = c .before .before .before .before .before .before .before .before .before .before .before .before in
     let a = s .args in
     let r = c .before .before .before .reach-of in
+    let l = r .ensures (sent-high (a .table .now) (a .rows .now) (a .plan) (s .pre .0) (a .p) (s .pre .1)) in
     let b : publics (a .table .now) ≤ a .p .sent = omega (arith, s .pre .0 .publics-are, c .before .before .before .before .if2 .left) in
     let o = c .before .before .before .before .before .before .before .if1 .left in
     let j = c .before in
-    sent-first (a .table .now) (a .rows .now) (a .plan) (s .pre .0) (a .p) (s .pre .1) (a .i) (s .pre .2) (s .pre .3) (r .result) (r .ensures) o b
+    sent-first (a .table .now) (a .rows .now) (a .plan) (s .pre .0) (a .p) (s .pre .1) (a .i) (s .pre .2) (s .pre .3) (r .result) l o b
     (state (a .out .now) (a .h)) (state (j .if3 .out) (j .if3 .q)) (told-first j) (c .if4 .left)
 
 pub sent-spec : {M : Type 1} → statement M

@@ -1,7 +1,7 @@
 -- `builder::layout::differs` meets its contract.
 use mathlib.Core.Path.{_≡_, refl, sym, ap, _∙_}
 use native.Mathlib.Omega.{arith}
-use Rattle.builder.proofs.Names.{row-few, differs-of}
+use Rattle.places.proofs.Names.{row-few, differs-of}
 use borrow.Author.Needs.{needs}
 use Rattle.builder.proofs.layout.differs.Statement.{statement}
 use Rattle.builder.proofs.layout.differs.Tie as tie

@@ -3,11 +3,11 @@ use mathlib.Core.Path.{_≡_, refl, sym, ap, _∙_}
 use Prim.Native.Nat.{ℕ, _+_, _-_, _≤_, _<_}
 use native.Mathlib.Omega.{arith}
 use lib.ListN.{length}
-use Rattle.builder.proofs.Names.{row-few, restricted-private, free-value, equals-of-restricted, equals-of-free}
+use Rattle.places.proofs.Names.{row-few, restricted-private, free-value, equals-of-restricted, equals-of-free}
 use borrow.Author.Needs.{needs}
 use Rattle.builder.proofs.layout.equals.Statement.{statement}
 use Rattle.builder.proofs.layout.equals.Tie as tie
-use Rattle.builder.proofs.layout.is_restricted.Reads as is-restricted-reads
+use Rattle.places.proofs.layout.is_restricted.Reads as is-restricted-reads
 use Rattle.lists.proofs.word32.Reads as word32-reads
 
 word32-requires : tie.Need-word32-requires
@@ -20,7 +20,7 @@ sub-result : tie.Need-sub-result
 sub-result c =
     let a = c .before .before .before .before .before .before .args in
     let p = c .before .before .before .before .before .before .pre in
-    let r = sym (c .before .before .is-restricted .ensures) ∙ c .before .if1 .taken in
+    let r = sym (c .before .before .is-restricted .ensures (p .1 .high)) ∙ c .before .if1 .taken in
     let v = restricted-private (a .table .now) (a .rows .now) (a .plan) (p .0) (a .name) (a .v) (p .1) r in
     omega (arith, v, p .0 .publics-are, p .0 .few-publics, p .0 .few-bounds, c .before .before .before .word32 .ensures .is, row-few (a .table .now) (a .rows .now) (a .plan) (p .0) (a .name) (p .1 .low) (p .1 .high))
 
@@ -28,7 +28,7 @@ add-result : tie.Need-add-result
 add-result c =
     let a = c .before .before .before .before .before .before .args in
     let p = c .before .before .before .before .before .before .pre in
-    let r = sym (c .before .before .is-restricted .ensures) ∙ c .before .if1 .taken in
+    let r = sym (c .before .before .is-restricted .ensures (p .1 .high)) ∙ c .before .if1 .taken in
     let v = restricted-private (a .table .now) (a .rows .now) (a .plan) (p .0) (a .name) (a .v) (p .1) r in
     omega (arith, v, p .0 .publics-are, p .0 .few-publics, p .0 .few-bounds, c .before .before .before .word32 .ensures .is, row-few (a .table .now) (a .rows .now) (a .plan) (p .0) (a .name) (p .1 .low) (p .1 .high))
 
@@ -36,7 +36,7 @@ cast-result : tie.Need-cast-result
 cast-result c =
     let a = c .before .before .before .before .before .before .args in
     let p = c .before .before .before .before .before .before .pre in
-    let r = sym (c .before .before .is-restricted .ensures) ∙ c .before .if1 .taken in
+    let r = sym (c .before .before .is-restricted .ensures (p .1 .high)) ∙ c .before .if1 .taken in
     let v = restricted-private (a .table .now) (a .rows .now) (a .plan) (p .0) (a .name) (a .v) (p .1) r in
     omega (arith, v, p .0 .publics-are, p .0 .few-publics, p .0 .few-bounds, c .before .before .before .word32 .ensures .is, row-few (a .table .now) (a .rows .now) (a .plan) (p .0) (a .name) (p .1 .low) (p .1 .high))
 
@@ -45,13 +45,13 @@ returns c =
     let a = c .before .before .before .before .before .before .args in
     let p = c .before .before .before .before .before .before .pre in
     equals-of-restricted (a .table .now) (a .rows .now) (a .plan) (p .0) (a .name) (a .v) (c .before .before .before .word32 .result) (c .before .before .before .word32 .ensures .is) (p .1)
-    (sym (c .before .before .is-restricted .ensures) ∙ c .before .if1 .taken)
+    (sym (c .before .before .is-restricted .ensures (p .1 .high)) ∙ c .before .if1 .taken)
 
 add-result-2 : tie.Need-add-result-2
 add-result-2 c =
     let a = c .before .before .before .before .before .args in
     let p = c .before .before .before .before .before .pre in
-    let r = sym (c .before .is-restricted .ensures) ∙ c .if1 .left in
+    let r = sym (c .before .is-restricted .ensures (p .1 .high)) ∙ c .if1 .left in
     let v = free-value (a .table .now) (a .rows .now) (a .plan) (p .0) (a .name) (a .v) (p .1) r in
     omega (arith, v, p .0 .few-publics, p .0 .few-bounds, c .before .before .word32 .ensures .is, row-few (a .table .now) (a .rows .now) (a .plan) (p .0) (a .name) (p .1 .low) (p .1 .high))
 
@@ -59,7 +59,7 @@ cast-result-2 : tie.Need-cast-result-2
 cast-result-2 c =
     let a = c .before .before .before .before .before .args in
     let p = c .before .before .before .before .before .pre in
-    let r = sym (c .before .is-restricted .ensures) ∙ c .if1 .left in
+    let r = sym (c .before .is-restricted .ensures (p .1 .high)) ∙ c .if1 .left in
     let v = free-value (a .table .now) (a .rows .now) (a .plan) (p .0) (a .name) (a .v) (p .1) r in
     omega (arith, v, p .0 .few-publics, p .0 .few-bounds, c .before .before .word32 .ensures .is, row-few (a .table .now) (a .rows .now) (a .plan) (p .0) (a .name) (p .1 .low) (p .1 .high))
 
@@ -68,7 +68,7 @@ returns-2 c =
     let a = c .before .before .before .before .before .args in
     let p = c .before .before .before .before .before .pre in
     equals-of-free (a .table .now) (a .rows .now) (a .plan) (p .0) (a .name) (a .v) (c .before .before .word32 .result) (c .before .before .word32 .ensures .is) (p .1)
-    (sym (c .before .is-restricted .ensures) ∙ c .if1 .left)
+    (sym (c .before .is-restricted .ensures (p .1 .high)) ∙ c .if1 .left)
 
 pub equals-spec : {M : Type 1} → statement M
 equals-spec =

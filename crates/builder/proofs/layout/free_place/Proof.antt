@@ -1,7 +1,7 @@
 -- `builder::layout::free_place` meets its contract.
 use mathlib.Core.Path.{_≡_, refl, sym, ap, _∙_}
 use native.Mathlib.Omega.{arith}
-use Rattle.builder.proofs.Names.{free-of}
+use Rattle.places.proofs.Names.{free-of}
 use borrow.Author.Needs.{needs}
 use Rattle.builder.proofs.layout.free_place.Statement.{statement}
 use Rattle.builder.proofs.layout.free_place.Tie as tie

@@ -1,7 +1,7 @@
 -- `builder::layout::value_at` meets its contract.
 use mathlib.Core.Path.{_≡_, refl, sym, ap, _∙_}
 use native.Mathlib.Omega.{arith}
-use Rattle.builder.proofs.Names.{reached-few, reached-low, reached-high}
+use Rattle.places.proofs.Names.{reached-few, reached-low, reached-high}
 use borrow.Author.Needs.{needs}
 use Rattle.builder.proofs.layout.value_at.Statement.{statement}
 use Rattle.builder.proofs.layout.value_at.Tie as tie

@@ -1,7 +1,7 @@
 -- `builder::layout::value_count` meets its contract.
 use mathlib.Core.Path.{_≡_, refl, sym, ap, _∙_}
 use native.Mathlib.Omega.{arith}
-use Rattle.builder.proofs.Names.{reached-all, reached-publics}
+use Rattle.places.proofs.Names.{reached-all, reached-publics}
 use borrow.Author.Needs.{needs}
 use Rattle.builder.proofs.layout.value_count.Statement.{statement}
 use Rattle.builder.proofs.layout.value_count.Tie as tie

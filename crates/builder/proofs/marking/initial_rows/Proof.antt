@@ -5,7 +5,7 @@ use Prim.Native.Nat.{_+_, _-_, _≤_, _<_}
 use native.Mathlib.Omega.{arith}
 use borrow.Author.Needs.{needs}
 use Rattle.table.specs.Words.{names}
-use Rattle.builder.proofs.Names.{kind-restricted, kind-free}
+use Rattle.places.proofs.Names.{kind-restricted, kind-free}
 use Rattle.builder.proofs.Marked.{RowsTurn, rows-begin, rows-skip, rows-put, rows-room, rows-close}
 use Rattle.builder.proofs.marking.initial_rows.Statement.{statement}
 use Rattle.builder.proofs.marking.initial_rows.Tie as tie

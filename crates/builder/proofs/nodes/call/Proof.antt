@@ -9,10 +9,11 @@ use Rattle.table.specs.Words.{firstFormal, nodeFirst, nodeSecond}
 use Rattle.table.specs.Owners.{held}
 use Rattle.table.specs.Scheme
 use Rattle.table.specs.Scheme.{scheme}
-use Rattle.builder.specs.Transitions.{releases, copies, calling, ofNode}
+use Rattle.places.specs.Transitions.{releases, copies, calling, ofNode}
 use Rattle.builder.specs.Inner.Writing.{Inside}
-use Rattle.builder.specs.Inner.Plan.{today, put, state, ofTable, arrow, Chained, argumentName}
-use Rattle.builder.proofs.Controls.{few-nodes}
+use Rattle.places.specs.Inner.Plan.{today, argumentName}
+use Rattle.builder.specs.Inner.Plan.{put, state, ofTable, arrow, Chained}
+use Rattle.places.proofs.Controls.{few-nodes}
 use Rattle.builder.proofs.Chains.{chain-few, put-as, inside-as}
 use Rattle.builder.proofs.ChainLoops.{part-inside, part-more}
 use Rattle.builder.proofs.NodeArrows.{calling-arrow}

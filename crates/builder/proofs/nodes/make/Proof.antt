@@ -5,10 +5,10 @@ use native.Mathlib.Omega.{arith}
 use lib.ListN.{length}
 use Rattle.table.specs.Words.{nodeFirst, nodeSecond}
 use Rattle.table.specs.Scheme.{scheme}
-use Rattle.builder.specs.Places.{equals, free, control}
-use Rattle.builder.specs.Inner.Arcs.{allDiffer}
-use Rattle.builder.specs.Inner.Plan.{Holds}
-use Rattle.builder.proofs.Controls.{few-nodes}
+use Rattle.places.specs.Places.{equals, free, control}
+use Rattle.places.specs.Inner.Arcs.{allDiffer}
+use Rattle.places.specs.Inner.Plan.{Holds}
+use Rattle.places.proofs.Controls.{few-nodes}
 use Rattle.builder.proofs.Chains.{has-value, has-free-value, put-as, inside-as}
 use Rattle.builder.proofs.Filling.{Filled, fill-with, fill-few, fill-rising}
 use Rattle.builder.proofs.NodeArrows.{first-place, first-number}

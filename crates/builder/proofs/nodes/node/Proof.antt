@@ -5,7 +5,7 @@ use Rattle.lists.proofs.Tests.{same-yes}
 use Rattle.table.specs.Words.{nodeKind}
 use Rattle.builder.specs.Inner.Writing.{Inside}
 use Rattle.builder.specs.Inner.Plan.{put}
-use Rattle.builder.proofs.ByWords.{other-call, choice-inside}
+use Rattle.places.proofs.ByWords.{other-call, choice-inside}
 use Rattle.builder.proofs.NodeArrows.{all-stop, all-choice, all-new, all-call}
 use borrow.Author.Needs.{needs}
 use Rattle.builder.proofs.nodes.node.Statement.{statement}

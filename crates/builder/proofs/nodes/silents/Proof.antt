@@ -10,13 +10,14 @@ use Rattle.lists.specs.Lists.{flat}
 use Rattle.lists.proofs.Ranges.{flat-more, flat-done}
 use Rattle.table.specs.Words.{branches, next}
 use Rattle.table.specs.Scheme.{scheme}
-use Rattle.builder.specs.Transitions.{silents, going}
+use Rattle.places.specs.Transitions.{silents, going}
 use Rattle.builder.specs.Inner.Writing.{Inside}
-use Rattle.builder.specs.Inner.Plan.{today, put, state, ofTable}
+use Rattle.places.specs.Inner.Plan.{today}
+use Rattle.builder.specs.Inner.Plan.{put, state, ofTable}
 use Rattle.builder.proofs.Writing.{put-none}
 use Rattle.builder.proofs.Chains.{put-as, inside-as, state-length}
 use Rattle.builder.proofs.ChainLoops.{part-inside, part-more}
-use Rattle.builder.proofs.ByWords.{few-branches}
+use Rattle.places.proofs.ByWords.{few-branches}
 use Rattle.builder.proofs.NodeArrows.{silentsAt, going-arrow, silent-none, silent-one, silent-inside}
 use borrow.Author.Needs.{needs}
 use Rattle.builder.proofs.nodes.silents.Statement.{statement}

@@ -4,10 +4,11 @@ use mathlib.Core.List.{List}
 use Prim.Native.Nat.{ℕ}
 use native.Mathlib.Omega.{arith}
 use Rattle.table.specs.Scheme.{scheme}
-use Rattle.builder.specs.Transitions.{releases}
+use Rattle.places.specs.Transitions.{releases}
 use Rattle.builder.specs.Inner.Writing.{Inside}
-use Rattle.builder.specs.Inner.Plan.{today, put}
-use Rattle.builder.proofs.Controls.{few-nodes}
+use Rattle.places.specs.Inner.Plan.{today}
+use Rattle.builder.specs.Inner.Plan.{put}
+use Rattle.places.proofs.Controls.{few-nodes}
 use Rattle.builder.proofs.HeldChains.{held-taken, held-room, held-bounded, stop-few, stop-chained}
 use borrow.Author.Needs.{needs}
 use Rattle.builder.proofs.nodes.stop.Statement.{statement}

@@ -2,7 +2,7 @@
 use mathlib.Core.Path.{_≡_, refl, sym, ap, _∙_}
 use Prim.Native.Nat.{ℕ, _+_, _-_, _≤_, _<_}
 use native.Mathlib.Omega.{arith}
-use Rattle.builder.proofs.Names.{kind-tells}
+use Rattle.places.proofs.Names.{kind-tells}
 use borrow.Author.Needs.{needs}
 use Rattle.readback.proofs.names.is_restricted.Statement.{statement}
 use Rattle.readback.proofs.names.is_restricted.Tie as tie

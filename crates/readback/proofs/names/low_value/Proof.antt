@@ -2,7 +2,7 @@
 use mathlib.Core.Path.{_≡_, refl, sym, ap, _∙_}
 use Prim.Native.Nat.{ℕ, _+_, _-_, _≤_, _<_}
 use native.Mathlib.Omega.{arith}
-use Rattle.builder.proofs.Controls.{publics-are}
+use Rattle.places.proofs.Controls.{publics-are}
 use borrow.Author.Needs.{needs}
 use Rattle.readback.proofs.names.low_value.Statement.{statement}
 use Rattle.readback.proofs.names.low_value.Tie as tie

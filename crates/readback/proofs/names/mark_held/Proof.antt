@@ -4,7 +4,7 @@ use Prim.Native.Nat.{ℕ, _+_, _-_, _≤_, _<_}
 use native.Mathlib.Omega.{arith}
 use lib.ListN.{length}
 use Rattle.net.specs.Firing.{put}
-use Rattle.builder.proofs.Controls.{few-nodes}
+use Rattle.places.proofs.Controls.{few-nodes}
 use Rattle.readback.proofs.Holding.{all-fit, held-stop, held-call, held-other}
 use borrow.Author.Needs.{needs}
 use Rattle.readback.proofs.names.mark_held.Statement.{statement}

@@ -1,0 +1,116 @@
+-- Where the control places of an accepted table's nodes start, and how many there are: each number is below 65536.
+use mathlib.Core.Path.{_≡_, refl, _∙_}
+use mathlib.Core.Bool.{Bool, true, false}
+use mathlib.Core.List.{List}
+use Prim.Native.Nat.{ℕ, _+_, _*_, _≤_, _<_}
+use native.Mathlib.Omega.{arith}
+use native.Mathlib.Decide.{ℕ-discrete}
+use lib.ListN.{length, set}
+use lib.Seq.{getD-set-same, getD-set-other}
+use Rattle.lists.specs.Lists.{pick, word, from, range}
+use Rattle.lists.proofs.Ranges.{from-length, from-member}
+use Rattle.lists.proofs.Sums.{sum-few}
+use Rattle.table.specs.Words.{publics, bounds, nodes}
+use Rattle.table.specs.Scheme.{Scheme, Node, stop, choice, new, call, scheme}
+use Rattle.table.specs.Causes.{cause}
+use Rattle.table.specs.Accepted.{Accepted}
+use Rattle.table.proofs.Accepted.{accepted}
+use Rattle.places.specs.Values.{allValues}
+use Rattle.places.specs.Places.{controlsAt, controls}
+use Rattle.places.specs.Rows.{rowLength, freeStart, controlStart}
+use Rattle.places.specs.Inner.Plan.{today, controlOf, SpotsBelow}
+use Rattle.places.proofs.Rows.{free-start, control-first, control-next}
+use Rattle.places.proofs.Today.{row-length-today}
+use Rattle.places.proofs.Weights.{held-few}
+
+module _ (S : Scheme) (ok : Accepted S) where
+  as-many : allValues S .privates ≡ S .bounds
+  unfolding allValues
+  as-many = refl
+
+  node-few : (n : ℕ) → controls S n ≤ 65
+  unfolding controls
+  node-few n = go (S .node n)
+    where
+      held : length (S .held n) ≤ S .bounds
+      held = held-few S (allValues S) ok (omega (arith, as-many)) n
+
+      go : (ν : Node) → controlsAt S n ν ≤ 65
+      go stop = omega (arith, held, ok .few-bounds)
+      go (choice f c) = omega arith
+      go (new r l) = omega arith
+      go (call d) = omega (arith, held, ok .few-formals d, ok .few-bounds)
+
+  row-few : (x : ℕ) → S .publics ≤ x → rowLength S (allValues S) x ≤ 96
+  row-few x h = rw (row-length-today S x h) (go (S .restricted x))
+    where
+      go : (b : Bool) → pick b (S .bounds) (S .publics + 2 * S .bounds) ≤ 96
+      go true = omega (arith, ok .few-bounds)
+      go false = omega (arith, ok .few-bounds, ok .few-publics)
+
+  rows-few : freeStart S (allValues S) ≤ 3072
+  rows-few =
+      let a = sum-few (rowLength S (allValues S)) 96 (from (S .publics) (S .bounds)) (λ x m. row-few x (from-member x (S .publics) (S .bounds) m .0)) in
+      omega (arith, free-start S (allValues S), rw (from-length (S .publics) (S .bounds)) at a, ok .few-bounds)
+
+  starts-few : (n : ℕ) → controlStart S (allValues S) n ≤ 3104 + n * 65
+  unfolding controlStart
+  starts-few n =
+      let a = sum-few (controls S) 65 (range n) (λ k m. node-few k) in
+      omega (arith, rows-few, as-many, ok .few-bounds, rw (from-length 0 n) at a)
+
+-- ---- the counts of a table are those of its scheme
+
+module _ (w : List ℕ) where
+  pub nodes-are : scheme w .nodes ≡ nodes w
+  unfolding scheme
+  nodes-are = refl
+
+  pub publics-are : scheme w .publics ≡ publics w
+  unfolding scheme
+  publics-are = refl
+
+  pub bounds-are : scheme w .bounds ≡ bounds w
+  unfolding scheme
+  bounds-are = refl
+
+  pub privates-are : today w .privates ≡ scheme w .bounds
+  unfolding allValues
+  privates-are = refl
+
+  pub control-begins : controlOf w 0 ≡ freeStart (scheme w) (today w) + bounds w
+  control-begins = omega (arith, control-first (scheme w) (today w), privates-are, bounds-are)
+
+  pub control-goes-on : (n : ℕ) → controlOf w (n + 1) ≡ controlOf w n + controls (scheme w) n
+  control-goes-on n = control-next (scheme w) (today w) n
+
+  -- one start more
+  pub spots-more : (spots : List ℕ) (n v : ℕ) → n < length spots → v ≡ controlOf w n → SpotsBelow w spots n → SpotsBelow w (set spots n v) (n + 1)
+  spots-more spots n v u e h k b = go (ℕ-discrete k n)
+    where
+      go : Dec (k ≡ n) → word (set spots n v) k ≡ controlOf w k
+      go (yes q) = rw q (getD-set-same spots n v 0 u ∙ e)
+      go (no d) = getD-set-other spots n k v 0 d ∙ h k (omega arith)
+
+module _ (w : List ℕ) (h : cause w ≡ 0) where
+  pub few-nodes : nodes w ≤ 256
+  few-nodes = omega (arith, nodes-are w, accepted w h .few-nodes)
+
+  pub few-publics : publics w ≤ 32
+  few-publics = omega (arith, publics-are w, accepted w h .few-publics)
+
+  pub few-bounds : bounds w ≤ 32
+  few-bounds = omega (arith, bounds-are w, accepted w h .few-bounds)
+
+  pub free-few : freeStart (scheme w) (today w) ≤ 3072
+  free-few = rows-few (scheme w) (accepted w h)
+
+  pub controls-few : (n : ℕ) → controls (scheme w) n ≤ 65
+  controls-few n = node-few (scheme w) (accepted w h) n
+
+  pub control-few : (n : ℕ) → n ≤ nodes w → controlOf w n < 65536
+  control-few n l = omega (arith, starts-few (scheme w) (accepted w h) n, few-nodes)
+
+  -- the last control place of a node, and one more
+  pub control-last : (n : ℕ) → n < nodes w → controlOf w n + controls (scheme w) n ≤ 65535
+  control-last n l = omega (arith, starts-few (scheme w) (accepted w h) n, few-nodes, controls-few n)

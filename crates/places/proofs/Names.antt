@@ -1,0 +1,244 @@
+-- Names of a table as the code reads them: whether one is restricted, the values that one may hold, where its row starts.
+use mathlib.Core.Path.{_≡_, refl, sym, ap, _∙_}
+use mathlib.Core.Bool.{Bool, true, false, not, _||_}
+use mathlib.Core.List.{List, [], _∷_, _++_, append-nil}
+use Prim.Native.Nat.{ℕ, zero, suc, _+_, _-_, _*_, _≤_, _<_}
+use native.Mathlib.Omega.{arith}
+use lib.Dec.{leb, eqb}
+use lib.ListN.{length, getD, set, length-append, List·getD-append}
+use lib.Seq.{getD-append-add, getD-set-same, getD-set-other}
+use native.Mathlib.Decide.{ℕ-discrete}
+use borrow.Author.Tests.{le-leb, lt-leb, lt-ltb, le-ltb, eq-eqb, ne-eqb}
+use Rattle.lists.specs.Lists.{pick, same, word, from, range, keep, member}
+use Rattle.lists.proofs.Tests.{same-yes, same-no}
+use Rattle.lists.proofs.Ranges.{from-append, from-member, from-more, from-done, from-length, from-getD}
+use Rattle.lists.proofs.Members.{keep-append, keep-all, keep-none, keep-yes, keep-no}
+use Rattle.table.specs.Words.{publics, bounds, names, nameKind}
+use Rattle.table.specs.Scheme.{Scheme, scheme}
+use Rattle.places.specs.Values.{Values, allValues, valuesOf}
+use Rattle.places.specs.Places.{equals, differs, free}
+use Rattle.places.specs.Rows.{rowStart, freeStart, rowLength, numberOf}
+use Rattle.places.specs.Inner.Plan.{today, values, rowOf, freeNames, Rowed, RowsBelow, Holds, Differs, reached, Lists}
+use Rattle.places.specs.declared.layout.Layout.{Layout}
+use Rattle.places.specs.declared.layout.Reach.{Reach}
+use Rattle.places.proofs.Rows.{values-bound, row-first, row-next}
+use Rattle.places.proofs.Order.{row-rises}
+use Rattle.places.proofs.Today.{equals-number, equals-restricted, differs-number, row-length-today}
+
+-- ---- a reach as a list
+
+module _ (p n : ℕ) (r : Reach) where
+  pub reached-all : r .privates ≡ true → (r .high - r .low) + n ≡ length (reached p n r)
+  unfolding reached
+  reached-all e =
+      rw e (sym (length-append (from (r .low) (r .high - r .low)) (from p n) ∙ rw (from-length (r .low) (r .high - r .low), from-length p n)))
+
+  pub reached-publics : r .privates ≡ false → (r .high - r .low) ≡ length (reached p n r)
+  unfolding reached
+  reached-publics e = rw e (sym (simp append-nil (from-length (r .low) (r .high - r .low))))
+
+  pub reached-few : length (reached p n r) ≤ (r .high - r .low) + n
+  reached-few = go (r .privates) refl
+    where
+      go : (b : Bool) → r .privates ≡ b → length (reached p n r) ≤ (r .high - r .low) + n
+      go true e = omega (arith, reached-all e)
+      go false e = omega (arith, reached-publics e)
+
+  pub reached-low : (k : ℕ) → k < r .high - r .low → r .low + k ≡ getD (reached p n r) k 0
+  unfolding reached
+  reached-low k h =
+      sym (List·getD-append (from (r .low) (r .high - r .low)) (pick (r .privates) (from p n) []) 0 k (omega (arith, from-length (r .low) (r .high - r .low)))
+      ∙ from-getD (r .low) (r .high - r .low) k h)
+
+  reached-behind : (k : ℕ) → r .high - r .low ≤ k → r .privates ≡ true → k - (r .high - r .low) < n → p + (k - (r .high - r .low)) ≡ getD (reached p n r) k 0
+  unfolding reached
+  reached-behind k h e l =
+      let f = from (r .low) (r .high - r .low) in
+      let s : length f ≡ r .high - r .low = from-length (r .low) (r .high - r .low) in
+      let q : length f + (k - (r .high - r .low)) ≡ k = omega arith in
+      sym (ap (λ (i : ℕ). getD (f ++ pick (r .privates) (from p n) []) i 0) (sym q)
+      ∙ getD-append-add f (pick (r .privates) (from p n) []) (k - (r .high - r .low)) 0
+      ∙ rw e (from-getD p n (k - (r .high - r .low)) l))
+
+  pub reached-high : (k : ℕ) → r .high - r .low ≤ k → k < length (reached p n r) → p + (k - (r .high - r .low)) ≡ getD (reached p n r) k 0
+  reached-high k h l = go (r .privates) refl
+    where
+      go : (b : Bool) → r .privates ≡ b → p + (k - (r .high - r .low)) ≡ getD (reached p n r) k 0
+      go false e = absurd (omega (arith, reached-publics e))
+      go true e = reached-behind k h e (omega (arith, reached-all e))
+
+module _ (w : List ℕ) where
+  abbrev S : Scheme
+  S = scheme w
+
+  -- the scheme's counts are the table's
+  publics-of : S .publics ≡ publics w
+  unfolding scheme
+  publics-of = refl
+
+  bounds-of : S .bounds ≡ bounds w
+  unfolding scheme
+  bounds-of = refl
+
+  counts-of : S .publics + today w .privates ≡ publics w + bounds w
+  unfolding allValues scheme
+  counts-of = refl
+
+  pub public-free : (x : ℕ) → x < publics w → S .restricted x ≡ false
+  unfolding scheme
+  public-free x h = rw (lt-leb (publics w) x h)
+
+  pub kind-tells : (x k : ℕ) → publics w ≤ x → x < names w → k ≡ nameKind w x → eqb k 0 ≡ S .restricted x
+  unfolding scheme same
+  kind-tells x k h l e = rw (le-leb (publics w) x h, lt-ltb x (names w) l, e)
+
+  pub kind-restricted : (x k : ℕ) → publics w ≤ x → x < names w → k ≡ nameKind w x → k ≡ 0 → S .restricted x ≡ true
+  kind-restricted x k h l e z = sym (kind-tells x k h l e) ∙ eq-eqb k 0 z
+
+  pub kind-free : (x k : ℕ) → publics w ≤ x → x < names w → k ≡ nameKind w x → (k ≡ 0 → ⊥) → S .restricted x ≡ false
+  kind-free x k h l e z = sym (kind-tells x k h l e) ∙ ne-eqb k 0 z
+
+  -- ---- the values of a name
+
+  pub values-public : (x : ℕ) → x < publics w → values w x ≡ x ∷ []
+  unfolding valuesOf scheme
+  values-public x h = rw (lt-ltb x (publics w) h)
+
+  all-values : (x : ℕ) → publics w ≤ x → values w x ≡ keep (today w .reach x) (range (publics w) ++ from (publics w) (bounds w))
+  all-values x h =
+      let z : 0 + publics w ≡ publics w = omega arith in
+      values-bound S (today w) x (rw publics-of h)
+      ∙ ap (λ (k : ℕ). keep (today w .reach x) (range k)) counts-of
+      ∙ ap (keep (today w .reach x)) (from-append 0 (publics w) (bounds w) ∙ rw z)
+
+  pub values-restricted : (x : ℕ) → publics w ≤ x → S .restricted x ≡ true → values w x ≡ from (publics w) (bounds w)
+  unfolding allValues scheme
+  values-restricted x h r =
+      all-values x h ∙ keep-append (today w .reach x) (range (publics w)) (from (publics w) (bounds w))
+      ∙ rw (keep-none (today w .reach x) (range (publics w)) below, keep-all (today w .reach x) (from (publics w) (bounds w)) above)
+    where
+      below : (z : ℕ) → member z (range (publics w)) ≡ true → today w .reach x z ≡ false
+      below z m = rw (r, lt-leb (publics w) z (omega (arith, from-member z 0 (publics w) m)))
+
+      above : (z : ℕ) → member z (from (publics w) (bounds w)) ≡ true → today w .reach x z ≡ true
+      above z m = rw (r, le-leb (publics w) z (omega (arith, from-member z (publics w) (bounds w) m)))
+
+  pub values-free : (x : ℕ) → publics w ≤ x → S .restricted x ≡ false → values w x ≡ range (publics w) ++ from (publics w) (bounds w)
+  unfolding allValues scheme
+  values-free x h r = all-values x h ∙ keep-all (today w .reach x) (range (publics w) ++ from (publics w) (bounds w)) (λ z m. reached-free z)
+    where
+      reached-free : (z : ℕ) → today w .reach x z ≡ true
+      reached-free z = rw r
+
+  -- ---- as a reach
+
+  pub reach-public : (x p : ℕ) → p ≡ publics w → x < p → Lists (publics w) (bounds w) (record { low = x; high = x + 1; privates = false }) (values w x)
+  unfolding reached from
+  reach-public x p e h =
+      let one : x + 1 - x ≡ 1 = omega arith in
+      record { is = rw one (sym (values-public x (omega (arith, e)))); order = omega arith; inside = omega (arith, e) }
+
+  pub reach-restricted : (x : ℕ) → publics w ≤ x → S .restricted x ≡ true
+      → Lists (publics w) (bounds w) (record { low = 0; high = 0; privates = true }) (values w x)
+  unfolding reached from
+  reach-restricted x h r = record { is = sym (values-restricted x h r); order = omega arith; inside = omega arith }
+
+  pub reach-free : (x p : ℕ) → p ≡ publics w → publics w ≤ x → S .restricted x ≡ false
+      → Lists (publics w) (bounds w) (record { low = 0; high = p; privates = true }) (values w x)
+  unfolding reached
+  reach-free x p e h r =
+      let z : p - 0 ≡ publics w = omega (arith, e) in
+      record { is = rw z (sym (values-free x h r)); order = omega arith; inside = omega (arith, e) }
+
+  -- ---- free names, counted from x on
+
+  abbrev isFree : ℕ → Bool
+  isFree x = not (S .restricted x)
+
+  pub free-more : (x e : ℕ) → x < e → S .restricted x ≡ false
+      → length (keep isFree (from x (e - x))) ≡ suc (length (keep isFree (from (x + 1) (e - (x + 1)))))
+  free-more x e h r = rw (from-more x e h) (ap (λ (l : List ℕ). length l) (keep-yes isFree x (from (x + 1) (e - (x + 1))) (rw r)))
+
+  pub free-skip : (x e : ℕ) → x < e → S .restricted x ≡ true
+      → length (keep isFree (from x (e - x))) ≡ length (keep isFree (from (x + 1) (e - (x + 1))))
+  free-skip x e h r = rw (from-more x e h) (ap (λ (l : List ℕ). length l) (keep-no isFree x (from (x + 1) (e - (x + 1))) (rw r)))
+
+  pub free-start : (p e : ℕ) → p ≡ publics w → e ≡ p + bounds w → freeNames w ≡ 0 + length (keep isFree (from p (e - p)))
+  free-start p e h k =
+      let d : e - p ≡ bounds w = omega arith in
+      let r : freeNames w ≡ length (keep isFree (from p (e - p))) = rw (d, h) in
+      omega (arith, r)
+
+  pub free-done : (x e : ℕ) → e ≤ x → length (keep isFree (from x (e - x))) ≡ 0
+  unfolding keep
+  free-done x e h = rw (from-done x e h)
+
+  -- ---- rows
+
+  pub row-length : (x : ℕ) → publics w ≤ x → rowLength S (today w) x ≡ pick (S .restricted x) (bounds w) (publics w + 2 * bounds w)
+  row-length x h = row-length-today S x (rw publics-of h) ∙ rw (publics-of, bounds-of)
+
+  -- ---- places
+
+  module _ (rows : List ℕ) (plan : Layout) (k : Rowed w rows plan) where
+    pub row-few : (x : ℕ) → publics w ≤ x → x < names w → word rows x ≤ 3072
+    unfolding freeStart
+    row-few x h l =
+        let up : rowOf w x ≤ freeStart S (today w) =
+        row-rises S (today w) x (S .publics + S .bounds) (rw publics-of h) (rw (publics-of, bounds-of) (omega arith)) in
+        omega (arith, k .row-is x h l, k .few-free, k .free-is)
+
+    pub restricted-private : (x v : ℕ) → Holds w x v → S .restricted x ≡ true → (publics w ≤ v) × (v < names w)
+    restricted-private x v h r =
+        from-member v (publics w) (bounds w) (ap (member v) (sym (values-restricted x (h .low) r)) ∙ h .value)
+
+    pub free-value : (x v : ℕ) → Holds w x v → S .restricted x ≡ false → v < names w
+    free-value x v h r =
+        let z : 0 + publics w ≡ publics w = omega arith in
+        let e : values w x ≡ range (publics w + bounds w) =
+        values-free x (h .low) r ∙ sym (from-append 0 (publics w) (bounds w) ∙ rw z) in
+        omega (arith, from-member v 0 (publics w + bounds w) (ap (member v) (sym e) ∙ h .value))
+
+    pub equals-of-restricted : (x v row : ℕ) → row ≡ word rows x → Holds w x v → S .restricted x ≡ true
+        → row + (v - plan .publics) ≡ numberOf S (today w) (equals x v)
+    equals-of-restricted x v row e h r =
+        let p = restricted-private x v h r .0 in
+        let a : word rows x ≡ rowOf w x = k .row-is x (h .low) (h .high) in
+        let n = equals-restricted S x v r (rw publics-of p) in
+        omega (arith, n, publics-of, k .publics-are, a, e)
+
+    pub equals-of-free : (x v row : ℕ) → row ≡ word rows x → Holds w x v → S .restricted x ≡ false → row + v ≡ numberOf S (today w) (equals x v)
+    equals-of-free x v row e h r =
+        let a : word rows x ≡ rowOf w x = k .row-is x (h .low) (h .high) in
+        sym (equals-number S x v r ∙ rw (sym a, sym e))
+
+    pub differs-of : (x v row : ℕ) → row ≡ word rows x → Differs w x v → row + plan .privates + v ≡ numberOf S (today w) (differs x v)
+    differs-of x v row e h =
+        let a : word rows x ≡ rowOf w x = k .row-is x (h .low) (h .high) in
+        let n = differs-number S x v (rw publics-of (h .low)) (h .free) in
+        omega (arith, n, a, e, publics-of, bounds-of, k .privates-are, h .private)
+
+    pub free-of : (v : ℕ) → publics w ≤ v → plan .free + (v - plan .publics) ≡ numberOf S (today w) (free v)
+    free-of v h = rw (k .free-is, k .publics-are, publics-of)
+
+-- ---- rows filled in one after the other
+
+module _ (w : List ℕ) where
+  pub row-begins : rowOf w (publics w) ≡ 0
+  unfolding scheme
+  row-begins = row-first (scheme w) (today w)
+
+  pub row-goes-on : (x : ℕ) → publics w ≤ x → rowOf w (x + 1) ≡ rowOf w x + rowLength (scheme w) (today w) x
+  unfolding scheme
+  row-goes-on x h = row-next (scheme w) (today w) x h
+
+  pub rows-end : freeStart (scheme w) (today w) ≡ rowOf w (names w)
+  unfolding freeStart scheme
+  rows-end = refl
+
+  pub rows-more : (rows : List ℕ) (x v : ℕ) → x < length rows → v ≡ rowOf w x → RowsBelow w rows x → RowsBelow w (set rows x v) (x + 1)
+  rows-more rows x v u e h k p b = go (ℕ-discrete k x)
+    where
+      go : Dec (k ≡ x) → word (set rows x v) k ≡ rowOf w k
+      go (yes q) = rw q (getD-set-same rows x v 0 u ∙ e)
+      go (no d) = getD-set-other rows x k v 0 d ∙ h k p (omega arith)

@@ -1,0 +1,340 @@
+-- What the code counts for the nodes of an accepted table are the transitions of its nodes and their arcs.
+use mathlib.Core.Path.{_≡_, refl, sym, ap, _∙_}
+use mathlib.Core.Bool.{Bool, true, false}
+use mathlib.Core.List.{List, [], _∷_, _++_, map}
+use mathlib.Core.Logic.{inl, inr}
+use Prim.Native.Nat.{ℕ, suc, _+_, _-_, _*_, _≤_, _<_}
+use native.Mathlib.Decide.{decLt, ℕ-discrete}
+use native.Mathlib.Omega.{arith}
+use lib.Dec.{ltb}
+use lib.ListN.{length, length-append, length-map}
+use borrow.Author.Tests.{lt-ltb, le-ltb, le-leb, lt-leb}
+use Rattle.lists.specs.Lists.{pick, from, flat, member, positions, total}
+use Rattle.lists.proofs.Tests.{false-true, same-no}
+use Rattle.lists.proofs.Ranges.{from-length, from-member}
+use Rattle.lists.proofs.Members.{member-here, member-there}
+use Rattle.lists.proofs.Sums.{sum-append}
+use Rattle.table.specs.Words.{publics, bounds, nodes, branches, branchKind, nodeKind, nodeFirst, nodeSecond, channel, branchName, next, isSend, isReceive}
+use Rattle.table.specs.Words.{argumentsOf}
+use Rattle.table.specs.Owners.{held}
+use Rattle.table.specs.Scheme.{Scheme, Node, new, call, absent, send, receive, branchAt, scheme}
+use Rattle.table.specs.Causes.{cause}
+use Rattle.table.specs.Accepted.{Accepted, Usable}
+use Rattle.table.proofs.Accepted.{accepted}
+use Rattle.places.specs.Values.{Values, privateValues, valuesOf}
+use Rattle.places.specs.Places.{control, controls, places}
+use Rattle.places.specs.Rows.{IsBound, Exists, has-control}
+use Rattle.places.specs.Transitions.{Description, isInput, isOutput, releasing, releases, copying, copies, making, going, silents, calling, ofNode}
+use Rattle.places.specs.Inner.Plan.{today, freeNames}
+use Rattle.places.specs.Inner.Counting.{Sums, sums, addTimes, over, releaseSums, copySums, silentSums, nodeSums}
+use Rattle.places.proofs.Today.{values-free, values-restricted, otherNames}
+use Rattle.places.proofs.Names.{values-public}
+use Rattle.places.proofs.Initial.{some-control}
+use Rattle.places.proofs.Explicit.{going-inputs, going-outputs, calling-inputs, calling-outputs}
+use Rattle.places.proofs.ArcCounts.{next-place, new-inputs, new-outputs}
+use Rattle.places.proofs.Totals.{inputSum, outputSum, privatesAmong, boundBit, privates-bound, privates-public, total-same, total-each, sum-of-map}
+use Rattle.places.proofs.Totals.{release-input-sum, release-output-sum, copy-input-sum, copy-output-sum}
+use Rattle.places.proofs.Controls.{nodes-are, publics-are, bounds-are, privates-are}
+use Rattle.places.proofs.ByWords.{other-call, stop-node, choice-node, new-node, call-node, silent-branch, held-of, arguments-of, choice-inside}
+use Rattle.places.proofs.Adding.{over-one, over-none, silent-yes, silent-no}
+use Rattle.places.proofs.NodeCounts.{stop-sums, choice-sums, new-sums, call-sums}
+
+same-sums : (a a′ b b′ c c′ : ℕ) → a ≡ a′ → b ≡ b′ → c ≡ c′ → sums a b c ≡ sums a′ b′ c′
+same-sums a a′ b b′ c c′ p q r = rw (p, q, r)
+
+module _ (w : List ℕ) (h : cause w ≡ 0) where
+  abbrev S : Scheme
+  S = scheme w
+
+  abbrev U : Values
+  U = today w
+
+  abbrev ok : Accepted S
+  ok = accepted w h
+
+  -- with the transitions of the descriptions
+  unfoldable pub plus : Sums → List Description → Sums
+  plus s ds = sums (s .transitions + length ds) (s .inputs + inputSum S ok ds) (s .outputs + outputSum S ok ds)
+
+  pub plus-is : (s : Sums) (ds : List Description) (t i o : ℕ) → s .transitions + length ds ≡ t → s .inputs + inputSum S ok ds ≡ i
+      → s .outputs + outputSum S ok ds ≡ o → sums t i o ≡ plus s ds
+  unfolding plus
+  plus-is s ds t i o a b c = sym (same-sums _ t _ i _ o a b c)
+
+  pub plus-none : (s : Sums) → plus s [] ≡ s
+  unfolding plus total
+  plus-none s = same-sums _ (s .transitions) _ (s .inputs) _ (s .outputs) (omega arith) (omega arith) (omega arith)
+
+  pub plus-append : (s : Sums) (xs ys : List Description) → plus (plus s xs) ys ≡ plus s (xs ++ ys)
+  unfolding plus
+  plus-append s xs ys =
+      same-sums _ _ _ _ _ _ (omega (arith, length-append xs ys)) (omega (arith, sum-append (λ d. length (positions (isInput S d) (places S U))) xs ys))
+      (omega (arith, sum-append (λ d. length (positions (isOutput S d) (places S U))) xs ys))
+
+  pub over-plus : (step : Sums → ℕ → Sums) (g : ℕ → List Description) (xs : List ℕ)
+      → ((x : ℕ) → member x xs ≡ true → (s : Sums) → step s x ≡ plus s (g x)) → (s : Sums) → over step s xs ≡ plus s (flat g xs)
+  unfolding flat
+  over-plus step g [] f s = over-none step s ∙ sym (plus-none s)
+  over-plus step g (x ∷ xs) f s =
+      over-one step s x xs ∙ ap (λ (t : Sums). over step t xs) (f x (member-here x xs) s)
+      ∙ over-plus step g xs (λ z m. f z (member-there z x xs m)) (plus s (g x))
+      ∙ plus-append s (g x) (flat g xs)
+
+  -- ---- releases
+
+  module _ (n m : ℕ) (l : n < S .nodes) (u : m < S .nodes) where
+    release-one : (k z : ℕ) → k < controls S n → IsBound S U z → (s : Sums)
+        → releaseSums w s z ≡ plus s (map (releasing S U n m k z) (valuesOf S U z))
+    unfolding releaseSums
+    release-one k z c b s = go (S .restricted z) refl
+      where
+        ds : List Description
+        ds = map (releasing S U n m k z) (valuesOf S U z)
+
+        size : length ds ≡ length (valuesOf S U z)
+        size = length-map (valuesOf S U z) (releasing S U n m k z)
+
+        ins : inputSum S ok ds ≡ length (valuesOf S U z) * 2
+        ins = release-input-sum S ok n m k z l u c b
+
+        outs : outputSum S ok ds ≡ length (valuesOf S U z) + S .bounds
+        outs = release-output-sum S ok n m k z l u c b
+
+        go : (r : Bool) → S .restricted z ≡ r
+            → pick r (addTimes s (bounds w) 2 2) (addTimes (addTimes s (publics w) 2 1) (bounds w) 2 2) ≡ plus s ds
+        go true e =
+            let v = values-restricted S z (b .0) e in
+            plus-is s ds _ _ _ (omega (arith, size, v, bounds-are w)) (omega (arith, ins, v, bounds-are w)) (omega (arith, outs, v, bounds-are w))
+        go false e =
+            let v = values-free S z (b .0) e in
+            plus-is s ds _ _ _ (omega (arith, size, v, bounds-are w, publics-are w)) (omega (arith, ins, v, bounds-are w, publics-are w))
+            (omega (arith, outs, v, bounds-are w, publics-are w))
+
+    releases-sum : (zs : List ℕ) (k : ℕ) → ((z : ℕ) → member z zs ≡ true → IsBound S U z) → k + length zs ≤ controls S n → (s : Sums)
+        → over (releaseSums w) s zs ≡ plus s (releases S U n m k zs)
+    unfolding releases
+    releases-sum [] k b c s = over-none (releaseSums w) s ∙ sym (plus-none s)
+    releases-sum (z ∷ zs) k b c s =
+        over-one (releaseSums w) s z zs
+        ∙ ap (λ (t : Sums). over (releaseSums w) t zs) (release-one k z (omega arith) (b z (member-here z zs)) s)
+        ∙ releases-sum zs (suc k) (λ x q. b x (member-there x z zs q)) (omega arith) (plus s (map (releasing S U n m k z) (valuesOf S U z)))
+        ∙ plus-append s (map (releasing S U n m k z) (valuesOf S U z)) (releases S U n m (suc k) zs)
+
+    -- ---- copies
+
+    copy-one : (k f a : ℕ) → k < controls S n → IsBound S U f → S .restricted f ≡ false → a < S .publics + S .bounds → (a ≡ f → ⊥) → (s : Sums)
+        → copySums w s a ≡ plus s (map (copying S U n m k f a) (valuesOf S U a))
+    unfolding copySums
+    copy-one k f a c b r low d s = go (decLt a (publics w)) (S .restricted a) refl
+      where
+        ds : List Description
+        ds = map (copying S U n m k f a) (valuesOf S U a)
+
+        size : length ds ≡ length (valuesOf S U a)
+        size = length-map (valuesOf S U a) (copying S U n m k f a)
+
+        ins : inputSum S ok ds ≡ length (valuesOf S U a) * (1 + boundBit S ok a) + privatesAmong S ok (valuesOf S U a)
+        ins = copy-input-sum S ok n m k f a l u c b r low d
+
+        outs : outputSum S ok ds ≡ length (valuesOf S U a) * (2 + boundBit S ok a)
+        outs = copy-output-sum S ok n m k f a l u c b r low d
+
+        go : Dec (a < publics w) → (q : Bool) → S .restricted a ≡ q
+            → pick (ltb a (publics w)) (addTimes s 1 1 2) (pick q (addTimes s (bounds w) 3 3) (addTimes (addTimes s (publics w) 2 3) (bounds w) 3 3))
+            ≡ plus s ds
+        go (yes p) q e =
+            let p′ : a < S .publics = omega (arith, publics-are w) in
+            let v : length (valuesOf S U a) ≡ 1 = ap (λ (xs : List ℕ). length xs) (values-public w a p) in
+            let one : boundBit S ok a ≡ 0 = rw (lt-leb (S .publics) a p′) in
+            rw (lt-ltb a (publics w) p)
+            (plus-is s ds _ _ _ (omega (arith, size, v)) (rw (ins, v, one, privates-public S ok a p′) (omega arith)) (rw (outs, v, one) (omega arith)))
+        go (no p) true e =
+            let p′ : S .publics ≤ a = omega (arith, publics-are w) in
+            let v = values-restricted S a p′ e in
+            let one : boundBit S ok a ≡ 1 = rw (le-leb (S .publics) a p′) in
+            rw (le-ltb a (publics w) (omega arith))
+            (plus-is s ds _ _ _ (omega (arith, size, v, bounds-are w)) (rw (ins, v, one, privates-bound S ok a p′, bounds-are w) (omega arith))
+            (rw (outs, v, one, bounds-are w) (omega arith)))
+        go (no p) false e =
+            let p′ : S .publics ≤ a = omega (arith, publics-are w) in
+            let v = values-free S a p′ e in
+            let one : boundBit S ok a ≡ 1 = rw (le-leb (S .publics) a p′) in
+            rw (le-ltb a (publics w) (omega arith))
+            (plus-is s ds _ _ _ (omega (arith, size, v, bounds-are w, publics-are w))
+            (rw (ins, v, one, privates-bound S ok a p′, bounds-are w, publics-are w) (omega arith))
+            (rw (outs, v, one, bounds-are w, publics-are w) (omega arith)))
+
+    copies-sum : (fs as′ : List ℕ) (k : ℕ) → length as′ ≡ length fs → k + length fs ≤ controls S n
+        → ((f : ℕ) → member f fs ≡ true → IsBound S U f × (S .restricted f ≡ false))
+        → ((a : ℕ) → member a as′ ≡ true → (a < S .publics + S .bounds) × ((f : ℕ) → member f fs ≡ true → a ≡ f → ⊥)) → (s : Sums)
+        → over (copySums w) s as′ ≡ plus s (copies S U n m k fs as′)
+    unfolding copies
+    copies-sum [] [] k e c b d s = over-none (copySums w) s ∙ sym (plus-none s)
+    copies-sum [] (a ∷ as′) k e c b d s = absurd (omega arith)
+    copies-sum (f ∷ fs) [] k e c b d s = absurd (omega arith)
+    copies-sum (f ∷ fs) (a ∷ as′) k e c b d s =
+        over-one (copySums w) s a as′
+        ∙ ap (λ (t : Sums). over (copySums w) t as′)
+        (copy-one k f a (omega arith) (b f (member-here f fs) .0) (b f (member-here f fs) .1) (d a (member-here a as′) .0)
+        (d a (member-here a as′) .1 f (member-here f fs)) s)
+        ∙ copies-sum fs as′ (suc k) (omega arith) (omega arith) (λ x q. b x (member-there x f fs q))
+        (λ x q. (d x (member-there x a as′ q) .0, λ z o. d x (member-there x a as′ q) .1 z (member-there z f fs o)))
+        (plus s (map (copying S U n m k f a) (valuesOf S U a)))
+        ∙ plus-append s (map (copying S U n m k f a) (valuesOf S U a)) (copies S U n m (suc k) fs as′)
+
+  -- ---- one transition with one input and one output
+
+  plus-one : (s : Sums) (d : Description) → length (positions (isInput S d) (places S U)) ≡ 1 → length (positions (isOutput S d) (places S U)) ≡ 1
+      → addTimes s 1 1 1 ≡ plus s (d ∷ [])
+  unfolding total
+  plus-one s d i o = plus-is s (d ∷ []) _ _ _ (omega arith) (omega (arith, i)) (omega (arith, o))
+
+  first-has : (n : ℕ) → n < S .nodes → Exists S U (control n 0)
+  first-has n l = has-control {n = n} {k = 0} l (omega (arith, some-control S U n))
+
+  inside : (n : ℕ) → n < nodes w → n < S .nodes
+  inside n l = omega (arith, nodes-are w)
+
+  held-bound : (n z : ℕ) → member z (S .held n) ≡ true → IsBound S U z
+  held-bound n z q = let r = ok .held-name n z q in (r .low, r .high)
+
+  -- ---- nodes
+
+  module _ (n : ℕ) (l : n < nodes w) (s : Sums) where
+    stop-sum : nodeKind w n ≡ 0 → nodeSums w s n ≡ plus s (ofNode S U n (S .node n))
+    unfolding controls
+    stop-sum e =
+        let at = stop-node w h n l e in
+        stop-sums w h n l s e ∙ ap (over (releaseSums w) s) (sym (held-of w h n))
+        ∙ rw at (releases-sum n n (inside n l) (inside n l) (S .held n) 0 (held-bound n) (rw at (omega arith)) s)
+
+    new-sum : nodeKind w n ≡ 2 → nodeSums w s n ≡ plus s (ofNode S U n (S .node n))
+    new-sum e =
+        let at = new-node w h n l e in
+        new-sums w h n l s e ∙ rw at (plus-is s ds _ _ _ (omega (arith, size)) (rw (ins at) (omega arith)) (rw (outs at) (omega arith)))
+      where
+        r : ℕ
+        r = nodeFirst w n
+
+        m : ℕ
+        m = nodeSecond w n
+
+        ds : List Description
+        ds = map (making S U n r m) (privateValues S U)
+
+        count : length (privateValues S U) ≡ bounds w
+        count = from-length (S .publics) (U .privates) ∙ privates-are w ∙ bounds-are w
+
+        size : length ds ≡ bounds w
+        size = length-map (privateValues S U) (making S U n r m) ∙ count
+
+        others : otherNames S ≡ freeNames w
+        others = rw (publics-are w, bounds-are w)
+
+        private : (v : ℕ) → member v (privateValues S U) ≡ true → (S .publics ≤ v) × (v < S .publics + S .bounds)
+        private v q = let b = from-member v (S .publics) (U .privates) q in (b .0, omega (arith, b .1, privates-are w))
+
+        bound : S .node n ≡ new r m → IsBound S U r
+        bound at = let q = ok .new-name n r m at in (q .low, q .high)
+
+        ins : S .node n ≡ new r m → inputSum S ok ds ≡ bounds w * (freeNames w + 2)
+        ins at =
+            sum-of-map (λ d. length (positions (isInput S d) (places S U))) (making S U n r m) (privateValues S U)
+            ∙ total-same (λ v. length (positions (isInput S (making S U n r m v)) (places S U))) (λ v. otherNames S + 2) (privateValues S U)
+            (λ v q. new-inputs S ok n r m v (inside n l) (ok .new-inside n r m at .1) (ok .new-restricted n r m at) (bound at) (private v q .0)
+            (private v q .1))
+            ∙ total-each (otherNames S + 2) (privateValues S U) ∙ rw (count, others)
+
+        outs : S .node n ≡ new r m → outputSum S ok ds ≡ bounds w * (freeNames w + 2)
+        outs at =
+            sum-of-map (λ d. length (positions (isOutput S d) (places S U))) (making S U n r m) (privateValues S U)
+            ∙ total-same (λ v. length (positions (isOutput S (making S U n r m v)) (places S U))) (λ v. otherNames S + 2) (privateValues S U)
+            (λ v q. new-outputs S ok n r m v (inside n l) (ok .new-inside n r m at .1) (ok .new-restricted n r m at) (bound at) (private v q .0)
+            (private v q .1))
+            ∙ total-each (otherNames S + 2) (privateValues S U) ∙ rw (count, others)
+
+    -- a branch that is not silent has no transition of its own
+    loud : (b : ℕ) → (branchKind w b ≡ 0 → ⊥) → silents S U n b (S .branch b) ≡ []
+    unfolding scheme branchAt
+    loud b e = rw (same-no (branchKind w b) 0 e) (go (ltb b (branches w)) (isSend w b) (isReceive w b))
+      where
+        x : ℕ
+        x = channel w b
+
+        y : ℕ
+        y = branchName w b
+
+        go : (i j k : Bool) → silents S U n b (pick i (pick j (send x y (next w b)) (pick k (receive x y (next w b)) absent)) absent) ≡ []
+        go true true k = refl
+        go true false true = refl
+        go true false false = refl
+        go false j k = refl
+
+    silent-sum : (b : ℕ) → b < branches w → (t : Sums) → silentSums w t b ≡ plus t (silents S U n b (S .branch b))
+    silent-sum b u t = go (ℕ-discrete (branchKind w b) 0)
+      where
+        go : Dec (branchKind w b ≡ 0) → silentSums w t b ≡ plus t (silents S U n b (S .branch b))
+        go (yes e) =
+            let at = silent-branch w h b u e in
+            let m : next w b < S .nodes = rw at at (ok .next-inside b (rw at)) in
+            silent-yes w t b e ∙ rw at (plus-one t (going S U n b (next w b))
+            (ap (λ (xs : List ℕ). length xs) (going-inputs S U n b (next w b) (first-has n (inside n l))))
+            (ap (λ (xs : List ℕ). length xs) (going-outputs S U n b (next w b) (first-has (next w b) m))))
+        go (no e) = silent-no w t b e ∙ rw (loud b e) (sym (plus-none t))
+
+    choice-sum : nodeKind w n ≡ 1 → nodeSums w s n ≡ plus s (ofNode S U n (S .node n))
+    choice-sum e =
+        let at = choice-node w h n l e in
+        let f = nodeFirst w n in
+        let c = nodeSecond w n in
+        choice-sums w h n l s e ∙ rw at (over-plus (silentSums w) (λ b. silents S U n b (S .branch b)) (from f c)
+        (λ b q. silent-sum b (omega (arith, from-member b f c q, choice-inside w h n l e))) s)
+
+    call-controls : (d : ℕ) → S .node n ≡ call d → controls S n ≡ suc (length (S .formals d) + length (S .held n))
+    unfolding controls
+    call-controls d at = rw at
+
+    call-sum : (nodeKind w n ≡ 0 → ⊥) → (nodeKind w n ≡ 1 → ⊥) → (nodeKind w n ≡ 2 → ⊥) → nodeSums w s n ≡ plus s (ofNode S U n (S .node n))
+    call-sum a b c =
+        let e = other-call w h n l a b c in
+        let at = call-node w h n l e in
+        let d = nodeFirst w n in
+        let u = ok .call-inside n d at .1 in
+        let m = ok .root-inside d u in
+        let size = call-controls d at in
+        let np = next-place S U n 0 (S .root d) (inside n l) m in
+        let cs = copies S U n (S .root d) 1 (S .formals d) (S .arguments n) in
+        let rs = releases S U n (S .root d) (suc (length (S .formals d))) (S .held n) in
+        let one = plus-one s (calling S U n (S .root d))
+        (ap (λ (xs : List ℕ). length xs) (calling-inputs S U n (S .root d) (first-has n (inside n l))))
+        (ap (λ (xs : List ℕ). length xs) (calling-outputs S U n (S .root d) (np .place) (np .goes) (np .has))) in
+        call-sums w h n l s a b c
+        ∙ ap (λ (t : Sums). over (releaseSums w) (over (copySums w) t (argumentsOf w n)) (held w n)) one
+        ∙ rw (sym (arguments-of w h n l e), sym (held-of w h n))
+        (ap (λ (t : Sums). over (releaseSums w) t (S .held n))
+        (copies-sum n (S .root d) (inside n l) m (S .formals d) (S .arguments n) 1 (ok .call-arguments n d at) (omega (arith, size)) (formal d)
+        (argument-facts d at) (plus s (calling S U n (S .root d) ∷ [])))
+        ∙ releases-sum n (S .root d) (inside n l) m (S .held n) (suc (length (S .formals d))) (held-bound n) (omega (arith, size))
+        (plus (plus s (calling S U n (S .root d) ∷ [])) cs)
+        ∙ plus-append (plus s (calling S U n (S .root d) ∷ [])) cs rs ∙ plus-append s (calling S U n (S .root d) ∷ []) (cs ++ rs)
+        ∙ ap (λ (ν : Node). plus s (ofNode S U n ν)) (sym at))
+      where
+        formal : (d f : ℕ) → member f (S .formals d) ≡ true → IsBound S U f × (S .restricted f ≡ false)
+        formal d f q = let r = ok .formal-name d f q in ((r .low, r .high), ok .formal-free d f q)
+
+        argument-facts : (d : ℕ) → S .node n ≡ call d → (x : ℕ) → member x (S .arguments n) ≡ true
+            → (x < S .publics + S .bounds) × ((f : ℕ) → member f (S .formals d) ≡ true → x ≡ f → ⊥)
+        argument-facts d at x q = go (ok .argument-usable n d x at q)
+          where
+            go : Usable S n x → (x < S .publics + S .bounds) × ((f : ℕ) → member f (S .formals d) ≡ true → x ≡ f → ⊥)
+            go (inl p) = (omega arith, λ f m e. omega (arith, formal d f m .0 .0))
+            go (inr p) = (held-bound n x p .1, λ f m e. false-true (ok .call-fresh n d f at m) (rw (sym e) p))
+
+    pub node-sum : nodeSums w s n ≡ plus s (ofNode S U n (S .node n))
+    node-sum = go (ℕ-discrete (nodeKind w n) 0) (ℕ-discrete (nodeKind w n) 1) (ℕ-discrete (nodeKind w n) 2)
+      where
+        go : Dec (nodeKind w n ≡ 0) → Dec (nodeKind w n ≡ 1) → Dec (nodeKind w n ≡ 2) → nodeSums w s n ≡ plus s (ofNode S U n (S .node n))
+        go (yes e) b c = stop-sum e
+        go (no a) (yes e) c = choice-sum e
+        go (no a) (no b) (yes e) = new-sum e
+        go (no a) (no b) (no c) = call-sum a b c

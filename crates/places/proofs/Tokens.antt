@@ -1,0 +1,125 @@
+-- How many places are marked at first: N for each input and formal, N for [*≠n], one for each thread.
+use mathlib.Core.Path.{_≡_, refl, sym, ap, _∙_}
+use mathlib.Core.Bool.{Bool, true, false}
+use mathlib.Core.List.{List, [], _∷_, _++_, map}
+use Prim.Native.Nat.{ℕ, _+_, _*_, _≤_, _<_}
+use native.Mathlib.Nat.{mul-le-mul}
+use native.Mathlib.Omega.{arith}
+use lib.ListN.{length, length-append, length-map}
+use Rattle.lists.specs.Lists.{pick, same, from, range, keep, flat, some, member, Distinct, none, more}
+use Rattle.lists.proofs.Tests.{and-intro, and-left, false-true, not-true-false}
+use Rattle.lists.proofs.Ranges.{from-length, from-member, member-from}
+use Rattle.lists.proofs.Members.{member-here, member-there, member-keep, map-member, flat-length, distinct-head, distinct-tail, distinct-from, distinct-keep}
+use Rattle.lists.proofs.Counts.{flat-keep-length}
+use Rattle.lists.proofs.Positions.{distinct-within}
+use Rattle.lists.proofs.Sums.{total-pick}
+use Rattle.table.specs.Words.{bounds, threads}
+use Rattle.table.specs.Scheme.{Scheme, scheme}
+use Rattle.table.specs.Causes.{cause}
+use Rattle.table.specs.Accepted.{Accepted}
+use Rattle.table.proofs.Accepted.{accepted}
+use Rattle.places.specs.Values.{Values, allValues, valuesOf, privateValuesOf}
+use Rattle.places.specs.Rows.{rowStart, freeStart, controlStart}
+use Rattle.places.specs.Inner.Arcs.{startsAt, initialNumbers}
+use Rattle.places.specs.Inner.Plan.{today, freeNames}
+use Rattle.places.proofs.Today.{otherNames, privates-length}
+use Rattle.places.proofs.Controls.{few-bounds}
+
+some-member : (f : ℕ → ℕ) (n : ℕ) (xs : List ℕ) → some (λ t. same n (f t)) xs ≡ member n (map f xs)
+unfolding some member
+some-member f n [] = refl
+some-member f n (x ∷ xs) = rw (some-member f n xs)
+
+-- a map that can be undone keeps numbers apart
+distinct-map : (f g : ℕ → ℕ) (xs : List ℕ) → ((x : ℕ) → member x xs ≡ true → g (f x) ≡ x) → Distinct xs → Distinct (map f xs)
+distinct-map f g [] h d = none
+distinct-map f g (x ∷ xs) h d =
+    more (not-true-false (member (f x) (map f xs)) apart) (distinct-map f g xs (λ z m. h z (member-there z x xs m)) (distinct-tail d))
+  where
+    apart : member (f x) (map f xs) ≡ true → ⊥
+    apart m =
+        let s = map-member f (f x) xs m in
+        let e : x ≡ s .source = sym (h x (member-here x xs)) ∙ ap g (s .gives) ∙ h (s .source) (member-there (s .source) x xs (s .stands)) in
+        false-true (distinct-head d) (rw e (s .stands))
+
+module _ (S : Scheme) (ok : Accepted S) where
+  abbrev U : Values
+  U = allValues S
+
+  privates-are : U .privates ≡ S .bounds
+  unfolding allValues
+  privates-are = refl
+
+  abbrev first : ℕ → ℕ
+  first t = S .root (S .entry t)
+
+  abbrev firsts : List ℕ
+  firsts = map first (range (S .threads))
+
+  -- the nodes where threads start are the roots of their entries
+  starts-count : length (keep (startsAt S U) (range (S .nodes))) ≡ S .threads
+  starts-count =
+      let a = distinct-within (keep (startsAt S U) (range (S .nodes))) firsts
+      (distinct-keep (startsAt S U) (range (S .nodes)) (distinct-from 0 (S .nodes))) to in
+      let b = distinct-within firsts (keep (startsAt S U) (range (S .nodes)))
+      (distinct-map first (S .thread) (range (S .threads)) (λ t m. ok .entry-thread t (inside t m)) (distinct-from 0 (S .threads))) of in
+      omega (arith, a, b, length-map (range (S .threads)) first, from-length 0 (S .threads))
+    where
+      inside : (t : ℕ) → member t (range (S .threads)) ≡ true → t < S .threads
+      inside t m = omega (arith, from-member t 0 (S .threads) m)
+
+      to : (z : ℕ) → member z (keep (startsAt S U) (range (S .nodes))) ≡ true → member z firsts ≡ true
+      to z m =
+          sym (some-member first z (range (S .threads)))
+          ∙ and-left (startsAt S U z) (member z (range (S .nodes))) (sym (member-keep (startsAt S U) z (range (S .nodes))) ∙ m)
+
+      of : (z : ℕ) → member z firsts ≡ true → member z (keep (startsAt S U) (range (S .nodes))) ≡ true
+      of z m =
+          let s = map-member first z (range (S .threads)) m in
+          let l = ok .root-inside (S .entry (s .source)) (ok .entry-inside (s .source) (inside (s .source) (s .stands))) in
+          member-keep (startsAt S U) z (range (S .nodes))
+          ∙ and-intro (startsAt S U z) (member z (range (S .nodes))) (some-member first z (range (S .threads)) ∙ m)
+          (member-from z 0 (S .nodes) (omega arith) (omega (arith, s .gives, l)))
+
+  abbrev differing : ℕ → List ℕ
+  differing x = pick (S .restricted x) [] (from (rowStart S U x + length (valuesOf S U x)) (length (privateValuesOf S U x)))
+
+  row-tokens : (x : ℕ) → length (differing x) ≡ pick (S .restricted x) 0 (S .bounds)
+  row-tokens x = go (S .restricted x)
+    where
+      go : (b : Bool) → length (pick b [] (from (rowStart S U x + length (valuesOf S U x)) (length (privateValuesOf S U x)))) ≡ pick b 0 (S .bounds)
+      go true = refl
+      go false = from-length (rowStart S U x + length (valuesOf S U x)) (length (privateValuesOf S U x)) ∙ privates-length S x
+
+  initial-count : length (initialNumbers S U) ≡ otherNames S * S .bounds + S .bounds + S .threads
+  unfolding initialNumbers
+  initial-count =
+      let xs = from (S .publics) (S .bounds) in
+      let fs = from (freeStart S U) (U .privates) in
+      let ns = flat (λ n. pick (startsAt S U n) (controlStart S U n ∷ []) []) (range (S .nodes)) in
+      omega (
+        arith,
+        length-append (flat differing xs) (fs ++ ns),
+        length-append fs ns,
+        flat-length differing xs,
+        total-pick (λ x. length (differing x)) (S .restricted) 0 (S .bounds) xs (λ x m. row-tokens x),
+        from-length (freeStart S U) (U .privates),
+        privates-are,
+        flat-keep-length (startsAt S U) (controlStart S U) (range (S .nodes)),
+        starts-count,
+      )
+
+module _ (w : List ℕ) (h : cause w ≡ 0) where
+  pub tokens-are : length (initialNumbers (scheme w) (today w)) ≡ freeNames w * bounds w + bounds w + threads w
+  unfolding scheme
+  tokens-are = initial-count (scheme w) (accepted w h)
+
+  pub few-threads : threads w ≤ 8
+  unfolding scheme
+  few-threads = accepted w h .few-threads
+
+  pub product-few : (f b : ℕ) → f ≤ b → b ≡ bounds w → f * b ≤ 1024
+  product-few f b l e =
+      let u : f ≤ 32 = omega (arith, few-bounds w h) in
+      let v : b ≤ 32 = omega (arith, few-bounds w h) in
+      mul-le-mul u v

@@ -1,0 +1,101 @@
+-- Counts of transitions and of their arcs, by multiplication.
+use mathlib.Core.Bool.{Bool, true, false, _&&_, not}
+use mathlib.Core.List.{List, [], _∷_, _++_, map}
+use Prim.Native.Nat.{ℕ, _+_, _*_, _<_}
+use lib.Dec.{ltb, leb}
+use lib.ListN.{length}
+use Rattle.lists.specs.Lists.{pick, bit, same, range, from, keep, flat}
+use Rattle.table.specs.Words.{publics, bounds, nodes, branches, isStop, isChoice, isNew, isSilent, isSend, isReceive, nodeFirst, nodeSecond, channel, branchName, argumentsOf}
+use Rattle.table.specs.Owners.{held, branchThread}
+use Rattle.table.specs.Scheme.{scheme}
+use Rattle.net.specs.Net.{Transition}
+use Rattle.places.specs.Transitions.{common}
+use Rattle.places.specs.Inner.Plan.{today, values, freeNames}
+use Rattle.places.specs.declared.count.Totals.{Totals}
+
+pub record Sums : Type 0 where
+  pub transitions : ℕ
+  pub inputs : ℕ
+  pub outputs : ℕ
+
+abbrev pub sums : ℕ → ℕ → ℕ → Sums
+sums t i o = record { transitions = t; inputs = i; outputs = o }
+
+abbrev pub sumsOf : Totals → Sums
+sumsOf t = sums (t .transitions) (t .inputs) (t .outputs)
+
+-- every count is below 2³²
+pub record Few (s : Sums) : Type 0 where
+  pub few-transitions : s .transitions < 4294967296
+  pub few-inputs : s .inputs < 4294967296
+  pub few-outputs : s .outputs < 4294967296
+
+-- with the transitions of all elements of a list
+abbrev pub addOne : Sums → Transition → Sums
+addOne s t = sums (s .transitions + 1) (s .inputs + length (t .inputs)) (s .outputs + length (t .outputs))
+
+unfoldable pub countAll : {A : Type 0} → (A → Transition) → Sums → List A → Sums
+countAll f s [] = s
+countAll f s (x ∷ xs) = countAll f (addOne s (f x)) xs
+
+-- `times` transitions more, each with as many arcs
+abbrev pub addTimes : Sums → ℕ → ℕ → ℕ → Sums
+addTimes s times i o = sums (s .transitions + times) (s .inputs + times * i) (s .outputs + times * o)
+
+-- a step for each number of a list
+unfoldable pub over : (Sums → ℕ → Sums) → Sums → List ℕ → Sums
+over step s [] = s
+over step s (x ∷ xs) = over step (step s x) xs
+
+module _ (w : List ℕ) where
+  -- the releases of a name
+  unfoldable pub releaseSums : Sums → ℕ → Sums
+  releaseSums s z = pick (scheme w .restricted z) (addTimes s (bounds w) 2 2) (addTimes (addTimes s (publics w) 2 1) (bounds w) 2 2)
+
+  -- the copies of an argument
+  unfoldable pub copySums : Sums → ℕ → Sums
+  copySums s a =
+      pick (ltb a (publics w)) (addTimes s 1 1 2)
+      (pick (scheme w .restricted a) (addTimes s (bounds w) 3 3) (addTimes (addTimes s (publics w) 2 3) (bounds w) 3 3))
+
+  unfoldable pub silentSums : Sums → ℕ → Sums
+  silentSums s b = pick (isSilent w b) (addTimes s 1 1 1) s
+
+  unfoldable pub nodeSums : Sums → ℕ → Sums
+  nodeSums s n =
+      pick (isStop w n) (over releaseSums s (held w n))
+      (pick (isChoice w n) (over silentSums s (from (nodeFirst w n) (nodeSecond w n)))
+      (pick (isNew w n) (addTimes s (bounds w) (freeNames w + 2) (freeNames w + 2))
+      (over releaseSums (over copySums (addTimes s 1 1 1) (argumentsOf w n)) (held w n))))
+
+  -- 1 for a bound name, 0 for a public one
+  abbrev pub boundBit : ℕ → ℕ
+  boundBit x = bit (not (ltb x (publics w)))
+
+  -- how many of the values are public, and how many private
+  abbrev pub publicCount : List ℕ → ℕ
+  publicCount vs = length (keep (λ v. ltb v (publics w)) vs)
+
+  abbrev pub privateCount : List ℕ → ℕ
+  privateCount vs = length (keep (λ v. leb (publics w) v) vs)
+
+  -- the communications of send b and receive r
+  unfoldable pub pairSums : ℕ → Sums → ℕ → Sums
+  pairSums b s r =
+      let a = channel w b in
+      let z = branchName w b in
+      let e = channel w r in
+      let vs = common (scheme w) (today w) a e in
+      let c = boundBit a + boundBit e in
+      pick (same z a) (addTimes (addTimes s (publicCount vs) (c + 2) (c + 3)) (privateCount vs) (c + 3) (c + 3))
+      (addTimes (addTimes s (length vs * publicCount (values w z)) (c + boundBit z + 2) (c + boundBit z + 3))
+      (length vs * privateCount (values w z)) (c + boundBit z + 3) (c + boundBit z + 3))
+
+  unfoldable pub partnerSums : ℕ → Sums → ℕ → Sums
+  partnerSums b s r = pick (isReceive w r && not (same (branchThread w r) (branchThread w b))) (pairSums b s r) s
+
+  unfoldable pub sendSums : Sums → ℕ → Sums
+  sendSums s b = pick (isSend w b) (over (partnerSums b) s (range (branches w))) s
+
+  unfoldable pub allSums : Sums
+  allSums = over sendSums (over nodeSums (sums 0 0 0) (range (nodes w))) (range (branches w))
