@@ -1,4 +1,4 @@
--- Definitions that only promises of functions cite, not those of calls for users.
+-- Definitions for promises of functions that a user of the library need not call.
 pub mod Arcs
 pub mod Spans
 pub mod Plan
