@@ -1,6 +1,6 @@
 -- Chains of control places: where each place leads, and the arrows of releases as the code makes them.
-use mathlib.Core.Path.{_≡_, ap, subst, _∙_}
-use mathlib.Core.Bool.{true}
+use mathlib.Core.Path.{_≡_, refl, ap, subst, _∙_}
+use mathlib.Core.Bool.{Bool, true, false}
 use mathlib.Core.List.{List, [], _∷_}
 use Prim.Native.Nat.{ℕ, suc, _+_, _≤_, _<_}
 use native.Mathlib.Decide.{decLt}
@@ -26,7 +26,8 @@ use Rattle.builder.specs.declared.chain.Chain.{Chain}
 use Rattle.builder.specs.declared.write.Heads.{Heads}
 use Rattle.places.proofs.Today.{private-reached}
 use Rattle.places.proofs.ByKind.{on-chain, on-next, value-exists}
-use Rattle.places.proofs.Explicit.{releasing-inputs, releasing-gives, releasing-frees, releasing-public}
+use Rattle.places.proofs.Names.{held-value}
+use Rattle.places.proofs.Explicit.{releasing-inputs, releasing-gives, releasing-public}
 use Rattle.builder.proofs.Writing.{put-cons, put-none, put-length}
 use Rattle.places.proofs.Controls.{nodes-are, publics-are, bounds-are, privates-are, control-few, control-last}
 
@@ -113,13 +114,6 @@ module _ (w : List ℕ) where
       taken : ofTable w (releasing S U (c .node) (c .to) k z v) .inputs ≡ a ∷ (c .first + k) ∷ []
       taken = releasing-inputs S U (c .node) (c .to) k z v (has-value z v holds) own-place ∙ rw (is-a, own-number)
 
-      pub release-frees : (d : ℕ) → S .restricted z ≡ true → publics w ≤ v → v < names w → d ≡ numberOf S U (free v)
-          → ofTable w (releasing S U (c .node) (c .to) k z v) ≡ arrow 1 (c .node) z (a ∷ (c .first + k) ∷ []) (d ∷ e ∷ [])
-      release-frees d r l u is-d =
-          let p = next-place in
-          let o = releasing-frees S U (c .node) k (c .to) (p .place) (p .goes) (p .there) z v r (has-free-value v l u) in
-          rw (taken, o, is-d, is-e, p .number)
-
       pub release-public : v < publics w
           → ofTable w (releasing S U (c .node) (c .to) k z v) ≡ arrow 1 (c .node) z (a ∷ (c .first + k) ∷ []) (e ∷ [])
       release-public l =
@@ -127,12 +121,19 @@ module _ (w : List ℕ) where
           let o = releasing-public S U (c .node) k (c .to) (p .place) (p .goes) (p .there) z v (omega (arith, publics-are w)) in
           rw (taken, o, is-e, p .number)
 
-      pub release-gives : (d : ℕ) → Differs w z v → d ≡ numberOf S U (differs z v)
+      pub release-gives : (d : ℕ) → publics w ≤ v → d ≡ numberOf S U (pick (S .restricted z) (free v) (differs z v))
           → ofTable w (releasing S U (c .node) (c .to) k z v) ≡ arrow 1 (c .node) z (a ∷ (c .first + k) ∷ []) (d ∷ e ∷ [])
-      release-gives d x is-d =
+      release-gives d l is-d =
           let p = next-place in
-          let o = releasing-gives S U (c .node) k (c .to) (p .place) (p .goes) (p .there) z v (x .free) (has-difference z v x) in
+          let o = releasing-gives S U (c .node) k (c .to) (p .place) (p .goes) (p .there) z v (there (S .restricted z) refl) in
           rw (taken, o, is-d, is-e, p .number)
+        where
+          u : v < names w
+          u = held-value w z v holds
+
+          there : (b : Bool) → S .restricted z ≡ b → Exists S U (pick b (free v) (differs z v))
+          there true r = has-free-value v l u
+          there false r = has-difference z v record { low = holds .low; high = holds .high; free = r; private = l; value = u }
 
   module _ (h : cause w ≡ 0) (c : Chain) (k : Chained w c) where
     pub chain-few : (c .first + c .controls ≤ 65535) × (c .last < 65536)

@@ -1,5 +1,5 @@
 -- The arcs of a copy, place by place as the code puts them in.
-use mathlib.Core.Path.{_≡_, refl, ap, _∙_}
+use mathlib.Core.Path.{_≡_, ap, _∙_}
 use mathlib.Core.Bool.{false}
 use mathlib.Core.List.{List, [], _∷_, _++_}
 use Prim.Native.Nat.{ℕ, _+_, _≤_, _<_}
@@ -7,19 +7,17 @@ use native.Mathlib.Decide.{decLt}
 use native.Mathlib.Omega.{arith}
 use lib.Dec.{ltb}
 use lib.ListN
-use lib.ListN.{length}
 use borrow.Author.Tests.{lt-ltb, le-ltb}
 use Rattle.lists.specs.Lists.{pick}
 use Rattle.table.specs.Words.{publics, names}
 use Rattle.table.specs.Scheme.{Scheme, scheme}
 use Rattle.places.specs.Values.{Values}
 use Rattle.places.specs.Places.{Place, equals, differs, control}
-use Rattle.places.specs.Rows.{numberOf, Exists}
 use Rattle.places.specs.Transitions.{take, copying}
 use Rattle.places.specs.Inner.Arcs.{takenPlaces, givenPlaces, exists, numbersOf}
 use Rattle.places.specs.Inner.Spans.{firstValue, endValue}
 use Rattle.places.specs.Inner.Plan.{today, Holds, Reads}
-use Rattle.builder.specs.Inner.Plan.{Chained, Inserted, ofTable, arrow}
+use Rattle.builder.specs.Inner.Plan.{Chained, Filled, ofTable, arrow}
 use Rattle.builder.specs.declared.chain.Chain.{Chain}
 use Rattle.places.proofs.Arcs.{inputs-named, outputs-named}
 use Rattle.places.proofs.Spans.{value-member, member-value}
@@ -27,7 +25,6 @@ use Rattle.places.proofs.Split.{numbers-tail, numbers-swap}
 use Rattle.places.proofs.ByKind.{on-left, equals-public, differs-public}
 use Rattle.places.proofs.Controls.{publics-are, bounds-are}
 use Rattle.builder.proofs.Chains.{next-place}
-use Rattle.builder.proofs.Filling.{Filled, fill-none, fill-with, fill-without}
 
 module _ (w : List ℕ) where
   abbrev S : Scheme
@@ -101,33 +98,3 @@ module _ (w : List ℕ) where
         → Filled w outs o (next-place w c h k inside .place ∷ equals f v ∷ equals a v ∷ [])
         → ofTable w (copying S U (c .node) (c .to) k f a v) ≡ arrow 0 (c .node) f (ListN.take i ins) (ListN.take o outs)
     copy-arrow ins outs i o x y = rw (copy-inputs, copy-outputs, x .holds, y .holds)
-
--- ---- two lists of four words after the first place, which both get
-
-pub record Begun (w : List ℕ) (p : Place) (ins outs : List ℕ) (i o : ℕ) : Type 0 where
-  pub ins-are : Filled w ins i (p ∷ [])
-  pub outs-are : Filled w outs o (p ∷ [])
-  pub ins-room : length ins ≡ 4
-  pub outs-room : length outs ≡ 4
-
-module _ (w : List ℕ) (p : Place) where
-  abbrev zeros : List ℕ
-  zeros = 0 ∷ 0 ∷ 0 ∷ 0 ∷ []
-
-  pub begun-with : (ins outs : List ℕ) (i o x y : ℕ) → Exists (scheme w) (today w) p → x ≡ numberOf (scheme w) (today w) p → y
-      ≡ numberOf (scheme w) (today w) p
-      → Inserted x 0 zeros i ins → Inserted y 0 zeros o outs → length ins ≡ 4 → length outs ≡ 4 → Begun w p ins outs i o
-  begun-with ins outs i o x y e a b f g l m = record {
-    ins-are = fill-with w zeros ins 0 i x p [] e a f (fill-none w zeros);
-    outs-are = fill-with w zeros outs 0 o y p [] e b g (fill-none w zeros);
-    ins-room = l;
-    outs-room = m;
-  }
-
-  pub begun-without : exists (scheme w) (today w) p ≡ false → Begun w p zeros zeros 0 0
-  begun-without e = record {
-    ins-are = fill-without w zeros 0 p [] e (fill-none w zeros);
-    outs-are = fill-without w zeros 0 p [] e (fill-none w zeros);
-    ins-room = refl;
-    outs-room = refl;
-  }

@@ -13,16 +13,11 @@ use Rattle.places.specs.Places.{Place, free}
 use Rattle.places.specs.Rows.{controlStart, numberOf, Exists}
 use Rattle.places.specs.Inner.Arcs.{insert, exists, numbersOf}
 use Rattle.places.specs.Inner.Plan.{today}
-use Rattle.builder.specs.Inner.Plan.{Rising, Inserted}
+use Rattle.builder.specs.Inner.Plan.{Rising, Inserted, Filled}
 use Rattle.places.proofs.Rows.{places-length, number-below}
 use Rattle.places.proofs.Numbers.{numbers-few}
 use Rattle.places.proofs.Split.{numbers-none, numbers-yes, numbers-no, numbers-tail, numbers-swap, numbers-ascend}
 use Rattle.places.proofs.Controls.{nodes-are, control-few}
-
--- the first `count` words are the numbers of those of the places that the net has
-pub record Filled (w list : List ℕ) (count : ℕ) (ps : List Place) : Type 0 where
-  pub holds : take count list ≡ numbersOf (scheme w) (today w) ps
-  pub size : count ≡ length (numbersOf (scheme w) (today w) ps)
 
 -- a place named last instead of first
 pub numbers-last : (S : Scheme) (U : Values) (p : Place) (ps : List Place) → numbersOf S U (ps ++ (p ∷ [])) ≡ numbersOf S U (p ∷ ps)

@@ -67,11 +67,3 @@ put-arrow out ins outs o6 w1 w2 place arc kind a b i o middle end hi ho e f1 m f
     let z : end ≡ arc + length (take i ins ++ take o outs) = omega (arith, arcs-size ins outs i o hi ho) in
     ap (λ (l : List ℕ). heads l (place + 6) end) w
     ∙ ap (λ (k : ℕ). heads (writes (writes out place (kind ∷ a ∷ b ∷ arc ∷ length (take i ins) ∷ length (take o outs) ∷ [])) arc (take i ins ++ take o outs)) (place + 6) k) z
-
--- ---- the header
-
-pub put-header : (out o1 o2 o3 o4 o5 o6 o7 o8 : List ℕ) (a b c d e f g h : ℕ)
-    → o1 ≡ set out 0 a → o2 ≡ set o1 1 b → o3 ≡ set o2 2 c → o4 ≡ set o3 3 d → o5 ≡ set o4 4 e → o6 ≡ set o5 5 f → o7 ≡ set o6 6 g → o8 ≡ set o7 7 h
-    → o8 ≡ writes out 0 (a ∷ b ∷ c ∷ d ∷ e ∷ f ∷ g ∷ h ∷ [])
-unfolding writes
-put-header out o1 o2 o3 o4 o5 o6 o7 o8 a b c d e f g h e1 e2 e3 e4 e5 e6 e7 e8 = rw (e8, e7, e6, e5, e4, e3, e2, e1)

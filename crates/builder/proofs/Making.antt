@@ -19,13 +19,13 @@ use Rattle.places.specs.Places.{Place, equals, differs, free, control}
 use Rattle.places.specs.Rows.{numberOf}
 use Rattle.places.specs.Inner.Arcs.{allDiffer, numbersOf}
 use Rattle.places.specs.Inner.Plan.{today, Holds, Differs}
-use Rattle.builder.specs.Inner.Plan.{Inserted, ofTable, made, arrow}
+use Rattle.builder.specs.Inner.Plan.{Inserted, Filled, ofTable, made, arrow}
 use Rattle.places.proofs.Names.{values-restricted}
 use Rattle.places.proofs.Arcs.{inputs-named, outputs-named}
 use Rattle.places.proofs.ByKind.{differs-restricted}
 use Rattle.places.proofs.Controls.{nodes-are, publics-are, bounds-are}
 use Rattle.builder.proofs.Chains.{has-difference}
-use Rattle.builder.proofs.Filling.{Filled, numbers-last, fill-none, fill-same, fill-with, fill-without}
+use Rattle.builder.proofs.Filling.{numbers-last, fill-none, fill-same, fill-with, fill-without}
 use Rattle.places.proofs.ByWords.{new-node}
 
 -- every [y≠v] of the bound names below x

@@ -22,7 +22,7 @@ use Rattle.places.specs.Rows.{numberOf, IsBound, Exists, has-differs, has-contr
 use Rattle.places.specs.Inner.Arcs.{insert, exists, numbersOf}
 use Rattle.builder.specs.Inner.Writing.{putOne, putAll, Inside}
 use Rattle.places.specs.Inner.Plan.{today, values, controlOf, Holds, Reads, Differs}
-use Rattle.builder.specs.Inner.Plan.{ofTable, state, put, told, Paired, arrow, Rising, Inserted, insOf, outsOf, Tells}
+use Rattle.builder.specs.Inner.Plan.{ofTable, state, put, told, Paired, arrow, Rising, Inserted, Placed, insOf, outsOf, Tells}
 use Rattle.builder.specs.declared.write.Heads.{Heads}
 use Rattle.builder.specs.declared.write.Arcs.{Arcs}
 use Rattle.builder.specs.declared.communications.Pair.{Pair}
@@ -173,14 +173,12 @@ module _ (w : List ℕ) (p : Pair) (i j : ℕ) where
   abbrev pub givesOf : List Place
   givesOf = control (next w (p .receive)) 0 ∷ control (next w (p .send)) 0 ∷ equals (p .bound) j ∷ readOf
 
--- one more place, read where the name is bound
+-- one more place
 module _ (w : List ℕ) (list after : List ℕ) (count r : ℕ) (ps : List Place) (f : Filled w list count ps) where
-  pub read-bound : (x v n : ℕ) → Reads w x v → publics w ≤ x → n ≡ numberOf (scheme w) (today w) (equals x v) → Inserted n count list r after
-      → length after ≡ length list → Filled w after r (equals x v ∷ ps)
-  read-bound x v n h l e i s = fill-yes w list after count r n (equals x v) ps f (holds-exists w x v (reads-holds w x v h l)) e i s
-
-  pub read-public : (x v : ℕ) → x < publics w → r ≡ count → after ≡ list → Filled w after r (equals x v ∷ ps)
-  read-public x v l e a = fill-no w list after count r (equals x v) ps f (public-none w x v l) e a
+  pub put-in : (p : Place) → Placed w p count list r after → length after ≡ length list → Filled w after r (p ∷ ps)
+  put-in p q l =
+      let g = q ps (record { holds = f .first; size = f .size }) in
+      record { eight = l ∙ f .eight; size = g .size; first = g .holds }
 
   pub take-private : (x v n : ℕ) → Differs w x v → n ≡ numberOf (scheme w) (today w) (differs x v) → Inserted n count list r after
       → length after ≡ length list → Filled w after r (differs x v ∷ ps)
@@ -188,10 +186,6 @@ module _ (w : List ℕ) (list after : List ℕ) (count r : ℕ) (ps : List Place
 
   pub take-public : (x v : ℕ) → v < publics w → r ≡ count → after ≡ list → Filled w after r (differs x v ∷ ps)
   take-public x v l e a = fill-no w list after count r (differs x v) ps f (differs-none w x v l) e a
-
-  pub give : (x v n : ℕ) → Holds w x v → n ≡ numberOf (scheme w) (today w) (equals x v) → Inserted n count list r after
-      → length after ≡ length list → Filled w after r (equals x v ∷ ps)
-  give x v n h e i s = fill-yes w list after count r n (equals x v) ps f (holds-exists w x v h) e i s
 
   pub move-at : (m n : ℕ) → m < nodes w → n ≡ controlOf w m → Inserted n count list r after → length after ≡ length list → Filled w after r (control m 0 ∷ ps)
   move-at m n h e i s = fill-yes w list after count r n (control m 0) ps f (control-exists w m h) (control-number w m n e) i s

@@ -115,7 +115,7 @@ module _ (w rows : List ℕ) (plan : Layout) (k : Rowed w rows plan) (p : Pair) 
       go : (b : Bool) → S .restricted (p .sent) ≡ b → numberOf S U (A u) ≡ numberOf S U (equals (p .sent) low) + u
       go false e = omega (arith, Today.equals-number S (p .sent) (low + u) e, Today.equals-number S (p .sent) low e)
       go true e =
-          let l : S .publics ≤ low = omega (arith, publics-are w, restricted-private w rows plan k (p .sent) low here e .0) in
+          let l : S .publics ≤ low = omega (arith, publics-are w, restricted-private w (p .sent) low here e .0) in
           omega (arith, Today.equals-restricted S (p .sent) (low + u) e (omega arith), Today.equals-restricted S (p .sent) low e l)
 
   number-y : (u : ℕ) → numberOf S U (B u) ≡ numberOf S U (equals (p .bound) low) + u

@@ -8,6 +8,8 @@ ghost use lib.ListN.{length, take};
 ghost use Rattle.lists.specs.Lists.{pick, from};
 ghost use Rattle.table.specs.Words.{publics, names};
 ghost use Rattle.table.specs.Scheme.{scheme};
+ghost use Rattle.places.specs.Places.{differs, free};
+ghost use Rattle.places.specs.Rows.{numberOf};
 ghost use Rattle.places.specs.Transitions.{releasing, releases, copying, copies};
 ghost use Rattle.builder.specs.Inner.Writing.{Inside};
 ghost use Rattle.places.specs.Inner.Plan.{today, values, argumentName};
@@ -16,6 +18,7 @@ ghost use Rattle.places.specs.Inner.Plan.{Rowed};
 ghost use Rattle.builder.specs.Inner.Plan.{Chained};
 ghost use Rattle.places.specs.Inner.Plan.{Holds, Reads, Named, Bounded, Frees};
 use crate::insertion::insert;
+use crate::insertion::insert_equals;
 use crate::layout::differs;
 use crate::layout::equals;
 use crate::layout::free_place;
@@ -50,6 +53,18 @@ pub(crate) fn on(c: Chain, k: usize) -> u32
     c.last as u32
 }
 
+// The place that a release of private value v gives: [*≠v] if name z is restricted, else [z≠v].
+fn given_back(table: &[u16], rows: &[u32], plan: Layout, z: usize, v: usize) -> u32
+    requires { ⌜ Rowed (now table) (now rows) plan × Holds (now table) z v × (publics (now table) ≤ v) ⌝ }
+    ensures { λ r. ⌜ r ≡ numberOf (scheme (now (table .entry))) (today (now (table .entry)))
+        (pick (scheme (now (table .entry)) .restricted z) (free v) (differs z v)) ⌝ }
+{
+    if is_restricted(table, z) {
+        return free_place(table, rows, plan, v);
+    }
+    differs(table, rows, plan, z, v)
+}
+
 // The release of name z with value v at place k of a chain.
 fn release(
     table: &[u16],
@@ -70,23 +85,15 @@ fn release(
         ≡ put (now (table .entry)) (now (out .entry)) h
         (releasing (scheme (now (table .entry))) (today (now (table .entry))) (c .node) (c .to) k z v ∷ []) ⌝ }
 {
-    let mut ins = [0u32; 2];
-    let mut outs = [0u32; 2];
-    ins[0] = equals(table, rows, plan, z, v);
-    ins[1] = (c.first + k) as u32;
-    let n = c.node;
-    if is_restricted(table, z) {
-        outs[0] = free_place(table, rows, plan, v);
-        outs[1] = on(c, k);
-        return transition(out, h, 1, n, z, &ins, 2, &outs, 2);
+    let ins = [equals(table, rows, plan, z, v), (c.first + k) as u32];
+    let after = on(c, k);
+    let mut outs = [after; 2];
+    let mut outputs = 1;
+    if v >= plan.publics {
+        outs = [given_back(table, rows, plan, z, v), after];
+        outputs = 2;
     }
-    if v < plan.publics {
-        outs[0] = on(c, k);
-        return transition(out, h, 1, n, z, &ins, 2, &outs, 1);
-    }
-    outs[0] = differs(table, rows, plan, z, v);
-    outs[1] = on(c, k);
-    transition(out, h, 1, n, z, &ins, 2, &outs, 2)
+    transition(out, h, 1, c.node, z, &ins, 2, &outs, outputs)
 }
 
 // The releases of one name at place k of a chain.
@@ -173,19 +180,14 @@ fn copy(
         (copying (scheme (now (table .entry))) (today (now (table .entry))) (c .node) (c .to) k f a v ∷ []) ⌝ }
 {
     let mut ins = [0u32; 4];
-    let mut outs = [0u32; 4];
-    let mut i = 0;
-    let mut o = 0;
-    if plan.publics <= a {
-        i = insert(&mut ins, i, equals(table, rows, plan, a, v));
-        o = insert(&mut outs, o, equals(table, rows, plan, a, v));
-    }
+    let mut i = insert_equals(table, rows, plan, &mut ins, 0, a, v);
+    let mut outs = ins;
+    let mut o = insert_equals(table, rows, plan, &mut outs, i, f, v);
+    o = insert(&mut outs, o, on(c, k));
     if plan.publics <= v {
         i = insert(&mut ins, i, differs(table, rows, plan, f, v));
     }
     i = insert(&mut ins, i, (c.first + k) as u32);
-    o = insert(&mut outs, o, equals(table, rows, plan, f, v));
-    o = insert(&mut outs, o, on(c, k));
     transition(out, h, 0, c.node, f, &ins, i, &outs, o)
 }
 

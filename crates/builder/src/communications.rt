@@ -12,6 +12,7 @@ ghost use Rattle.builder.specs.Inner.Plan.{Paired};
 ghost use Rattle.places.specs.Inner.Plan.{Reads};
 ghost use Rattle.builder.specs.Inner.Plan.{Tells, Run};
 use crate::insertion::insert;
+use crate::insertion::insert_equals;
 use crate::layout::differs;
 use crate::layout::equals;
 use crate::layout::value_at;
@@ -50,27 +51,16 @@ fn arcs_of(table: &[u16], rows: &[u32], plan: Layout, p: Pair, i: usize, j: usiz
         × Reads (now table) (branchName (now table) (p .send)) j ⌝ }
     ensures { λ r. ⌜ Tells (now (table .entry)) p i j r ⌝ }
 {
-    let a = p.channel;
-    let e = p.heard;
-    let z = p.sent;
-    let y = p.bound;
     let mut ins = [0u32; 8];
-    let mut c = 0;
-    if plan.publics <= a {
-        c = insert(&mut ins, c, equals(table, rows, plan, a, i));
-    }
-    if plan.publics <= e {
-        c = insert(&mut ins, c, equals(table, rows, plan, e, i));
-    }
-    if plan.publics <= z {
-        c = insert(&mut ins, c, equals(table, rows, plan, z, j));
-    }
+    let mut c = insert_equals(table, rows, plan, &mut ins, 0, p.channel, i);
+    c = insert_equals(table, rows, plan, &mut ins, c, p.heard, i);
+    c = insert_equals(table, rows, plan, &mut ins, c, p.sent, j);
     let mut outs = ins;
-    let mut o = insert(&mut outs, c, equals(table, rows, plan, y, j));
+    let mut o = insert_equals(table, rows, plan, &mut outs, c, p.bound, j);
     o = insert(&mut outs, o, p.onsend);
     o = insert(&mut outs, o, p.onreceive);
     if plan.publics <= j {
-        c = insert(&mut ins, c, differs(table, rows, plan, y, j));
+        c = insert(&mut ins, c, differs(table, rows, plan, p.bound, j));
     }
     c = insert(&mut ins, c, p.sender);
     c = insert(&mut ins, c, p.receiver);

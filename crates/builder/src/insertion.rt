@@ -1,5 +1,9 @@
 // A transition's arcs: ascending lists of place numbers, made by insertion.
-ghost use Rattle.builder.specs.Inner.Plan.{Rising, Inserted};
+ghost use Rattle.places.specs.Places.{equals};
+ghost use Rattle.places.specs.Inner.Plan.{Rowed, Reads};
+ghost use Rattle.builder.specs.Inner.Plan.{Rising, Inserted, Placed};
+use crate::layout::equals;
+use places::layout::Layout;
 
 // Puts x into the ascending first `count` numbers, where it is not there yet, and returns how many there are then.
 pub(crate) fn insert(list: &mut [u32], count: usize, x: u32) -> usize
@@ -23,4 +27,24 @@ pub(crate) fn insert(list: &mut [u32], count: usize, x: u32) -> usize
     }
     list[at] = x;
     count + 1
+}
+
+// Puts the number of [name=v] into the ascending first `count` numbers, if the name is bound, and returns how many there
+// are then.
+pub(crate) fn insert_equals(
+    table: &[u16],
+    rows: &[u32],
+    plan: Layout,
+    list: &mut [u32],
+    count: usize,
+    name: usize,
+    v: usize,
+) -> usize
+    requires { ⌜ Rowed (now table) (now rows) plan × Reads (now table) name v × Rising (now list) count ⌝ }
+    ensures { λ r. ⌜ Placed (now (table .entry)) (equals name v) count (now (list .entry)) r (now (list .exit)) ⌝ }
+{
+    if name < plan.publics {
+        return count;
+    }
+    insert(list, count, equals(table, rows, plan, name, v))
 }

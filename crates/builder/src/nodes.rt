@@ -20,8 +20,8 @@ use crate::chain::copy_all;
 use crate::chain::on;
 use crate::chain::release_all;
 use crate::insertion::insert;
+use crate::insertion::insert_equals;
 use crate::layout::differs;
-use crate::layout::equals;
 use crate::layout::free_place;
 use crate::write::Heads;
 use crate::write::go;
@@ -113,13 +113,12 @@ fn make(
 {
     let name = field3(table, 10, n, 1);
     let mut ins = [0u32; 40];
-    let mut outs = [0u32; 40];
     let mut i = differences(table, rows, plan, &mut ins, v);
-    let mut o = differences(table, rows, plan, &mut outs, v);
+    let mut outs = ins;
+    let mut o = insert_equals(table, rows, plan, &mut outs, i, name, v);
+    o = insert(&mut outs, o, to);
     i = insert(&mut ins, i, free_place(table, rows, plan, v));
     i = insert(&mut ins, i, from);
-    o = insert(&mut outs, o, equals(table, rows, plan, name, v));
-    o = insert(&mut outs, o, to);
     transition(out, h, 2, n, name, &ins, i, &outs, o)
 }
 

@@ -197,12 +197,15 @@ pub(crate) fn header(out: &mut [u32], plan: Layout, t: Totals)
         ≡ writes (now (out .entry)) 0
         (headerOf (plan .places) (t .transitions) (t .inputs) (t .outputs) (plan .tokens)) ⌝ }
 {
-    store32(out, 0, plan.places as u32);
-    store32(out, 1, t.transitions as u32);
-    store32(out, 2, t.inputs as u32);
-    store32(out, 3, t.outputs as u32);
-    store32(out, 4, plan.tokens as u32);
-    store32(out, 5, 8);
-    store32(out, 6, (8 + plan.tokens) as u32);
-    store32(out, 7, (8 + plan.tokens + 6 * t.transitions) as u32);
+    let list = [
+        plan.places as u32,
+        t.transitions as u32,
+        t.inputs as u32,
+        t.outputs as u32,
+        plan.tokens as u32,
+        8,
+        (8 + plan.tokens) as u32,
+        (8 + plan.tokens + 6 * t.transitions) as u32,
+    ];
+    words(out, 0, &list, 8);
 }

@@ -8,7 +8,7 @@ use native.Mathlib.Omega.{arith}
 use lib.Dec.{leb}
 use lib.ListN.{length, length-append, length-map}
 use borrow.Author.Tests.{le-leb, lt-leb}
-use Rattle.lists.specs.Lists.{bit, from, keep, member, positions}
+use Rattle.lists.specs.Lists.{pick, bit, from, keep, member, positions}
 use Rattle.lists.proofs.Tests.{not-true-false}
 use Rattle.lists.proofs.Ranges.{from-member}
 use Rattle.lists.proofs.Members.{keep-same}
@@ -27,7 +27,7 @@ use Rattle.places.proofs.Numbers.{exists-has, has-exists}
 use Rattle.places.proofs.Initial.{some-control}
 use Rattle.places.proofs.Split.{numbers-none, numbers-yes, numbers-no, member-numbers}
 use Rattle.places.proofs.ByKind.{value-exists, equals-public, differs-public, differs-restricted, on-chain, on-next, differNumbers, differ-split}
-use Rattle.places.proofs.Explicit.{releasing-inputs, releasing-gives, releasing-frees, releasing-public, copying-inputs, copying-outputs}
+use Rattle.places.proofs.Explicit.{releasing-inputs, releasing-gives, releasing-public, copying-inputs, copying-outputs}
 use Rattle.places.proofs.Explicit.{making-inputs, making-outputs}
 
 -- ---- one place more, for any values
@@ -124,19 +124,20 @@ module _ (S : Scheme) (ok : Accepted S) where
     release-inputs = ap (λ (xs : List ℕ). length xs) (releasing-inputs S U n m k z v (value-exists S U z v b i) (has-control l h))
 
     pub release-outputs : length (outputs (releasing S U n m k z v)) ≡ 1 + bit (leb (S .publics) v)
-    release-outputs = go (decLe (S .publics) v) (S .restricted z) refl
+    release-outputs = go (decLe (S .publics) v)
       where
         next : Next S U n k m
         next = next-place S U n k m l u
 
-        go : Dec (S .publics ≤ v) → (c : Bool) → S .restricted z ≡ c → length (outputs (releasing S U n m k z v)) ≡ 1 + bit (leb (S .publics) v)
-        go (yes p) true r =
+        there : S .publics ≤ v → (c : Bool) → S .restricted z ≡ c → Exists S U (pick c (free v) (differs z v))
+        there p true r = free-has v p (value-below z v b i)
+        there p false r = differs-has z v b r p (value-below z v b i)
+
+        go : Dec (S .publics ≤ v) → length (outputs (releasing S U n m k z v)) ≡ 1 + bit (leb (S .publics) v)
+        go (yes p) =
             rw (le-leb (S .publics) v p) (ap (λ (xs : List ℕ). length xs)
-            (releasing-frees S U n k m (next .place) (next .goes) (next .has) z v r (free-has v p (value-below z v b i))))
-        go (yes p) false r =
-            rw (le-leb (S .publics) v p) (ap (λ (xs : List ℕ). length xs)
-            (releasing-gives S U n k m (next .place) (next .goes) (next .has) z v r (differs-has z v b r p (value-below z v b i))))
-        go (no p) c r =
+            (releasing-gives S U n k m (next .place) (next .goes) (next .has) z v (there p (S .restricted z) refl)))
+        go (no p) =
             let q : v < S .publics = omega arith in
             rw (lt-leb (S .publics) v q) (ap (λ (xs : List ℕ). length xs) (releasing-public S U n k m (next .place) (next .goes) (next .has) z v q))
 

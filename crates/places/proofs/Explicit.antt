@@ -44,12 +44,14 @@ module _ (S : Scheme) (U : Values) where
 
     -- ---- "release z=v: take [z=v]; give [z≠v] (v private), or [*≠v] if z is restricted; on."
 
-    pub releasing-gives : (z v : ℕ) → S .restricted z ≡ false → Exists S U (differs z v)
-        → outputs (releasing S U n m k z v) ≡ number (differs z v) ∷ number p ∷ []
-    releasing-gives z v r e = outputs-split S U (releasing S U n m k z v) ∙ rw (to-next, r, one (differs z v) e)
-
-    pub releasing-frees : (z v : ℕ) → S .restricted z ≡ true → Exists S U (free v) → outputs (releasing S U n m k z v) ≡ number (free v) ∷ number p ∷ []
-    releasing-frees z v r e = outputs-split S U (releasing S U n m k z v) ∙ rw (to-next, r, one (free v) e)
+    pub releasing-gives : (z v : ℕ) → Exists S U (pick (S .restricted z) (free v) (differs z v))
+        → outputs (releasing S U n m k z v) ≡ number (pick (S .restricted z) (free v) (differs z v)) ∷ number p ∷ []
+    releasing-gives z v there = outputs-split S U (releasing S U n m k z v) ∙ rw to-next (go (S .restricted z) there)
+      where
+        go : (b : Bool) → Exists S U (pick b (free v) (differs z v))
+            → numbersOf S U (pick b (free v ∷ []) (differs z v ∷ [])) ++ (number p ∷ []) ≡ number (pick b (free v) (differs z v)) ∷ number p ∷ []
+        go true e = rw (one (free v) e)
+        go false e = rw (one (differs z v) e)
 
     pub releasing-public : (z v : ℕ) → v < S .publics → outputs (releasing S U n m k z v) ≡ number p ∷ []
     releasing-public z v h = outputs-split S U (releasing S U n m k z v) ∙ rw to-next (go (S .restricted z))

@@ -130,6 +130,26 @@ module _ (w : List ℕ) where
       reached-free : (z : ℕ) → today w .reach x z ≡ true
       reached-free z = rw r
 
+  -- ---- a value that a bound name may hold
+
+  pub restricted-private : (x v : ℕ) → Holds w x v → S .restricted x ≡ true → (publics w ≤ v) × (v < names w)
+  restricted-private x v h r =
+      from-member v (publics w) (bounds w) (ap (member v) (sym (values-restricted x (h .low) r)) ∙ h .value)
+
+  pub free-value : (x v : ℕ) → Holds w x v → S .restricted x ≡ false → v < names w
+  free-value x v h r =
+      let z : 0 + publics w ≡ publics w = omega arith in
+      let e : values w x ≡ range (publics w + bounds w) =
+      values-free x (h .low) r ∙ sym (from-append 0 (publics w) (bounds w) ∙ rw z) in
+      omega (arith, from-member v 0 (publics w + bounds w) (ap (member v) (sym e) ∙ h .value))
+
+  pub held-value : (x v : ℕ) → Holds w x v → v < names w
+  held-value x v h = go (S .restricted x) refl
+    where
+      go : (b : Bool) → S .restricted x ≡ b → v < names w
+      go true e = restricted-private x v h e .1
+      go false e = free-value x v h e
+
   -- ---- as a reach
 
   pub reach-public : (x p : ℕ) → p ≡ publics w → x < p → Lists (publics w) (bounds w) (record { low = x; high = x + 1; privates = false }) (values w x)
@@ -187,17 +207,6 @@ module _ (w : List ℕ) where
         let up : rowOf w x ≤ freeStart S (today w) =
         row-rises S (today w) x (S .publics + S .bounds) (rw publics-of h) (rw (publics-of, bounds-of) (omega arith)) in
         omega (arith, k .row-is x h l, k .few-free, k .free-is)
-
-    pub restricted-private : (x v : ℕ) → Holds w x v → S .restricted x ≡ true → (publics w ≤ v) × (v < names w)
-    restricted-private x v h r =
-        from-member v (publics w) (bounds w) (ap (member v) (sym (values-restricted x (h .low) r)) ∙ h .value)
-
-    pub free-value : (x v : ℕ) → Holds w x v → S .restricted x ≡ false → v < names w
-    free-value x v h r =
-        let z : 0 + publics w ≡ publics w = omega arith in
-        let e : values w x ≡ range (publics w + bounds w) =
-        values-free x (h .low) r ∙ sym (from-append 0 (publics w) (bounds w) ∙ rw z) in
-        omega (arith, from-member v 0 (publics w + bounds w) (ap (member v) (sym e) ∙ h .value))
 
     pub equals-of-restricted : (x v row : ℕ) → row ≡ word rows x → Holds w x v → S .restricted x ≡ true
         → row + (v - plan .publics) ≡ numberOf S (today w) (equals x v)

@@ -92,6 +92,20 @@ module _ (w : List ℕ) (h : cause w ≡ 0) (n : ℕ) (l : n < nodes w) (s : Sum
   unfolding nodeSums
   new-sums e = rw (no-kind 2 0 e (λ q. omega arith), no-kind 2 1 e (λ q. omega arith), same-yes (nodeKind w n) 2 e)
 
+  -- the same of what is read
+  module _ (k : ℕ) (is : k ≡ nodeKind w n) where
+    pub stopped : k ≡ 0 → nodeSums w s n ≡ over (releaseSums w) s (held w n)
+    stopped e = stop-sums (sym is ∙ e)
+
+    pub chosen : (f g : ℕ) → f ≡ nodeFirst w n → g ≡ nodeSecond w n → k ≡ 1 → nodeSums w s n ≡ over (silentSums w) s (from f (f + g - f))
+    chosen f g is-f is-g e = let c : f + g - f ≡ g = omega arith in rw (c, is-f, is-g) (choice-sums (sym is ∙ e))
+
+    pub made : (p m : ℕ) → p ≡ bounds w → m ≡ freeNames w → k ≡ 2 → nodeSums w s n ≡ addTimes s p (m + 2) (m + 2)
+    made p m is-p is-m e = rw (is-p, is-m) (new-sums (sym is ∙ e))
+
+    pub other-kind : (i : ℕ) → (k ≡ i → ⊥) → nodeKind w n ≡ i → ⊥
+    other-kind i d q = d (is ∙ q)
+
   module _ (a : nodeKind w n ≡ 0 → ⊥) (b : nodeKind w n ≡ 1 → ⊥) (c : nodeKind w n ≡ 2 → ⊥) where
     abbrev copied : Sums
     copied = over (copySums w) (addTimes s 1 1 1) (argumentsOf w n)
@@ -125,9 +139,6 @@ unfolding argumentsOf
 arguments-are w n first second f a b c =
     let e : second + f - second ≡ f = omega arith in
     rw (e, c, a, b)
-
-pub choice-range : (first second : ℕ) → from first (first + second - first) ≡ from first second
-choice-range first second = let e : first + second - first ≡ second = omega arith in rw e
 
 -- ---- how many values of a reach are public, and how many private
 

@@ -136,25 +136,19 @@ fn node(
     let kind = field3(table, 10, n, 0);
     let first = field3(table, 10, n, 1);
     let second = field3(table, 10, n, 2);
-    let mut names = [0u32; 64];
-    if kind == 0 {
-        let held = table::index::held_names(table, owners, homes, n as u16, &mut names);
-        return all_releases(table, plan, t, &names, held);
-    }
     if kind == 1 {
         return silents(table, t, first, first + second);
     }
     if kind == 2 {
         return more(t, plan.privates, free + 2, free + 2);
     }
+    let mut names = [0u32; 64];
     let held = table::index::held_names(table, owners, homes, n as u16, &mut names);
-    let r = all_copies(
-        table,
-        plan,
-        more(t, 1, 1, 1),
-        second,
-        second + field4(table, 8, first, 3),
-    );
+    let mut r = t;
+    if kind != 0 {
+        let end = second + field4(table, 8, first, 3);
+        r = all_copies(table, plan, more(t, 1, 1, 1), second, end);
+    }
     all_releases(table, plan, r, &names, held)
 }
 

@@ -72,8 +72,10 @@ pub fn plan(
     }
     table::index::owners(table, owners);
     table::index::homes(table, homes);
-    table::index::first_definitions(owners, homes, word16(table, 4), definitions);
-    Planned::Places(layout::lay_out(table, owners, homes, rows, spots))
+    let owned: &[u32] = owners;
+    let homed: &[u32] = homes;
+    table::index::first_definitions(owned, homed, word16(table, 4), definitions);
+    Planned::Places(layout::lay_out(table, owned, homed, rows, spots))
 }
 
 // As `plan`, with the counts of transitions and arcs.

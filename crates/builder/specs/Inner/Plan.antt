@@ -12,10 +12,10 @@ use Rattle.table.specs.Scheme.{scheme}
 use Rattle.net.specs.Image.{labelOf}
 use Rattle.net.specs.Net.{Transition}
 use Rattle.places.specs.Values.{privateValuesOf}
-use Rattle.places.specs.Places.{controls}
+use Rattle.places.specs.Places.{Place, controls}
 use Rattle.places.specs.Transitions.{Description, making, communicating, common, sentOn, ofPair}
 use Rattle.places.specs.Image.{transitionOf}
-use Rattle.places.specs.Inner.Arcs.{insert, startsAt}
+use Rattle.places.specs.Inner.Arcs.{insert, numbersOf, startsAt}
 use Rattle.places.specs.Inner.Plan.{today, values, controlOf, rowOf, Reads}
 use Rattle.builder.specs.Inner.Writing
 use Rattle.builder.specs.Inner.Writing.{heads, putAll, rise}
@@ -138,6 +138,15 @@ pub record Rising (list : List ℕ) (count : ℕ) : Type 0 where
 pub record Inserted (x count : ℕ) (before : List ℕ) (r : ℕ) (after : List ℕ) : Type 0 where
   pub size : r ≡ length (insert x (take count before))
   pub first : take r after ≡ insert x (take count before)
+
+-- the first `count` words are the numbers of those of the places that the net has
+pub record Filled (w list : List ℕ) (count : ℕ) (ps : List Place) : Type 0 where
+  pub holds : take count list ≡ numbersOf (scheme w) (today w) ps
+  pub size : count ≡ length (numbersOf (scheme w) (today w) ps)
+
+-- place p put in besides any such places
+abbrev pub Placed : List ℕ → Place → ℕ → List ℕ → ℕ → List ℕ → Type 0
+Placed w p count before r after = (ps : List Place) → Filled w before count ps → Filled w after r (p ∷ ps)
 
 -- the communications of a send and a receive
 unfoldable pub pairTold : List ℕ → ℕ → ℕ → List Description

@@ -3,10 +3,46 @@ use mathlib.Core.Path.{sym, _∙_}
 use borrow.Author.Needs.{needs}
 use borrow.Author.Tests.{not-true, not-false}
 use lib.ListN.{length}
+use Rattle.places.specs.Inner.Plan.{Known, Defined}
 use Rattle.places.specs.Inner.Planning.{Enough}
 use Rattle.places.proofs.Indexing.{accepted-here, refused-here, known, defined}
 use Rattle.places.proofs.plan.Statement.{statement}
 use Rattle.places.proofs.plan.Tie as tie
+
+-- ---- what is known once the definitions are filled in
+
+abbrev homed : tie.After-first-definitions → tie.After-homes
+homed c = c .before .before .before .before .before .before .before
+
+abbrev owned : tie.After-first-definitions → tie.After-owners
+owned c = homed c .before .before .before .before
+
+abbrev tested : tie.After-first-definitions → tie.Else2
+tested c = owned c .before .before
+
+abbrev start : tie.After-first-definitions → tie.Start
+start c = tested c .before .before .before .before .before .before .before .before .before .before .before
+
+room : (c : tie.After-first-definitions)
+    → let a = start c .args in
+    Enough (length (a .owners .now)) (length (a .homes .now)) (length (a .definitions .now)) (length (a .rows .now)) (length (a .spots .now))
+room c = let t = tested c in t .before .is-room .ensures .yes (not-false _ (t .if2 .left))
+
+indexed : (c : tie.After-first-definitions)
+    → let w = start c .args .table .now in
+    Known w (owned c .owners .last .1 .0) (homed c .homes .last .1 .0)
+    × Defined w (homed c .homes .last .1 .0) (c .first-definitions .last .1 .1 .1 .0)
+indexed c =
+    let a = start c .args in
+    let e = tested c .before .before in
+    let n = c .before .before .word16 in
+    let r = room c in
+    let ok = accepted-here (a .table .now) _ (e .before .before .check .ensures) (sym (e .before .is-accepted .ensures) ∙ not-false _ (e .if1 .left)) in (
+      known (a .table .now) _ _ _ (length (a .owners .now)) (length (a .homes .now)) (n .result) (n .ensures .is) ok (owned c .owners .ensures)
+          (homed c .homes .ensures) _ (c .first-definitions .ensures) (r .owners-fit) (r .homes-fit) (r .definitions-fit),
+      defined (a .table .now) _ _ _ (length (a .owners .now)) (length (a .homes .now)) (n .result) (n .ensures .is) ok (owned c .owners .ensures)
+          (homed c .homes .ensures) _ (c .first-definitions .ensures) (r .owners-fit) (r .homes-fit) (r .definitions-fit),
+    )
 
 check-requires : tie.Need-check-requires
 check-requires c κs = search needs
@@ -39,21 +75,9 @@ first-definitions-requires c κs = search needs
 
 lay-out-requires : tie.Need-lay-out-requires
 lay-out-requires c κs =
-    let filled = c .before .before .before .before .before .before in
-    let counted = filled .before .before in
-    let homed = counted .before .before .before .before .before in
-    let owned = homed .before .before .before .before in
-    let tested = owned .before .before in
-    let found = tested .before .before .before in
-    let start = found .before .before .before .before .before .before .before .before in
-    let room = tested .before .is-room .ensures .yes (not-false _ (tested .if2 .left)) in
-    let ok = accepted-here (start .args .table .now) _ (found .before .check .ensures) (sym (found .is-accepted .ensures) ∙ not-false _ (tested .before .before .if1 .left)) in
-    let all = counted .word16 .ensures .is in (
-      known (start .args .table .now) _ _ _ (length (start .args .owners .now)) (length (start .args .homes .now)) _ all ok
-          (owned .owners .ensures) (homed .homes .ensures) _ (filled .first-definitions .ensures) (room .owners-fit) (room .homes-fit) (room .definitions-fit),
-      room .rows-fit,
-      room .spots-fit,
-    )
+    let f = c .before .before .before .before in
+    let r = room f in
+    (indexed f .0, r .rows-fit, r .spots-fit)
 
 same-length : tie.Need-same-length
 same-length c = search needs
@@ -72,22 +96,8 @@ same-length-5 c = search needs
 
 returns-3 : tie.Need-returns-3
 returns-3 c =
-    let filled = c .before .before .before .before .before .before .before .before .before .before .before in
-    let counted = filled .before .before in
-    let homed = counted .before .before .before .before .before in
-    let owned = homed .before .before .before .before in
-    let tested = owned .before .before in
-    let found = tested .before .before .before in
-    let start = found .before .before .before .before .before .before .before .before in
-    let room = tested .before .is-room .ensures .yes (not-false _ (tested .if2 .left)) in
-    let ok = accepted-here (start .args .table .now) _ (found .before .check .ensures) (sym (found .is-accepted .ensures) ∙ not-false _ (tested .before .before .if1 .left)) in
-    let all = counted .word16 .ensures .is in (
-      known (start .args .table .now) _ _ _ (length (start .args .owners .now)) (length (start .args .homes .now)) _ all ok
-          (owned .owners .ensures) (homed .homes .ensures) _ (filled .first-definitions .ensures) (room .owners-fit) (room .homes-fit) (room .definitions-fit),
-      defined (start .args .table .now) _ _ _ (length (start .args .owners .now)) (length (start .args .homes .now)) _ all ok
-          (owned .owners .ensures) (homed .homes .ensures) _ (filled .first-definitions .ensures) (room .owners-fit) (room .homes-fit) (room .definitions-fit),
-      c .before .before .before .before .lay-out .ensures,
-    )
+    let i = indexed (c .before .before .before .before .before .before .before .before .before) in
+    (i .0, i .1, c .before .before .before .before .lay-out .ensures)
 
 pub plan-spec : {M : Type 1} → statement M
 plan-spec =

@@ -1,219 +1,203 @@
--- `builder::chain::copy` meets its contract. Inputs and outputs are put in place by place; where two ways meet, the places so far are told.
+-- `builder::chain::copy` meets its contract. Outputs and inputs are put in place by place; where two ways meet, the places so far are told.
 use mathlib.Core.Path.{_≡_, sym, _∙_}
-use mathlib.Core.List.{[], _∷_}
+use mathlib.Core.List.{List, [], _∷_}
 use mathlib.Core.Logic.{⊎-elim}
-use Prim.Native.Nat.{_+_}
+use Prim.Native.Nat.{ℕ, _+_}
 use native.Mathlib.Omega.{arith}
-use lib.ListN.{length}
-use Rattle.places.specs.Places.{equals, differs, control}
+use lib.ListN.{length, take}
+use Rattle.table.specs.Scheme.{scheme}
+use Rattle.places.specs.Places.{Place, equals, differs, control}
+use Rattle.places.specs.Transitions.{copying}
+use Rattle.places.specs.Inner.Plan.{today, Holds}
+use Rattle.builder.specs.Inner.Plan.{Filled, ofTable, arrow}
 use Rattle.places.proofs.Controls.{few-nodes}
-use Rattle.builder.proofs.Chains.{chain-few, has-value, has-difference, next-place, own-place, own-number, put-as, inside-as}
-use Rattle.builder.proofs.Filling.{Filled, fill-none, fill-with, fill-without, fill-few, fill-rising}
-use Rattle.builder.proofs.Copying.{read-few, read-holds, free-holds, no-value, no-difference, copy-arrow, Begun, begun-with, begun-without}
+use Rattle.builder.proofs.Chains.{Next, chain-few, has-difference, next-place, own-place, own-number, put-as, inside-as}
+use Rattle.builder.proofs.Filling.{fill-none, fill-with, fill-without, fill-few, fill-rising}
+use Rattle.builder.proofs.Copying.{read-few, free-holds, no-difference, copy-arrow}
 use borrow.Author.Needs.{needs}
 use Rattle.builder.proofs.chain.copy.Statement.{statement}
 use Rattle.builder.proofs.chain.copy.Tie as tie
-use Rattle.builder.proofs.chain.on.Reads as on-reads
-use Rattle.builder.proofs.insertion.insert.Reads as insert-reads
-use Rattle.builder.proofs.layout.differs.Reads as differs-reads
-use Rattle.builder.proofs.layout.equals.Reads as equals-reads
-use Rattle.builder.proofs.write.transition.Reads as transition-reads
 
--- after the first test
-first : (c : tie.Joined1)
-    → let a = c .before .before .before .before .before .args in
-    Begun (a .table .now) (equals (a .a) (a .v)) (c .if1 .ins) (c .if1 .outs) (c .if1 .i) (c .if1 .o)
-first c =
-    let a = c .before .before .before .before .before .args in
-    let p = c .before .before .before .before .before .pre in
-    let w = a .table .now in
-    ⊎-elim
-    (λ x. rw (x .9, x .10, x .11, x .12)
-    (begun-with w (equals (a .a) (a .v)) _ _ _ _ (x .2 .result) (x .6 .result)
-    (has-value w (a .a) (a .v) (read-holds w (a .a) (a .v) (omega (arith, p .0 .publics-are, x .0 .taken)) (p .6)))
-    (x .2 .ensures) (x .6 .ensures) (x .3 .ensures) (x .7 .ensures) (x .3 .kept .0) (x .7 .kept .0)))
-    (λ x. rw (x .1, x .2, x .3, x .4) (begun-without w (equals (a .a) (a .v)) (no-value w (a .a) (a .v) (omega (arith, p .0 .publics-are, x .0 .left)))))
-    (c .if1 .came)
+-- ---- the function's entry from the places that follow
 
--- after the second test
-second : (c : tie.Joined2)
-    → let a = c .before .before .before .before .before .before .before .args in
-    Filled (a .table .now) (c .if2 .ins) (c .if2 .i) (differs (a .f) (a .v) ∷ equals (a .a) (a .v) ∷ [])
-    × (length (c .if2 .ins) ≡ 4)
-second c =
-    let a = c .before .before .before .before .before .before .before .args in
-    let p = c .before .before .before .before .before .before .before .pre in
-    let w = a .table .now in
-    let b = first (c .before .before) in
-    let j = c .before .before .if1 in
+abbrev start1 : tie.After-insert-equals → tie.Start
+start1 c = c .before .before .before .before .before
+
+abbrev start2 : tie.After-insert-equals2 → tie.Start
+start2 c = start1 (c .before .before .before)
+
+abbrev start3 : tie.After-insert → tie.Start
+start3 c = start2 (c .before .before .before .before)
+
+abbrev start4 : tie.Joined1 → tie.Start
+start4 c = start3 (c .before .before .before)
+
+abbrev start5 : tie.After-insert3 → tie.Start
+start5 c = start4 (c .before .before .before)
+
+abbrev table : tie.Start → List ℕ
+table s = s .args .table .now
+
+-- ---- the places that are put in
+
+abbrev read : tie.Start → List Place
+read s = equals (s .args .a) (s .args .v) ∷ []
+
+abbrev given : tie.Start → List Place
+given s = equals (s .args .f) (s .args .v) ∷ read s
+
+abbrev taken : tie.Start → List Place
+taken s = differs (s .args .f) (s .args .v) ∷ read s
+
+abbrev next : (s : tie.Start) → Next (table s) (s .args .c) (s .args .k)
+next s = next-place (table s) (s .args .c) (s .pre .1) (s .args .k) (s .pre .2)
+
+holds : (s : tie.Start) → Holds (table s) (s .args .f) (s .args .v)
+holds s = free-holds (table s) (s .args .f) (s .args .v) (s .pre .3) (s .pre .4) (s .pre .5) (read-few (table s) (s .args .a) (s .args .v) (s .pre .6))
+
+first : (c : tie.After-insert-equals) → Filled (table (start1 c)) (c .insert-equals .last .1 .1 .1 .0) (c .insert-equals .result) (read (start1 c))
+first c = c .insert-equals .ensures [] (fill-none (table (start1 c)) _)
+
+most : (c : tie.After-insert-equals2) → Filled (table (start2 c)) (c .insert-equals2 .last .1 .1 .1 .0) (c .insert-equals2 .result) (given (start2 c))
+most c = c .insert-equals2 .ensures (read (start2 c)) (first (c .before .before .before))
+
+outputs : (c : tie.After-insert) → Filled (table (start3 c)) (c .insert .last .0) (c .insert .result) (next (start3 c) .place ∷ given (start3 c))
+outputs c =
+    let s = start3 c in
+    let b = c .before .before .before .before .insert-equals2 in
+    let n = next s in
+    fill-with (table s) (b .last .1 .1 .1 .0) (c .insert .last .0) (b .result) (c .insert .result) (c .before .on .result) (n .place) (given s) (n .there)
+    (c .before .on .ensures ∙ sym (n .number)) (c .insert .ensures) (most (c .before .before .before .before))
+
+-- after the test
+met : (c : tie.Joined1) → Filled (table (start4 c)) (c .if1 .ins) (c .if1 .i) (taken (start4 c)) × (length (c .if1 .ins) ≡ 4)
+met c =
+    let s = start4 c in
+    let a = s .args in
+    let p = s .pre in
+    let w = table s in
+    let b = c .before .before .before .before .before .before .before .before .before .before in
+    let l = b .insert-equals .last .1 .1 .1 .0 in
+    let k = b .insert-equals .kept .1 .1 .1 .0 in
     ⊎-elim
     (λ x. rw (x .5, x .6) (
-      fill-with w (j .ins) _ (j .i) _ (x .2 .result) (differs (a .f) (a .v)) (equals (a .a) (a .v) ∷ [])
+      fill-with w l _ (b .insert-equals .result) _ (x .2 .result) (differs (a .f) (a .v)) (read s)
           (has-difference w (a .f) (a .v)
           (record { low = p .3; high = p .4; free = p .5; private = omega (arith, p .0 .publics-are, x .0 .taken); value = read-few w (a .a) (a .v) (p .6) }))
-          (x .2 .ensures) (x .3 .ensures) (b .ins-are),
-      x .3 .kept .0 ∙ b .ins-room,
+          (x .2 .ensures) (x .3 .ensures) (first b),
+      x .3 .kept .0 ∙ k,
     ))
     (λ x. rw (x .1, x .2) (
-      fill-without w (j .ins) (j .i) (differs (a .f) (a .v)) (equals (a .a) (a .v) ∷ [])
-          (no-difference w (a .f) (a .v) (omega (arith, p .0 .publics-are, x .0 .left))) (b .ins-are),
-      b .ins-room,
+      fill-without w l (b .insert-equals .result) (differs (a .f) (a .v)) (read s)
+          (no-difference w (a .f) (a .v) (omega (arith, p .0 .publics-are, x .0 .left))) (first b),
+      k,
     ))
-    (c .if2 .came)
+    (c .if1 .came)
 
--- all inputs
-inputs : (c : tie.After-insert4)
-    → let a = c .before .before .before .before .before .before .before .before .before .before .args in
-    Filled (a .table .now) (c .insert4 .last .0) (c .insert4 .result)
-    (control (a .c .node) (a .k) ∷ differs (a .f) (a .v) ∷ equals (a .a) (a .v) ∷ [])
+inputs : (c : tie.After-insert3) → Filled (table (start5 c)) (c .insert3 .last .0) (c .insert3 .result)
+    (control (start5 c .args .c .node) (start5 c .args .k) ∷ taken (start5 c))
 inputs c =
-    let a = c .before .before .before .before .before .before .before .before .before .before .args in
-    let p = c .before .before .before .before .before .before .before .before .before .before .pre in
-    let w = a .table .now in
-    let j = c .before .before .before .if2 in
-    fill-with w (j .ins) _ (j .i) _ (a .c .first + a .k) (control (a .c .node) (a .k)) (differs (a .f) (a .v) ∷ equals (a .a) (a .v) ∷ [])
-    (own-place w (a .c) (p .1) (a .k) (p .2)) (sym (own-number w (a .c) (p .1) (a .k) (p .2))) (c .insert4 .ensures) (second (c .before .before .before) .0)
+    let s = start5 c in
+    let a = s .args in
+    let p = s .pre in
+    let j = c .before .before .before .if1 in
+    fill-with (table s) (j .ins) (c .insert3 .last .0) (j .i) (c .insert3 .result) (a .c .first + a .k) (control (a .c .node) (a .k)) (taken s)
+    (own-place (table s) (a .c) (p .1) (a .k) (p .2)) (sym (own-number (table s) (a .c) (p .1) (a .k) (p .2))) (c .insert3 .ensures)
+    (met (c .before .before .before) .0)
 
--- the outputs but the last
-most : (c : tie.After-insert5)
-    → let a = c .before .before .before .before .before .before .before .before .before .before .before .before .before .before .args in
-    Filled (a .table .now) (c .insert5 .last .0) (c .insert5 .result) (equals (a .f) (a .v) ∷ equals (a .a) (a .v) ∷ [])
-most c =
-    let a = c .before .before .before .before .before .before .before .before .before .before .before .before .before .before .args in
-    let p = c .before .before .before .before .before .before .before .before .before .before .before .before .before .before .pre in
-    let w = a .table .now in
-    let j = c .before .before .before .before .before .before .before .before .before .if1 in
-    fill-with w (j .outs) _ (j .o) _ (c .before .equals3 .result) (equals (a .f) (a .v)) (equals (a .a) (a .v) ∷ [])
-    (has-value w (a .f) (a .v) (free-holds w (a .f) (a .v) (p .3) (p .4) (p .5) (read-few w (a .a) (a .v) (p .6))))
-    (c .before .equals3 .ensures) (c .insert5 .ensures) (first (c .before .before .before .before .before .before .before .before .before) .outs-are)
+arrow-is : (c : tie.After-insert3)
+    → let s = start5 c in
+    let a = s .args in
+    let o = c .before .before .before .before .before .before .insert in
+    ofTable (table s) (copying (scheme (table s)) (today (table s)) (a .c .node) (a .c .to) (a .k) (a .f) (a .a) (a .v))
+    ≡ arrow 0 (a .c .node) (a .f) (take (c .insert3 .result) (c .insert3 .last .0)) (take (o .result) (o .last .0))
+arrow-is c =
+    let s = start5 c in
+    let a = s .args in
+    copy-arrow (table s) (a .c) (s .pre .1) (a .k) (s .pre .2) (a .f) (a .a) (a .v) (s .pre .5) _ _ _ _ (inputs c)
+    (outputs (c .before .before .before .before .before .before))
 
--- all outputs
-outputs : (c : tie.After-insert6)
-    → let a =
-    c .before .before .before .before .before .before .before .before .before .before .before .before .before .before .before .before .before .before .args in
-    Filled (a .table .now) (c .insert6 .last .0) (c .insert6 .result)
-    (next-place (a .table .now) (a .c)
-    (c .before .before .before .before .before .before .before .before .before .before .before .before .before .before .before .before .before .before .pre
-    .1) (a .k)
-    (c .before .before .before .before .before .before .before .before .before .before .before .before .before .before .before .before .before .before .pre
-    .2) .place ∷
-    equals (a .f) (a .v) ∷ equals (a .a) (a .v) ∷ [])
-outputs c =
-    let a =
-    c .before .before .before .before .before .before .before .before .before .before .before .before .before .before .before .before .before .before .args in
-    let p =
-    c .before .before .before .before .before .before .before .before .before .before .before .before .before .before .before .before .before .before .pre in
-    let w = a .table .now in
-    let j = c .before .before .before .before .insert5 in
-    let n = next-place w (a .c) (p .1) (a .k) (p .2) in
-    fill-with w (j .last .0) _ (j .result) _ (c .before .on .result) (n .place) (equals (a .f) (a .v) ∷ equals (a .a) (a .v) ∷ [])
-    (n .there) (c .before .on .ensures ∙ sym (n .number)) (c .insert6 .ensures) (most (c .before .before .before .before))
+-- ---- what the calls ask
+
+slice-aggregate-insert-equals : tie.Need-slice-aggregate-insert-equals
+slice-aggregate-insert-equals c = search needs
+
+insert-equals-requires : tie.Need-insert-equals-requires
+insert-equals-requires c κs =
+    let s = c .before .before .before .before in
+    (s .pre .0, s .pre .6, fill-rising (table s) (s .pre .0 .accepted) _ 0 [] (omega arith) (fill-none (table s) _))
+
+slice-aggregate-insert-equals-2 : tie.Need-slice-aggregate-insert-equals-2
+slice-aggregate-insert-equals-2 c = search needs
+
+insert-equals-requires-2 : tie.Need-insert-equals-requires-2
+insert-equals-requires-2 c κs =
+    let b = c .before .before in
+    let s = start1 b in
+    let h = holds s in (
+      s .pre .0,
+      record { high = h .high; value = h .value },
+      fill-rising (table s) (s .pre .0 .accepted) _ _ (read s) (omega (arith, b .insert-equals .kept .1 .1 .1 .0)) (first b),
+    )
 
 slice-aggregate-insert : tie.Need-slice-aggregate-insert
 slice-aggregate-insert c = search needs
 
-equals-requires : tie.Need-equals-requires
-equals-requires c κs =
-    let a = c .before .before .before .before .before .before .args in
-    let p = c .before .before .before .before .before .before .pre in
-    (p .0, read-holds (a .table .now) (a .a) (a .v) (omega (arith, p .0 .publics-are, c .before .if1 .taken)) (p .6))
+on-requires : tie.Need-on-requires
+on-requires c κs =
+    let s = start2 (c .before .before) in
+    let f = chain-few (table s) (s .pre .0 .accepted) (s .args .c) (s .pre .1) in
+    (s .pre .2, omega (arith, f .0), omega (arith, f .1))
 
 insert-requires : tie.Need-insert-requires
 insert-requires c κs =
-    let s = c .before .before .before .before .before .before .before in
-    fill-rising (s .args .table .now) (s .pre .0 .accepted) _ 0 [] (omega arith) (fill-none (s .args .table .now) _)
+    let b = c .before .before .before in
+    let s = start2 b in
+    fill-rising (table s) (s .pre .0 .accepted) _ _ (given s)
+    (omega (arith, b .insert-equals2 .kept .1 .1 .1 .0, b .before .before .before .insert-equals .kept .1 .1 .1 .0)) (most b)
 
 slice-aggregate-insert-2 : tie.Need-slice-aggregate-insert-2
 slice-aggregate-insert-2 c = search needs
 
-equals-requires-2 : tie.Need-equals-requires-2
-equals-requires-2 c κs =
-    let a = c .before .before .before .before .before .before .before .before .before .before .args in
-    let p = c .before .before .before .before .before .before .before .before .before .before .pre in
-    (p .0, read-holds (a .table .now) (a .a) (a .v) (omega (arith, p .0 .publics-are, c .before .before .before .before .before .if1 .taken)) (p .6))
-
-insert-requires-2 : tie.Need-insert-requires-2
-insert-requires-2 c κs =
-    let s = c .before .before .before .before .before .before .before .before .before .before .before in
-    fill-rising (s .args .table .now) (s .pre .0 .accepted) _ 0 [] (omega arith) (fill-none (s .args .table .now) _)
-
-slice-aggregate-insert-3 : tie.Need-slice-aggregate-insert-3
-slice-aggregate-insert-3 c = sym (first (c .before .before .before) .ins-room)
-
 differs-requires : tie.Need-differs-requires
 differs-requires c κs =
-    let a = c .before .before .before .before .before .before .before .before .args in
-    let p = c .before .before .before .before .before .before .before .before .pre in (
+    let s = start3 (c .before .before .before .before) in
+    let p = s .pre in (
       p .0,
       record {
         low = p .3;
         high = p .4;
         free = p .5;
-        private = omega (arith, p .0 .publics-are, c .before .if2 .taken);
-        value = read-few (a .table .now)
-            (a .a) (a .v) (p .6);
+        private = omega (arith, p .0 .publics-are, c .before .if1 .taken);
+        value = read-few (table s) (s .args .a) (s .args .v) (p .6);
       },
     )
 
-insert-requires-3 : tie.Need-insert-requires-3
-insert-requires-3 c κs =
-    let s = c .before .before .before .before .before .before .before .before .before in
-    let b = first (c .before .before .before .before) in
-    fill-rising (s .args .table .now) (s .pre .0 .accepted) _ _ (equals (s .args .a) (s .args .v) ∷ []) (omega (arith, b .ins-room)) (b .ins-are)
+insert-requires-2 : tie.Need-insert-requires-2
+insert-requires-2 c κs =
+    let b = c .before .before .before .before .before .before .before .before .before .before .before .before in
+    let s = start1 b in
+    fill-rising (table s) (s .pre .0 .accepted) _ _ (read s) (omega (arith, b .insert-equals .kept .1 .1 .1 .0)) (first b)
 
-slice-aggregate-insert-4 : tie.Need-slice-aggregate-insert-4
-slice-aggregate-insert-4 c = sym (second (c .before) .1)
+slice-aggregate-insert-3 : tie.Need-slice-aggregate-insert-3
+slice-aggregate-insert-3 c = sym (met (c .before) .1)
 
 add-insert : tie.Need-add-insert
 add-insert c =
-    let s = c .before .before .before .before .before .before .before .before .before in
-    omega (arith, chain-few (s .args .table .now) (s .pre .0 .accepted) (s .args .c) (s .pre .1) .0, s .pre .2)
+    let s = start4 (c .before .before) in
+    omega (arith, chain-few (table s) (s .pre .0 .accepted) (s .args .c) (s .pre .1) .0, s .pre .2)
 
 cast-insert : tie.Need-cast-insert
 cast-insert c =
-    let s = c .before .before .before .before .before .before .before .before .before in
-    omega (arith, chain-few (s .args .table .now) (s .pre .0 .accepted) (s .args .c) (s .pre .1) .0, s .pre .2)
+    let s = start4 (c .before .before) in
+    omega (arith, chain-few (table s) (s .pre .0 .accepted) (s .args .c) (s .pre .1) .0, s .pre .2)
 
-insert-requires-4 : tie.Need-insert-requires-4
-insert-requires-4 c κs =
-    let s = c .before .before .before .before .before .before .before .before .before in
-    let b = second (c .before .before) in
-    fill-rising (s .args .table .now) (s .pre .0 .accepted) _ _ (differs (s .args .f) (s .args .v) ∷ equals (s .args .a) (s .args .v) ∷ [])
-    (omega (arith, b .1)) (b .0)
-
-slice-aggregate-insert-5 : tie.Need-slice-aggregate-insert-5
-slice-aggregate-insert-5 c = sym (first (c .before .before .before .before .before .before .before) .outs-room)
-
-equals-requires-3 : tie.Need-equals-requires-3
-equals-requires-3 c κs =
-    let s = c .before .before .before .before .before .before .before .before .before .before .before .before in
-    let a = s .args in
-    let p = s .pre in
-    let w = a .table .now in
-    (p .0, free-holds w (a .f) (a .v) (p .3) (p .4) (p .5) (read-few w (a .a) (a .v) (p .6)))
-
-insert-requires-5 : tie.Need-insert-requires-5
-insert-requires-5 c κs =
-    let s = c .before .before .before .before .before .before .before .before .before .before .before .before .before in
-    let b = first (c .before .before .before .before .before .before .before .before) in
-    fill-rising (s .args .table .now) (s .pre .0 .accepted) _ _ (equals (s .args .a) (s .args .v) ∷ []) (omega (arith, b .outs-room)) (b .outs-are)
-
-slice-aggregate-insert-6 : tie.Need-slice-aggregate-insert-6
-slice-aggregate-insert-6 c = search needs
-
-on-requires : tie.Need-on-requires
-on-requires c κs =
-    let s = c .before .before .before .before .before .before .before .before .before .before .before .before .before .before .before .before in
-    let f = chain-few (s .args .table .now) (s .pre .0 .accepted) (s .args .c) (s .pre .1) in
-    (s .pre .2, omega (arith, f .0), omega (arith, f .1))
-
-insert-requires-6 : tie.Need-insert-requires-6
-insert-requires-6 c κs =
-    let s = c .before .before .before .before .before .before .before .before .before .before .before .before .before .before .before .before .before in
-    let l : length (c .before .before .before .insert5 .last .0) ≡ 4 = c .before .before .before .insert5 .kept .0
-    ∙ first (c .before .before .before .before .before .before .before .before .before .before .before .before) .outs-room in
-    fill-rising (s .args .table .now) (s .pre .0 .accepted) _ _ (equals (s .args .f) (s .args .v) ∷ equals (s .args .a) (s .args .v) ∷ []) (omega (arith, l))
-    (most (c .before .before .before))
+insert-requires-3 : tie.Need-insert-requires-3
+insert-requires-3 c κs =
+    let j = c .before .before in
+    let s = start4 j in
+    let m = met j in
+    fill-rising (table s) (s .pre .0 .accepted) (j .if1 .ins) (j .if1 .i) (taken s) (omega (arith, m .1)) (m .0)
 
 slice-aggregate-transition : tie.Need-slice-aggregate-transition
 slice-aggregate-transition c = search needs
@@ -223,27 +207,20 @@ slice-aggregate-transition-2 c = search needs
 
 transition-requires : tie.Need-transition-requires
 transition-requires c κs =
-    let a =
-    c .before .before .before .before .before .before .before .before .before .before .before .before .before .before .before .before .before .before .before
-    .before .before .before .args in
-    let p =
-    c .before .before .before .before .before .before .before .before .before .before .before .before .before .before .before .before .before .before .before
-    .before .before .before .pre in
-    let w = a .table .now in
-    let x = inputs (c .before .before .before .before .before .before .before .before .before .before .before .before) in
-    let y = outputs (c .before .before .before .before) in
-    let l : length (c .before .before .before .before .before .before .before .before .before .before .before .before .insert4 .last .0)
-    ≡ 4 = c .before .before .before .before .before .before .before .before .before .before .before .before .insert4 .kept .0
-    ∙ second (c .before .before .before .before .before .before .before .before .before .before .before .before .before .before .before) .1 in
-    let m : length (c .before .before .before .before .insert6 .last .0) ≡ 4 = c .before .before .before .before .insert6 .kept .0
-    ∙ c .before .before .before .before .before .before .before .before .insert5 .kept .0
-    ∙ first
-    (c .before .before .before .before .before .before .before .before .before .before .before .before .before .before .before .before .before) .outs-room in (
+    let b = c .before .before .before .before in
+    let j = b .before .before .before in
+    let o = j .before .before .before in
+    let g = o .before .before .before .before in
+    let s = start5 b in
+    let a = s .args in
+    let p = s .pre in
+    let w = table s in (
       omega (arith, few-nodes w (p .0 .accepted), p .1 .node-inside),
       omega (arith, p .4, p .0 .few-publics, p .0 .few-bounds),
-      omega (arith, l, fill-few w _ _ _ x),
-      omega (arith, m, fill-few w _ _ _ y),
-      inside-as w (a .out .now) (a .h) _ _ (copy-arrow w (a .c) (p .1) (a .k) (p .2) (a .f) (a .a) (a .v) (p .5) _ _ _ _ x y) (p .7),
+      omega (arith, b .insert3 .kept .0, met j .1, fill-few w _ _ _ (inputs b)),
+      omega
+          (arith, o .insert .kept .0, g .insert-equals2 .kept .1 .1 .1 .0, g .before .before .before .insert-equals .kept .1 .1 .1 .0, fill-few w _ _ _ (outputs o)),
+      inside-as w (a .out .now) (a .h) _ _ (arrow-is b) (p .7),
     )
 
 same-length : tie.Need-same-length
@@ -251,42 +228,28 @@ same-length c = search needs
 
 returns : tie.Need-returns
 returns c =
-    let a =
-    c .before .before .before .before .before .before .before .before .before .before .before .before .before .before .before .before .before .before .before
-    .before .before .before .before .before .before .args in
-    let p =
-    c .before .before .before .before .before .before .before .before .before .before .before .before .before .before .before .before .before .before .before
-    .before .before .before .before .before .before .pre in
-    let w = a .table .now in
-    c .before .before .transition .ensures
-    ∙ sym
-    (put-as w (a .out .now) (a .h) _ _ (copy-arrow w (a .c) (p .1) (a .k) (p .2) (a .f) (a .a) (a .v) (p .5) _ _ _ _
-    (inputs (c .before .before .before .before .before .before .before .before .before .before .before .before .before .before .before))
-    (outputs (c .before .before .before .before .before .before .before))))
+    let b = c .before .before .before .before .before .before .before in
+    let a = start5 b .args in
+    c .before .before .transition .ensures ∙ sym (put-as (a .table .now) (a .out .now) (a .h) _ _ (arrow-is b))
 
 pub copy-spec : {M : Type 1} → statement M
 copy-spec =
     tie.close
     (tie.spec
+    slice-aggregate-insert-equals
+    insert-equals-requires
+    slice-aggregate-insert-equals-2
+    insert-equals-requires-2
     slice-aggregate-insert
-    equals-requires
+    on-requires
     insert-requires
     slice-aggregate-insert-2
-    equals-requires-2
+    differs-requires
     insert-requires-2
     slice-aggregate-insert-3
-    differs-requires
-    insert-requires-3
-    slice-aggregate-insert-4
     add-insert
     cast-insert
-    insert-requires-4
-    slice-aggregate-insert-5
-    equals-requires-3
-    insert-requires-5
-    slice-aggregate-insert-6
-    on-requires
-    insert-requires-6
+    insert-requires-3
     slice-aggregate-transition
     slice-aggregate-transition-2
     transition-requires

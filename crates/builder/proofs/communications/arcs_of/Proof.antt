@@ -10,25 +10,40 @@ use Rattle.table.specs.Words.{next}
 use Rattle.table.specs.Owners.{home}
 use Rattle.places.specs.Places.{Place, equals, differs, control}
 use Rattle.builder.specs.Inner.Plan.{Rising}
-use Rattle.builder.proofs.Pairs.{Filled, Speaks, fill-none, fill-rising, speaks, reads-holds, takesOf, givesOf, read-bound, read-public}
-use Rattle.builder.proofs.Pairs.{joined, take-private, take-public, give, move-at, home-inside, send-next, receive-next, tells}
+use Rattle.builder.proofs.Pairs.{Filled, Speaks, fill-none, fill-rising, speaks, takesOf, givesOf, put-in}
+use Rattle.builder.proofs.Pairs.{joined, take-private, take-public, move-at, home-inside, send-next, receive-next, tells}
 use borrow.Author.Needs.{needs}
 use Rattle.builder.proofs.communications.arcs_of.Statement.{statement}
 use Rattle.builder.proofs.communications.arcs_of.Tie as tie
 
--- ---- the function's entry from each place where ways meet
+-- ---- the function's entry from each place where a list has grown
 
-abbrev start0 : tie.After-struct-known → tie.Start
-start0 c = c .before .before .before
+abbrev start1 : tie.After-insert-equals → tie.Start
+start1 c = c .before .before .before .before
 
-abbrev start1 : tie.After-struct-known2 → tie.Start
-start1 c = start0 (c .before .before)
+abbrev start2 : tie.After-insert-equals2 → tie.Start
+start2 c = start1 (c .before .before .before)
 
-abbrev start2 : tie.After-struct-known3 → tie.Start
-start2 c = start1 (c .before .before)
+abbrev start3 : tie.After-insert-equals3 → tie.Start
+start3 c = start2 (c .before .before .before)
 
-abbrev start3 : tie.After-outs → tie.Start
-start3 c = start2 (c .before .before)
+abbrev start4 : tie.After-insert-equals4 → tie.Start
+start4 c = start3 (c .before .before .before)
+
+abbrev start5 : tie.After-insert → tie.Start
+start5 c = start4 (c .before .before .before)
+
+abbrev start6 : tie.After-insert2 → tie.Start
+start6 c = start5 (c .before .before .before)
+
+abbrev start7 : tie.Joined1 → tie.Start
+start7 c = start6 (c .before .before .before)
+
+abbrev start8 : tie.After-insert4 → tie.Start
+start8 c = start7 (c .before .before)
+
+abbrev start9 : tie.After-insert5 → tie.Start
+start9 c = start8 (c .before .before .before)
 
 abbrev table : tie.Start → List ℕ
 table s = s .args .table .now
@@ -51,271 +66,223 @@ abbrev places3 : tie.Start → List Place
 places3 s = equals (s .args .p .sent) (s .args .j) ∷ places2 s
 
 abbrev places4 : tie.Start → List Place
-places4 s = differs (s .args .p .bound) (s .args .j) ∷ places3 s
+places4 s = equals (s .args .p .bound) (s .args .j) ∷ places3 s
 
 abbrev places5 : tie.Start → List Place
-places5 s = equals (s .args .p .bound) (s .args .j) ∷ places3 s
+places5 s = control (next (table s) (s .args .p .send)) 0 ∷ places4 s
 
-filled1 : (c : tie.Joined1) → Filled (table (start0 (c .before))) (c .if1 .ins) (c .if1 .c) (places1 (start0 (c .before)))
+abbrev places7 : tie.Start → List Place
+places7 s = differs (s .args .p .bound) (s .args .j) ∷ places3 s
+
+abbrev places8 : tie.Start → List Place
+places8 s = control (home (table s) (s .args .p .send)) 0 ∷ places7 s
+
+filled1 : (c : tie.After-insert-equals) → Filled (table (start1 c)) (c .insert-equals .last .1 .1 .1 .0) (c .insert-equals .result) (places1 (start1 c))
 filled1 c =
-    let s = start0 (c .before) in
-    let w = table s in
-    let r = s .pre .0 .publics-are in
-    let f : Filled w _ 0 [] = fill-none w _ refl in
-    ⊎-elim
-    (λ v. read-bound w _ (c .if1 .ins) 0 (c .if1 .c) [] f (s .args .p .channel) (s .args .i) (v .2 .result) (known s .channel)
-    (omega (arith, r, v .0 .taken)) (v .2 .ensures) (joined (v .3 .ensures) (v .6) (v .5)) (ap length (v .5) ∙ v .3 .kept .0))
-    (λ v. read-public w _ (c .if1 .ins) 0 (c .if1 .c) [] f (s .args .p .channel) (s .args .i) (omega (arith, r, v .0 .left)) (v .2) (v .1))
-    (c .if1 .came)
+    let l = c .insert-equals in
+    put-in (table (start1 c)) _ (l .last .1 .1 .1 .0) 0 (l .result) [] (fill-none (table (start1 c)) _ refl) _ (l .ensures) (l .kept .1 .1 .1 .0)
 
-filled2 : (c : tie.Joined2) → Filled (table (start1 (c .before))) (c .if2 .ins) (c .if2 .c) (places2 (start1 (c .before)))
+filled2 : (c : tie.After-insert-equals2) → Filled (table (start2 c)) (c .insert-equals2 .last .1 .1 .1 .0) (c .insert-equals2 .result) (places2 (start2 c))
 filled2 c =
-    let s = start1 (c .before) in
-    let w = table s in
-    let r = s .pre .0 .publics-are in
-    let l = c .before .before .if1 in
-    let f = filled1 (c .before .before) in
-    ⊎-elim
-    (λ v. read-bound w (l .ins) (c .if2 .ins) (l .c) (c .if2 .c) (places1 s) f (s .args .p .heard) (s .args .i) (v .2 .result) (known s .heard)
-    (omega (arith, r, v .0 .taken)) (v .2 .ensures) (joined (v .3 .ensures) (v .6) (v .5)) (ap length (v .5) ∙ v .3 .kept .0))
-    (λ v. read-public w (l .ins) (c .if2 .ins) (l .c) (c .if2 .c) (places1 s) f (s .args .p .heard) (s .args .i) (omega (arith, r, v .0 .left)) (v .2)
-    (v .1))
-    (c .if2 .came)
+    let b = c .before .before .before .insert-equals in
+    let l = c .insert-equals2 in
+    put-in (table (start2 c)) (b .last .1 .1 .1 .0) (l .last .1 .1 .1 .0) (b .result) (l .result) (places1 (start2 c)) (filled1 (c .before .before .before)) _
+    (l .ensures) (l .kept .1 .1 .1 .0)
 
-filled3 : (c : tie.Joined3) → Filled (table (start2 (c .before))) (c .if3 .ins) (c .if3 .c) (places3 (start2 (c .before)))
+filled3 : (c : tie.After-insert-equals3) → Filled (table (start3 c)) (c .insert-equals3 .last .1 .1 .1 .0) (c .insert-equals3 .result) (places3 (start3 c))
 filled3 c =
-    let s = start2 (c .before) in
-    let w = table s in
-    let r = s .pre .0 .publics-are in
-    let l = c .before .before .if2 in
-    let f = filled2 (c .before .before) in
-    ⊎-elim
-    (λ v. read-bound w (l .ins) (c .if3 .ins) (l .c) (c .if3 .c) (places2 s) f (s .args .p .sent) (s .args .j) (v .2 .result) (known s .sent)
-    (omega (arith, r, v .0 .taken)) (v .2 .ensures) (joined (v .3 .ensures) (v .6) (v .5)) (ap length (v .5) ∙ v .3 .kept .0))
-    (λ v. read-public w (l .ins) (c .if3 .ins) (l .c) (c .if3 .c) (places2 s) f (s .args .p .sent) (s .args .j) (omega (arith, r, v .0 .left)) (v .2)
-    (v .1))
-    (c .if3 .came)
+    let b = c .before .before .before .insert-equals2 in
+    let l = c .insert-equals3 in
+    put-in (table (start3 c)) (b .last .1 .1 .1 .0) (l .last .1 .1 .1 .0) (b .result) (l .result) (places2 (start3 c)) (filled2 (c .before .before .before)) _
+    (l .ensures) (l .kept .1 .1 .1 .0)
 
 -- ---- the outputs
 
-abbrev begun4 : tie.After-insert4 → tie.Start
-begun4 c = start3 (c .before .before)
-
-gives4 : (c : tie.After-insert4) → Filled (table (begun4 c)) (c .insert4 .last .0) (c .insert4 .result) (places5 (begun4 c))
+gives4 : (c : tie.After-insert-equals4) → Filled (table (start4 c)) (c .insert-equals4 .last .1 .1 .1 .0) (c .insert-equals4 .result) (places4 (start4 c))
 gives4 c =
-    let s = begun4 c in
-    let l = c .before .before .before .if3 in
-    give (table s) (l .ins) (c .insert4 .last .0) (l .c) (c .insert4 .result) (places3 s) (filled3 (c .before .before .before))
-    (s .args .p .bound) (s .args .j) (c .before .equals4 .result) (known s .gives) (c .before .equals4 .ensures) (c .insert4 .ensures) (c .insert4 .kept .0)
+    let b = c .before .before .before .insert-equals3 in
+    let l = c .insert-equals4 in
+    put-in (table (start4 c)) (b .last .1 .1 .1 .0) (l .last .1 .1 .1 .0) (b .result) (l .result) (places3 (start4 c)) (filled3 (c .before .before .before)) _
+    (l .ensures) (l .kept .1 .1 .1 .0)
 
-abbrev begun5 : tie.After-insert5 → tie.Start
-begun5 c = begun4 (c .before .before .before)
-
-gives5 : (c : tie.After-insert5) → Filled (table (begun5 c)) (c .insert5 .last .0) (c .insert5 .result)
-    (control (next (table (begun5 c)) (begun5 c .args .p .send)) 0 ∷ places5 (begun5 c))
+gives5 : (c : tie.After-insert) → Filled (table (start5 c)) (c .insert .last .0) (c .insert .result) (places5 (start5 c))
 gives5 c =
-    let s = begun5 c in
+    let s = start5 c in
     let b = c .before .before .before in
     let k = s .pre .1 in
-    move-at (table s) (b .insert4 .last .0) (c .insert5 .last .0) (b .insert4 .result) (c .insert5 .result) (places5 s) (gives4 b)
+    move-at (table s) (b .insert-equals4 .last .1 .1 .1 .0) (c .insert .last .0) (b .insert-equals4 .result) (c .insert .result) (places4 s) (gives4 b)
     (next (table s) (s .args .p .send)) (s .args .p .onsend) (send-next (table s) (s .pre .0 .accepted) (s .args .p) k) (k .onsend-is)
-    (c .insert5 .ensures) (c .insert5 .kept .0)
+    (c .insert .ensures) (c .insert .kept .0)
 
-abbrev begun6 : tie.After-insert6 → tie.Start
-begun6 c = begun5 (c .before .before .before)
-
-gives6 : (c : tie.After-insert6) → Filled (table (begun6 c)) (c .insert6 .last .0) (c .insert6 .result)
-    (givesOf (table (begun6 c)) (begun6 c .args .p) (begun6 c .args .i) (begun6 c .args .j))
+gives6 : (c : tie.After-insert2) → Filled (table (start6 c)) (c .insert2 .last .0) (c .insert2 .result)
+    (givesOf (table (start6 c)) (start6 c .args .p) (start6 c .args .i) (start6 c .args .j))
 gives6 c =
-    let s = begun6 c in
-    let l = c .before .before .before .insert5 in
+    let s = start6 c in
+    let l = c .before .before .before .insert in
     let k = s .pre .1 in
-    move-at (table s) (l .last .0) (c .insert6 .last .0) (l .result) (c .insert6 .result) (control (next (table s) (s .args .p .send)) 0 ∷ places5 s)
-    (gives5 (c .before .before .before)) (next (table s) (s .args .p .receive)) (s .args .p .onreceive)
-    (receive-next (table s) (s .pre .0 .accepted) (s .args .p) k) (k .onreceive-is) (c .insert6 .ensures) (c .insert6 .kept .0)
+    move-at (table s) (l .last .0) (c .insert2 .last .0) (l .result) (c .insert2 .result) (places5 s) (gives5 (c .before .before .before))
+    (next (table s) (s .args .p .receive)) (s .args .p .onreceive) (receive-next (table s) (s .pre .0 .accepted) (s .args .p) k) (k .onreceive-is)
+    (c .insert2 .ensures) (c .insert2 .kept .0)
 
 -- ---- the inputs
 
-abbrev start4 : tie.After-struct-known4 → tie.Start
-start4 c = begun6 (c .before .before)
+abbrev reads : tie.After-insert2 → tie.After-insert-equals3
+reads c = c .before .before .before .before .before .before .before .before .before
 
-abbrev reads : tie.After-struct-known4 → tie.Joined3
-reads c = c .before .before .before .before .before .before .before .before .before .before .before
-
-filled4 : (c : tie.Joined4) → Filled (table (start4 (c .before))) (c .if4 .ins) (c .if4 .c) (places4 (start4 (c .before)))
-filled4 c =
-    let s = start4 (c .before) in
+takes7 : (c : tie.Joined1) → Filled (table (start7 c)) (c .if1 .ins) (c .if1 .c) (places7 (start7 c))
+takes7 c =
+    let s = start7 c in
     let w = table s in
-    let l = reads (c .before) .if3 in
-    let f = filled3 (reads (c .before)) in
+    let b = reads (c .before .before .before) in
+    let l = b .insert-equals3 in
     let r = s .pre .0 .publics-are in
     ⊎-elim
-    (λ v. take-private w (l .ins) (c .if4 .ins) (l .c) (c .if4 .c) (places3 s) f (s .args .p .bound) (s .args .j) (v .2 .result)
+    (λ v. take-private w (l .last .1 .1 .1 .0) (c .if1 .ins) (l .result) (c .if1 .c) (places3 s) (filled3 b) (s .args .p .bound) (s .args .j) (v .2 .result)
     (known s .differs (omega (arith, r, v .0 .taken))) (v .2 .ensures) (joined (v .3 .ensures) (v .6) (v .5)) (ap length (v .5) ∙ v .3 .kept .0))
-    (λ v. take-public w (l .ins) (c .if4 .ins) (l .c) (c .if4 .c) (places3 s) f (s .args .p .bound) (s .args .j) (omega (arith, r, v .0 .left)) (v .2)
-    (v .1))
-    (c .if4 .came)
+    (λ v. take-public w (l .last .1 .1 .1 .0) (c .if1 .ins) (l .result) (c .if1 .c) (places3 s) (filled3 b) (s .args .p .bound) (s .args .j)
+    (omega (arith, r, v .0 .left)) (v .2) (v .1))
+    (c .if1 .came)
 
-abbrev begun8 : tie.After-insert8 → tie.Start
-begun8 c = start4 (c .before .before .before)
-
-takes8 : (c : tie.After-insert8) → Filled (table (begun8 c)) (c .insert8 .last .0) (c .insert8 .result)
-    (control (home (table (begun8 c)) (begun8 c .args .p .send)) 0 ∷ places4 (begun8 c))
+takes8 : (c : tie.After-insert4) → Filled (table (start8 c)) (c .insert4 .last .0) (c .insert4 .result) (places8 (start8 c))
 takes8 c =
-    let s = begun8 c in
-    let l = c .before .before .if4 in
+    let s = start8 c in
+    let l = c .before .before .if1 in
     let k = s .pre .1 in
-    move-at (table s) (l .ins) (c .insert8 .last .0) (l .c) (c .insert8 .result) (places4 s) (filled4 (c .before .before))
+    move-at (table s) (l .ins) (c .insert4 .last .0) (l .c) (c .insert4 .result) (places7 s) (takes7 (c .before .before))
     (home (table s) (s .args .p .send)) (s .args .p .sender) (home-inside (table s) (s .pre .0 .accepted) (s .args .p) k (s .args .p .send)) (k .sender-is)
-    (c .insert8 .ensures) (c .insert8 .kept .0)
+    (c .insert4 .ensures) (c .insert4 .kept .0)
 
-abbrev begun9 : tie.After-insert9 → tie.Start
-begun9 c = begun8 (c .before .before .before)
-
-takes9 : (c : tie.After-insert9) → Filled (table (begun9 c)) (c .insert9 .last .0) (c .insert9 .result)
-    (takesOf (table (begun9 c)) (begun9 c .args .p) (begun9 c .args .i) (begun9 c .args .j))
+takes9 : (c : tie.After-insert5) → Filled (table (start9 c)) (c .insert5 .last .0) (c .insert5 .result)
+    (takesOf (table (start9 c)) (start9 c .args .p) (start9 c .args .i) (start9 c .args .j))
 takes9 c =
-    let s = begun9 c in
-    let l = c .before .before .before .insert8 in
+    let s = start9 c in
+    let l = c .before .before .before .insert4 in
     let k = s .pre .1 in
-    move-at (table s) (l .last .0) (c .insert9 .last .0) (l .result) (c .insert9 .result) (control (home (table s) (s .args .p .send)) 0 ∷ places4 s)
-    (takes8 (c .before .before .before)) (home (table s) (s .args .p .receive)) (s .args .p .receiver)
-    (home-inside (table s) (s .pre .0 .accepted) (s .args .p) k (s .args .p .receive)) (k .receiver-is) (c .insert9 .ensures) (c .insert9 .kept .0)
+    move-at (table s) (l .last .0) (c .insert5 .last .0) (l .result) (c .insert5 .result) (places8 s) (takes8 (c .before .before .before))
+    (home (table s) (s .args .p .receive)) (s .args .p .receiver) (home-inside (table s) (s .pre .0 .accepted) (s .args .p) k (s .args .p .receive))
+    (k .receiver-is) (c .insert5 .ensures) (c .insert5 .kept .0)
+
+-- ---- what the calls ask
+
+slice-aggregate-insert-equals : tie.Need-slice-aggregate-insert-equals
+slice-aggregate-insert-equals c = search needs
+
+insert-equals-requires : tie.Need-insert-equals-requires
+insert-equals-requires c κs =
+    let s = c .before .before .before in
+    (s .pre .0, known s .channel, rising s _ 0 [] (fill-none (table s) _ refl) (omega arith))
+
+slice-aggregate-insert-equals-2 : tie.Need-slice-aggregate-insert-equals-2
+slice-aggregate-insert-equals-2 c = search needs
+
+insert-equals-requires-2 : tie.Need-insert-equals-requires-2
+insert-equals-requires-2 c κs =
+    let b = c .before .before in
+    let s = start1 b in
+    (s .pre .0, known s .heard, rising s (b .insert-equals .last .1 .1 .1 .0) (b .insert-equals .result) (places1 s) (filled1 b) (omega arith))
+
+slice-aggregate-insert-equals-3 : tie.Need-slice-aggregate-insert-equals-3
+slice-aggregate-insert-equals-3 c = search needs
+
+insert-equals-requires-3 : tie.Need-insert-equals-requires-3
+insert-equals-requires-3 c κs =
+    let b = c .before .before in
+    let s = start2 b in
+    (s .pre .0, known s .sent, rising s (b .insert-equals2 .last .1 .1 .1 .0) (b .insert-equals2 .result) (places2 s) (filled2 b) (omega arith))
+
+slice-aggregate-insert-equals-4 : tie.Need-slice-aggregate-insert-equals-4
+slice-aggregate-insert-equals-4 c = search needs
+
+insert-equals-requires-4 : tie.Need-insert-equals-requires-4
+insert-equals-requires-4 c κs =
+    let b = c .before .before in
+    let s = start3 b in
+    let h = known s .gives in (
+      s .pre .0,
+      record { high = h .high; value = h .value },
+      rising s (b .insert-equals3 .last .1 .1 .1 .0) (b .insert-equals3 .result) (places3 s) (filled3 b) (omega arith),
+    )
 
 slice-aggregate-insert : tie.Need-slice-aggregate-insert
 slice-aggregate-insert c = search needs
 
-equals-requires : tie.Need-equals-requires
-equals-requires c κs =
-    let s = start0 (c .before .before) in
-    (s .pre .0, reads-holds (table s) (s .args .p .channel) (s .args .i) (known s .channel) (omega (arith, s .pre .0 .publics-are, c .before .if1 .taken)))
-
 insert-requires : tie.Need-insert-requires
-insert-requires c κs = rising (start0 (c .before .before .before)) _ 0 [] (fill-none (table (start0 (c .before .before .before))) _ refl) (omega arith)
+insert-requires c κs =
+    let b = c .before .before in
+    let s = start4 b in
+    rising s (b .insert-equals4 .last .1 .1 .1 .0) (b .insert-equals4 .result) (places4 s) (gives4 b) (omega arith)
 
 slice-aggregate-insert-2 : tie.Need-slice-aggregate-insert-2
-slice-aggregate-insert-2 c = sym (filled1 (c .before .before .before) .eight)
-
-equals-requires-2 : tie.Need-equals-requires-2
-equals-requires-2 c κs =
-    let s = start1 (c .before .before) in
-    (s .pre .0, reads-holds (table s) (s .args .p .heard) (s .args .i) (known s .heard) (omega (arith, s .pre .0 .publics-are, c .before .if2 .taken)))
+slice-aggregate-insert-2 c = search needs
 
 insert-requires-2 : tie.Need-insert-requires-2
 insert-requires-2 c κs =
-    let j = c .before .before .before .before in
-    let s = start1 (c .before .before .before) in
-    rising s (j .if1 .ins) (j .if1 .c) (places1 s) (filled1 j) (omega arith)
+    let b = c .before .before in
+    let s = start5 b in
+    rising s (b .insert .last .0) (b .insert .result) (places5 s) (gives5 b) (omega arith)
 
 slice-aggregate-insert-3 : tie.Need-slice-aggregate-insert-3
-slice-aggregate-insert-3 c = sym (filled2 (c .before .before .before) .eight)
+slice-aggregate-insert-3 c = search needs
 
-equals-requires-3 : tie.Need-equals-requires-3
-equals-requires-3 c κs =
-    let s = start2 (c .before .before) in
-    (s .pre .0, reads-holds (table s) (s .args .p .sent) (s .args .j) (known s .sent) (omega (arith, s .pre .0 .publics-are, c .before .if3 .taken)))
+differs-requires : tie.Need-differs-requires
+differs-requires c κs =
+    let s = start6 (c .before .before .before .before) in
+    (s .pre .0, known s .differs (omega (arith, s .pre .0 .publics-are, c .before .if1 .taken)))
 
 insert-requires-3 : tie.Need-insert-requires-3
 insert-requires-3 c κs =
-    let j = c .before .before .before .before in
-    let s = start2 (c .before .before .before) in
-    rising s (j .if2 .ins) (j .if2 .c) (places2 s) (filled2 j) (omega arith)
+    let b = reads (c .before .before .before .before .before) in
+    let s = start3 b in
+    rising s (b .insert-equals3 .last .1 .1 .1 .0) (b .insert-equals3 .result) (places3 s) (filled3 b) (omega arith)
 
 slice-aggregate-insert-4 : tie.Need-slice-aggregate-insert-4
-slice-aggregate-insert-4 c = sym (filled3 (c .before) .eight)
-
-equals-requires-4 : tie.Need-equals-requires-4
-equals-requires-4 c κs = (start3 c .pre .0, known (start3 c) .gives)
+slice-aggregate-insert-4 c = sym (takes7 (c .before) .eight)
 
 insert-requires-4 : tie.Need-insert-requires-4
 insert-requires-4 c κs =
-    let j = c .before .before in
-    let s = start3 (c .before) in
-    rising s (j .if3 .ins) (j .if3 .c) (places3 s) (filled3 j) (omega arith)
+    let j = c .before in
+    let s = start7 j in
+    rising s (j .if1 .ins) (j .if1 .c) (places7 s) (takes7 j) (omega arith)
 
 slice-aggregate-insert-5 : tie.Need-slice-aggregate-insert-5
 slice-aggregate-insert-5 c = search needs
 
 insert-requires-5 : tie.Need-insert-requires-5
 insert-requires-5 c κs =
-    let j = c .before .before in
-    rising (begun4 j) (j .insert4 .last .0) (j .insert4 .result) (places5 (begun4 j)) (gives4 j) (omega arith)
-
-slice-aggregate-insert-6 : tie.Need-slice-aggregate-insert-6
-slice-aggregate-insert-6 c = search needs
-
-insert-requires-6 : tie.Need-insert-requires-6
-insert-requires-6 c κs =
-    let j = c .before .before in
-    let s = begun5 j in
-    rising s (j .insert5 .last .0) (j .insert5 .result) (control (next (table s) (s .args .p .send)) 0 ∷ places5 s) (gives5 j) (omega arith)
-
-slice-aggregate-insert-7 : tie.Need-slice-aggregate-insert-7
-slice-aggregate-insert-7 c = sym (filled3 (reads (c .before .before)) .eight)
-
-differs-requires : tie.Need-differs-requires
-differs-requires c κs =
-    let s = start4 (c .before .before) in
-    (s .pre .0, known s .differs (omega (arith, s .pre .0 .publics-are, c .before .if4 .taken)))
-
-insert-requires-7 : tie.Need-insert-requires-7
-insert-requires-7 c κs =
-    let j = reads (c .before .before .before) in
-    let s = start4 (c .before .before .before) in
-    rising s (j .if3 .ins) (j .if3 .c) (places3 s) (filled3 j) (omega arith)
-
-slice-aggregate-insert-8 : tie.Need-slice-aggregate-insert-8
-slice-aggregate-insert-8 c = sym (filled4 (c .before) .eight)
-
-insert-requires-8 : tie.Need-insert-requires-8
-insert-requires-8 c κs =
-    let j = c .before in
-    let s = start4 (j .before) in
-    rising s (j .if4 .ins) (j .if4 .c) (places4 s) (filled4 j) (omega arith)
-
-slice-aggregate-insert-9 : tie.Need-slice-aggregate-insert-9
-slice-aggregate-insert-9 c = search needs
-
-insert-requires-9 : tie.Need-insert-requires-9
-insert-requires-9 c κs =
-    let j = c .before .before in
-    let s = begun8 j in
-    rising s (j .insert8 .last .0) (j .insert8 .result) (control (home (table s) (s .args .p .send)) 0 ∷ places4 s) (takes8 j) (omega arith)
+    let b = c .before .before in
+    let s = start8 b in
+    rising s (b .insert4 .last .0) (b .insert4 .result) (places8 s) (takes8 b) (omega arith)
 
 returns : tie.Need-returns
 returns c =
     let t = c .before in
     let g = t .before .before .before .before .before .before .before .before in
-    let s = begun9 t in
+    let s = start9 t in
     let a = s .args in
-    tells (table s) (s .pre .0 .accepted) (a .p) (s .pre .1) (a .i) (a .j) (t .insert9 .last .0) (g .insert6 .last .0) (t .insert9 .result)
-    (g .insert6 .result) (takes9 t) (gives6 g)
+    tells (table s) (s .pre .0 .accepted) (a .p) (s .pre .1) (a .i) (a .j) (t .insert5 .last .0) (g .insert2 .last .0) (t .insert5 .result)
+    (g .insert2 .result) (takes9 t) (gives6 g)
 
 pub arcs-of-spec : {M : Type 1} → statement M
 arcs-of-spec =
     tie.close
     (tie.spec
+    slice-aggregate-insert-equals
+    insert-equals-requires
+    slice-aggregate-insert-equals-2
+    insert-equals-requires-2
+    slice-aggregate-insert-equals-3
+    insert-equals-requires-3
+    slice-aggregate-insert-equals-4
+    insert-equals-requires-4
     slice-aggregate-insert
-    equals-requires
     insert-requires
     slice-aggregate-insert-2
-    equals-requires-2
     insert-requires-2
     slice-aggregate-insert-3
-    equals-requires-3
+    differs-requires
     insert-requires-3
     slice-aggregate-insert-4
-    equals-requires-4
     insert-requires-4
     slice-aggregate-insert-5
     insert-requires-5
-    slice-aggregate-insert-6
-    insert-requires-6
-    slice-aggregate-insert-7
-    differs-requires
-    insert-requires-7
-    slice-aggregate-insert-8
-    insert-requires-8
-    slice-aggregate-insert-9
-    insert-requires-9
     returns)

@@ -21,7 +21,7 @@ sub-result c =
     let a = c .before .before .before .before .before .before .args in
     let p = c .before .before .before .before .before .before .pre in
     let r = sym (c .before .before .is-restricted .ensures (p .1 .high)) ∙ c .before .if1 .taken in
-    let v = restricted-private (a .table .now) (a .rows .now) (a .plan) (p .0) (a .name) (a .v) (p .1) r in
+    let v = restricted-private (a .table .now) (a .name) (a .v) (p .1) r in
     omega (arith, v, p .0 .publics-are, p .0 .few-publics, p .0 .few-bounds, c .before .before .before .word32 .ensures .is, row-few (a .table .now) (a .rows .now) (a .plan) (p .0) (a .name) (p .1 .low) (p .1 .high))
 
 add-result : tie.Need-add-result
@@ -29,7 +29,7 @@ add-result c =
     let a = c .before .before .before .before .before .before .args in
     let p = c .before .before .before .before .before .before .pre in
     let r = sym (c .before .before .is-restricted .ensures (p .1 .high)) ∙ c .before .if1 .taken in
-    let v = restricted-private (a .table .now) (a .rows .now) (a .plan) (p .0) (a .name) (a .v) (p .1) r in
+    let v = restricted-private (a .table .now) (a .name) (a .v) (p .1) r in
     omega (arith, v, p .0 .publics-are, p .0 .few-publics, p .0 .few-bounds, c .before .before .before .word32 .ensures .is, row-few (a .table .now) (a .rows .now) (a .plan) (p .0) (a .name) (p .1 .low) (p .1 .high))
 
 cast-result : tie.Need-cast-result
@@ -37,7 +37,7 @@ cast-result c =
     let a = c .before .before .before .before .before .before .args in
     let p = c .before .before .before .before .before .before .pre in
     let r = sym (c .before .before .is-restricted .ensures (p .1 .high)) ∙ c .before .if1 .taken in
-    let v = restricted-private (a .table .now) (a .rows .now) (a .plan) (p .0) (a .name) (a .v) (p .1) r in
+    let v = restricted-private (a .table .now) (a .name) (a .v) (p .1) r in
     omega (arith, v, p .0 .publics-are, p .0 .few-publics, p .0 .few-bounds, c .before .before .before .word32 .ensures .is, row-few (a .table .now) (a .rows .now) (a .plan) (p .0) (a .name) (p .1 .low) (p .1 .high))
 
 returns : tie.Need-returns
@@ -52,7 +52,7 @@ add-result-2 c =
     let a = c .before .before .before .before .before .args in
     let p = c .before .before .before .before .before .pre in
     let r = sym (c .before .is-restricted .ensures (p .1 .high)) ∙ c .if1 .left in
-    let v = free-value (a .table .now) (a .rows .now) (a .plan) (p .0) (a .name) (a .v) (p .1) r in
+    let v = free-value (a .table .now) (a .name) (a .v) (p .1) r in
     omega (arith, v, p .0 .few-publics, p .0 .few-bounds, c .before .before .word32 .ensures .is, row-few (a .table .now) (a .rows .now) (a .plan) (p .0) (a .name) (p .1 .low) (p .1 .high))
 
 cast-result-2 : tie.Need-cast-result-2
@@ -60,7 +60,7 @@ cast-result-2 c =
     let a = c .before .before .before .before .before .args in
     let p = c .before .before .before .before .before .pre in
     let r = sym (c .before .is-restricted .ensures (p .1 .high)) ∙ c .if1 .left in
-    let v = free-value (a .table .now) (a .rows .now) (a .plan) (p .0) (a .name) (a .v) (p .1) r in
+    let v = free-value (a .table .now) (a .name) (a .v) (p .1) r in
     omega (arith, v, p .0 .few-publics, p .0 .few-bounds, c .before .before .word32 .ensures .is, row-few (a .table .now) (a .rows .now) (a .plan) (p .0) (a .name) (p .1 .low) (p .1 .high))
 
 returns-2 : tie.Need-returns-2

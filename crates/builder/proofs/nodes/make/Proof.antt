@@ -1,111 +1,120 @@
--- `builder::nodes::make` meets its contract. Inputs and outputs are put in place by place.
-use mathlib.Core.Path.{_≡_, sym, _∙_}
-use mathlib.Core.List.{_∷_}
+-- `builder::nodes::make` meets its contract. Outputs and inputs are put in place by place.
+use mathlib.Core.Path.{_≡_, sym, subst, _∙_}
+use mathlib.Core.List.{List, _∷_}
+use Prim.Native.Nat.{ℕ}
 use native.Mathlib.Omega.{arith}
-use lib.ListN.{length}
+use lib.ListN.{take}
 use Rattle.table.specs.Words.{nodeFirst, nodeSecond}
 use Rattle.table.specs.Scheme.{scheme}
-use Rattle.places.specs.Places.{equals, free, control}
+use Rattle.places.specs.Places.{Place, equals, free, control}
 use Rattle.places.specs.Inner.Arcs.{allDiffer}
 use Rattle.places.specs.Inner.Plan.{Holds}
+use Rattle.builder.specs.Inner.Plan.{Filled, ofTable, made, arrow}
 use Rattle.places.proofs.Controls.{few-nodes}
-use Rattle.builder.proofs.Chains.{has-value, has-free-value, put-as, inside-as}
-use Rattle.builder.proofs.Filling.{Filled, fill-with, fill-few, fill-rising}
+use Rattle.builder.proofs.Chains.{has-free-value, put-as, inside-as}
+use Rattle.builder.proofs.Filling.{fill-with, fill-few, fill-rising}
 use Rattle.builder.proofs.NodeArrows.{first-place, first-number}
 use Rattle.builder.proofs.Making.{all-length, made-inside, made-holds, made-arrow}
 use borrow.Author.Needs.{needs}
 use Rattle.builder.proofs.nodes.make.Statement.{statement}
 use Rattle.builder.proofs.nodes.make.Tie as tie
-use Rattle.builder.proofs.insertion.insert.Reads as insert-reads
-use Rattle.builder.proofs.layout.equals.Reads as equals-reads
-use Rattle.builder.proofs.layout.free_place.Reads as free-place-reads
-use Rattle.builder.proofs.nodes.differences.Reads as differences-reads
-use Rattle.builder.proofs.write.transition.Reads as transition-reads
-use Rattle.table.proofs.fields.field3.Reads as field3-reads
 
--- the inputs, one by one
-ins-0 : (c : tie.After-differences)
-    → let a = c .before .before .before .before .before .before .args in
-    Filled (a .table .now) (c .differences .last .1 .1 .1 .0) (c .differences .result) (allDiffer (scheme (a .table .now)) (a .v))
-ins-0 c = record { holds = c .differences .ensures .0; size = c .differences .ensures .1 }
+-- ---- the function's entry from the places that follow
 
-ins-1 : (c : tie.After-insert)
-    → let a = c .before .before .before .before .before .before .before .before .before .before .before .before .before .args in
-    Filled (a .table .now) (c .insert .last .0) (c .insert .result) (free (a .v) ∷ allDiffer (scheme (a .table .now)) (a .v))
-ins-1 c =
-    let a = c .before .before .before .before .before .before .before .before .before .before .before .before .before .args in
-    let p = c .before .before .before .before .before .before .before .before .before .before .before .before .before .pre in
-    let w = a .table .now in
-    fill-with w _ _ _ _ (c .before .free-place .result) (free (a .v)) (allDiffer (scheme w) (a .v)) (has-free-value w (a .v) (p .5) (p .6))
-    (c .before .free-place .ensures)
-    (c .insert .ensures) (ins-0 (c .before .before .before .before .before .before .before))
+abbrev start1 : tie.After-differences → tie.Start
+start1 c = c .before .before .before .before .before .before
 
-ins-2 : (c : tie.After-insert2)
-    → let a = c .before .before .before .before .before .before .before .before .before .before .before .before .before .before .before .before .args in
-    Filled (a .table .now) (c .insert2 .last .0) (c .insert2 .result)
-    (control (a .n) 0 ∷ free (a .v) ∷ allDiffer (scheme (a .table .now)) (a .v))
-ins-2 c =
-    let a = c .before .before .before .before .before .before .before .before .before .before .before .before .before .before .before .before .args in
-    let p = c .before .before .before .before .before .before .before .before .before .before .before .before .before .before .before .before .pre in
-    let w = a .table .now in
-    fill-with w _ _ _ _ (a .from) (control (a .n) 0) (free (a .v) ∷ allDiffer (scheme w) (a .v)) (first-place w (a .n) (p .1))
-    (sym (first-number w (a .n) (a .from) (p .3))) (c .insert2 .ensures) (ins-1 (c .before .before .before))
+abbrev start2 : tie.After-insert-equals → tie.Start
+start2 c = start1 (c .before .before .before)
 
--- the outputs, one by one
-outs-0 : (c : tie.After-differences2)
-    → let a = c .before .before .before .before .before .before .before .before .before .args in
-    Filled (a .table .now) (c .differences2 .last .1 .1 .1 .0) (c .differences2 .result) (allDiffer (scheme (a .table .now)) (a .v))
-outs-0 c = record { holds = c .differences2 .ensures .0; size = c .differences2 .ensures .1 }
+abbrev start3 : tie.After-insert → tie.Start
+start3 c = start2 (c .before .before .before)
+
+abbrev start4 : tie.After-insert2 → tie.Start
+start4 c = start3 (c .before .before .before .before)
+
+abbrev start5 : tie.After-insert3 → tie.Start
+start5 c = start4 (c .before .before .before)
+
+abbrev table : tie.Start → List ℕ
+table s = s .args .table .now
+
+-- ---- the places that are put in
+
+abbrev read : tie.Start → List Place
+read s = allDiffer (scheme (table s)) (s .args .v)
+
+abbrev given : tie.Start → List Place
+given s = equals (nodeFirst (table s) (s .args .n)) (s .args .v) ∷ read s
+
+abbrev taken : tie.Start → List Place
+taken s = free (s .args .v) ∷ read s
+
+first : (c : tie.After-differences) → Filled (table (start1 c)) (c .differences .last .1 .1 .1 .0) (c .differences .result) (read (start1 c))
+first c = record { holds = c .differences .ensures .0; size = c .differences .ensures .1 }
 
 -- the new name may hold the value
-holds : (c : tie.After-field3)
-    → let a = c .before .before .before .before .args in
-    Holds (a .table .now) (c .field3 .result) (a .v)
-holds c =
-    let a = c .before .before .before .before .args in
-    let p = c .before .before .before .before .pre in
-    let w = a .table .now in
-    rw (c .field3 .ensures .is) (made-holds w (p .0 .accepted) (a .n) (p .1) (p .2) (a .v) (p .5) (p .6))
+holds : (s : tie.Start) → Holds (table s) (nodeFirst (table s) (s .args .n)) (s .args .v)
+holds s = made-holds (table s) (s .pre .0 .accepted) (s .args .n) (s .pre .1) (s .pre .2) (s .args .v) (s .pre .5) (s .pre .6)
 
-outs-1 : (c : tie.After-insert3)
-    → let a =
-    c .before .before .before .before .before .before .before .before .before .before .before .before .before .before .before .before .before .before .before
-    .before .args in
-    Filled (a .table .now) (c .insert3 .last .0) (c .insert3 .result)
-    (equals (nodeFirst (a .table .now) (a .n)) (a .v) ∷ allDiffer (scheme (a .table .now)) (a .v))
+-- the outputs
+outs-1 : (c : tie.After-insert-equals) → Filled (table (start2 c)) (c .insert-equals .last .1 .1 .1 .0) (c .insert-equals .result) (given (start2 c))
 outs-1 c =
-    let a =
-    c .before .before .before .before .before .before .before .before .before .before .before .before .before .before .before .before .before .before .before
-    .before .args in
-    let p =
-    c .before .before .before .before .before .before .before .before .before .before .before .before .before .before .before .before .before .before .before
-    .before .pre in
-    let w = a .table .now in
-    let e =
-    c .before .before .before .before .before .before .before .before .before .before .before .before .before .before .before .before .field3 .ensures .is in
-    fill-with w _ _ _ _ (c .before .equals .result) (equals (nodeFirst w (a .n)) (a .v)) (allDiffer (scheme w) (a .v))
-    (has-value w (nodeFirst w (a .n)) (a .v) (made-holds w (p .0 .accepted) (a .n) (p .1) (p .2) (a .v) (p .5) (p .6))) (rw e at (c .before .equals .ensures))
-    (c .insert3 .ensures) (outs-0 (c .before .before .before .before .before .before .before .before .before .before .before))
+    let b = c .before .before .before in
+    let s = start2 c in
+    let l = c .insert-equals in
+    subst (λ (x : ℕ). Filled (table s) (l .last .1 .1 .1 .0) (l .result) (equals x (s .args .v) ∷ read s)) (b .before .before .field3 .ensures .is)
+    (l .ensures (read s) (first b))
 
-outs-2 : (c : tie.After-insert4)
-    → let a =
-    c .before .before .before .before .before .before .before .before .before .before .before .before .before .before .before .before .before .before .before
-    .before .before .before .before .args in
-    Filled (a .table .now) (c .insert4 .last .0) (c .insert4 .result)
-    (control (nodeSecond (a .table .now) (a .n)) 0 ∷
-    equals (nodeFirst (a .table .now) (a .n)) (a .v) ∷ allDiffer (scheme (a .table .now)) (a .v))
+outs-2 : (c : tie.After-insert) → Filled (table (start3 c)) (c .insert .last .0) (c .insert .result)
+    (control (nodeSecond (table (start3 c)) (start3 c .args .n)) 0 ∷ given (start3 c))
 outs-2 c =
-    let a =
-    c .before .before .before .before .before .before .before .before .before .before .before .before .before .before .before .before .before .before .before
-    .before .before .before .before .args in
-    let p =
-    c .before .before .before .before .before .before .before .before .before .before .before .before .before .before .before .before .before .before .before
-    .before .before .before .before .pre in
-    let w = a .table .now in
+    let s = start3 c in
+    let a = s .args in
+    let p = s .pre in
+    let w = table s in
     let l = nodeSecond w (a .n) in
-    fill-with w _ _ _ _ (a .to) (control l 0) (equals (nodeFirst w (a .n)) (a .v) ∷ allDiffer (scheme w) (a .v))
-    (first-place w l (made-inside w (p .0 .accepted) (a .n) (p .1) (p .2))) (sym (first-number w l (a .to) (p .4))) (c .insert4 .ensures)
+    let b = c .before .before .before .insert-equals in
+    fill-with w (b .last .1 .1 .1 .0) (c .insert .last .0) (b .result) (c .insert .result) (a .to) (control l 0) (given s)
+    (first-place w l (made-inside w (p .0 .accepted) (a .n) (p .1) (p .2))) (sym (first-number w l (a .to) (p .4))) (c .insert .ensures)
     (outs-1 (c .before .before .before))
+
+-- the inputs
+ins-1 : (c : tie.After-insert2) → Filled (table (start4 c)) (c .insert2 .last .0) (c .insert2 .result) (taken (start4 c))
+ins-1 c =
+    let s = start4 c in
+    let a = s .args in
+    let b = c .before .before .before .before .before .before .before .before .before .before in
+    fill-with (table s) (b .differences .last .1 .1 .1 .0) (c .insert2 .last .0) (b .differences .result) (c .insert2 .result) (c .before .free-place .result)
+    (free (a .v)) (read s) (has-free-value (table s) (a .v) (s .pre .5) (s .pre .6)) (c .before .free-place .ensures) (c .insert2 .ensures) (first b)
+
+ins-2 : (c : tie.After-insert3) → Filled (table (start5 c)) (c .insert3 .last .0) (c .insert3 .result) (control (start5 c .args .n) 0 ∷ taken (start5 c))
+ins-2 c =
+    let s = start5 c in
+    let a = s .args in
+    let b = c .before .before .before .insert2 in
+    fill-with (table s) (b .last .0) (c .insert3 .last .0) (b .result) (c .insert3 .result) (a .from) (control (a .n) 0) (taken s)
+    (first-place (table s) (a .n) (s .pre .1)) (sym (first-number (table s) (a .n) (a .from) (s .pre .3))) (c .insert3 .ensures)
+    (ins-1 (c .before .before .before))
+
+abbrev outs : tie.After-insert3 → tie.After-insert
+outs c = c .before .before .before .before .before .before .before
+
+abbrev named : tie.After-insert3 → tie.After-field3
+named c = outs c .before .before .before .before .before .before .before .before
+
+arrow-is : (c : tie.After-insert3)
+    → let s = start5 c in
+    let o = outs c .insert in
+    ofTable (table s) (made (table s) (s .args .n) (s .args .v))
+    ≡ arrow 2 (s .args .n) (named c .field3 .result) (take (c .insert3 .result) (c .insert3 .last .0)) (take (o .result) (o .last .0))
+arrow-is c =
+    let s = start5 c in
+    let a = s .args in
+    let f = named c .field3 in
+    made-arrow (table s) (s .pre .0 .accepted) (a .n) (s .pre .1) (s .pre .2) (a .v) (f .result) _ _ _ _ (f .ensures .is) (ins-2 c) (outs-2 (outs c))
+
+-- ---- what the calls ask
 
 field3-requires : tie.Need-field3-requires
 field3-requires c κs = search needs
@@ -116,78 +125,59 @@ slice-aggregate-differences c = search needs
 differences-requires : tie.Need-differences-requires
 differences-requires c κs = search needs
 
-slice-aggregate-differences-2 : tie.Need-slice-aggregate-differences-2
-slice-aggregate-differences-2 c = search needs
+slice-aggregate-insert-equals : tie.Need-slice-aggregate-insert-equals
+slice-aggregate-insert-equals c = search needs
 
-differences-requires-2 : tie.Need-differences-requires-2
-differences-requires-2 c κs = search needs
+insert-equals-requires : tie.Need-insert-equals-requires
+insert-equals-requires c κs =
+    let b = c .before .before in
+    let s = start1 b in
+    let h = holds s in (
+      s .pre .0,
+      rw (b .before .before .field3 .ensures .is) (record { high = h .high; value = h .value }),
+      fill-rising (table s) (s .pre .0 .accepted) _ _ (read s)
+          (omega (arith, b .differences .kept .1 .1 .1 .0, all-length (table s) (s .args .v), s .pre .0 .few-bounds)) (first b),
+    )
 
 slice-aggregate-insert : tie.Need-slice-aggregate-insert
 slice-aggregate-insert c = search needs
 
-free-place-requires : tie.Need-free-place-requires
-free-place-requires c κs = search needs
-
 insert-requires : tie.Need-insert-requires
 insert-requires c κs =
-    let a = c .before .before .before .before .before .before .before .before .before .before .before .before .args in
-    let p = c .before .before .before .before .before .before .before .before .before .before .before .before .pre in
-    let w = a .table .now in
-    let l : length (c .before .before .before .before .before .before .differences .last .1 .1 .1 .0)
-    ≡ 40 = c .before .before .before .before .before .before .differences .kept .1 .1 .1 .0 in
-    fill-rising w (p .0 .accepted) _ _ _ (omega (arith, l, all-length w (a .v), p .0 .few-bounds)) (ins-0 (c .before .before .before .before .before .before))
+    let b = c .before .before in
+    let s = start2 b in
+    fill-rising (table s) (s .pre .0 .accepted) _ _ (given s)
+    (omega (
+      arith,
+      b .insert-equals .kept .1 .1 .1 .0,
+      b .before .before .before .differences .kept .1 .1 .1 .0,
+      all-length (table s) (s .args .v),
+      s .pre .0 .few-bounds,
+    )) (outs-1 b)
 
 slice-aggregate-insert-2 : tie.Need-slice-aggregate-insert-2
 slice-aggregate-insert-2 c = search needs
 
+free-place-requires : tie.Need-free-place-requires
+free-place-requires c κs = search needs
+
 insert-requires-2 : tie.Need-insert-requires-2
 insert-requires-2 c κs =
-    let a = c .before .before .before .before .before .before .before .before .before .before .before .before .before .before .before .args in
-    let p = c .before .before .before .before .before .before .before .before .before .before .before .before .before .before .before .pre in
-    let w = a .table .now in
-    let l : length (c .before .before .insert .last .0) ≡ 40 = c .before .before .insert .kept .0
-    ∙ c .before .before .before .before .before .before .before .before .before .differences .kept .1 .1 .1 .0 in
-    fill-rising w (p .0 .accepted) _ _ _ (omega (arith, l, all-length w (a .v), p .0 .few-bounds)) (ins-1 (c .before .before))
+    let b = c .before .before .before .before .before .before .before .before .before in
+    let s = start1 b in
+    fill-rising (table s) (s .pre .0 .accepted) _ _ (read s)
+    (omega (arith, b .differences .kept .1 .1 .1 .0, all-length (table s) (s .args .v), s .pre .0 .few-bounds)) (first b)
 
 slice-aggregate-insert-3 : tie.Need-slice-aggregate-insert-3
 slice-aggregate-insert-3 c = search needs
 
-equals-requires : tie.Need-equals-requires
-equals-requires c κs = (
-  c .before .before .before .before .before .before .before .before .before .before .before .before .before .before .before .before .before .before .pre
-      .0,
-  holds (c .before .before .before .before .before .before .before .before .before .before .before .before .before .before),
-)
-
 insert-requires-3 : tie.Need-insert-requires-3
 insert-requires-3 c κs =
-    let a =
-    c .before .before .before .before .before .before .before .before .before .before .before .before .before .before .before .before .before .before .before
-    .args in
-    let p =
-    c .before .before .before .before .before .before .before .before .before .before .before .before .before .before .before .before .before .before .before
-    .pre in
-    let w = a .table .now in
-    let l : length (c .before .before .before .before .before .before .before .before .before .before .differences2 .last .1 .1 .1 .0)
-    ≡ 40 = c .before .before .before .before .before .before .before .before .before .before .differences2 .kept .1 .1 .1 .0 in
-    fill-rising w (p .0 .accepted) _ _ _ (omega (arith, l, all-length w (a .v), p .0 .few-bounds))
-    (outs-0 (c .before .before .before .before .before .before .before .before .before .before))
-
-slice-aggregate-insert-4 : tie.Need-slice-aggregate-insert-4
-slice-aggregate-insert-4 c = search needs
-
-insert-requires-4 : tie.Need-insert-requires-4
-insert-requires-4 c κs =
-    let a =
-    c .before .before .before .before .before .before .before .before .before .before .before .before .before .before .before .before .before .before .before
-    .before .before .before .args in
-    let p =
-    c .before .before .before .before .before .before .before .before .before .before .before .before .before .before .before .before .before .before .before
-    .before .before .before .pre in
-    let w = a .table .now in
-    let l : length (c .before .before .insert3 .last .0) ≡ 40 = c .before .before .insert3 .kept .0
-    ∙ c .before .before .before .before .before .before .before .before .before .before .before .before .before .differences2 .kept .1 .1 .1 .0 in
-    fill-rising w (p .0 .accepted) _ _ _ (omega (arith, l, all-length w (a .v), p .0 .few-bounds)) (outs-1 (c .before .before))
+    let b = c .before .before in
+    let s = start4 b in
+    let d = b .before .before .before .before .before .before .before .before .before .before .differences in
+    fill-rising (table s) (s .pre .0 .accepted) _ _ (taken s)
+    (omega (arith, b .insert2 .kept .0, d .kept .1 .1 .1 .0, all-length (table s) (s .args .v), s .pre .0 .few-bounds)) (ins-1 b)
 
 slice-aggregate-transition : tie.Need-slice-aggregate-transition
 slice-aggregate-transition c = search needs
@@ -197,37 +187,19 @@ slice-aggregate-transition-2 c = search needs
 
 transition-requires : tie.Need-transition-requires
 transition-requires c κs =
-    let a =
-    c .before .before .before .before .before .before .before .before .before .before .before .before .before .before .before .before .before .before .before
-    .before .before .before .before .before .before .before .before .args in
-    let p =
-    c .before .before .before .before .before .before .before .before .before .before .before .before .before .before .before .before .before .before .before
-    .before .before .before .before .before .before .before .before .pre in
-    let w = a .table .now in
-    let e =
-    c .before .before .before .before .before .before .before .before .before .before .before .before .before .before .before .before .before .before .before
-    .before .before .before .before .field3 .ensures .is in
-    let x = ins-2 (c .before .before .before .before .before .before .before .before .before .before .before) in
-    let y = outs-2 (c .before .before .before .before) in
-    let l : length (c .before .before .before .before .before .before .before .before .before .before .before .insert2 .last .0)
-    ≡ 40 = c .before .before .before .before .before .before .before .before .before .before .before .insert2 .kept .0
-    ∙ c .before .before .before .before .before .before .before .before .before .before .before .before .before .before .insert .kept .0
-    ∙
-    c .before .before .before .before .before .before .before .before .before .before .before .before .before .before .before .before .before .before .before
-    .before .before .differences .kept .1 .1 .1 .0 in
-    let m : length (c .before .before .before .before .insert4 .last .0) ≡ 40 = c .before .before .before .before .insert4 .kept .0
-    ∙ c .before .before .before .before .before .before .before .insert3 .kept .0
-    ∙
-    c .before .before .before .before .before .before .before .before .before .before .before .before .before .before .before .before .before .before
-    .differences2 .kept .1 .1 .1 .0 in (
+    let b = c .before .before .before .before in
+    let o = outs b in
+    let q = o .before .before .before in
+    let s = start5 b in
+    let a = s .args in
+    let p = s .pre in
+    let w = table s in
+    let d = q .before .before .before .differences .kept .1 .1 .1 .0 in (
       omega (arith, few-nodes w (p .0 .accepted), p .1),
-      c .before .before .before .before .before .before .before .before .before .before .before .before .before .before .before .before .before .before
-          .before .before .before .before .before .field3 .ensures .small,
-      omega (arith, l, fill-few w _ _ _ x, all-length w (a .v), p .0 .few-bounds),
-      omega (arith, m, fill-few w _ _ _ y, all-length w (a .v), p .0 .few-bounds),
-      inside-as w (a .out .now) (a .h) _ _ (made-arrow w (p .0 .accepted) (a .n) (p .1) (p .2) (a .v)
-          (c .before .before .before .before .before .before .before .before .before .before .before .before .before .before .before .before .before .before
-          .before .before .before .before .before .field3 .result) _ _ _ _ e x y) (p .7),
+      named b .field3 .ensures .small,
+      omega (arith, b .insert3 .kept .0, b .before .before .before .insert2 .kept .0, d, fill-few w _ _ _ (ins-2 b), all-length w (a .v), p .0 .few-bounds),
+      omega (arith, o .insert .kept .0, q .insert-equals .kept .1 .1 .1 .0, d, fill-few w _ _ _ (outs-2 o), all-length w (a .v), p .0 .few-bounds),
+      inside-as w (a .out .now) (a .h) _ _ (arrow-is b) (p .7),
     )
 
 same-length : tie.Need-same-length
@@ -235,21 +207,9 @@ same-length c = search needs
 
 returns : tie.Need-returns
 returns c =
-    let a =
-    c .before .before .before .before .before .before .before .before .before .before .before .before .before .before .before .before .before .before .before
-    .before .before .before .before .before .before .before .before .before .before .before .args in
-    let p =
-    c .before .before .before .before .before .before .before .before .before .before .before .before .before .before .before .before .before .before .before
-    .before .before .before .before .before .before .before .before .before .before .before .pre in
-    let w = a .table .now in
-    let f =
-    c .before .before .before .before .before .before .before .before .before .before .before .before .before .before .before .before .before .before .before
-    .before .before .before .before .before .before .before .field3 in
-    c .before .before .transition .ensures
-    ∙ sym (put-as w (a .out .now) (a .h) _ _
-    (made-arrow w (p .0 .accepted) (a .n) (p .1) (p .2) (a .v) (f .result) _ _ _ _ (f .ensures .is)
-    (ins-2 (c .before .before .before .before .before .before .before .before .before .before .before .before .before .before))
-    (outs-2 (c .before .before .before .before .before .before .before))))
+    let b = c .before .before .before .before .before .before .before in
+    let a = start5 b .args in
+    c .before .before .transition .ensures ∙ sym (put-as (a .table .now) (a .out .now) (a .h) _ _ (arrow-is b))
 
 pub make-spec : {M : Type 1} → statement M
 make-spec =
@@ -258,18 +218,15 @@ make-spec =
     field3-requires
     slice-aggregate-differences
     differences-requires
-    slice-aggregate-differences-2
-    differences-requires-2
+    slice-aggregate-insert-equals
+    insert-equals-requires
     slice-aggregate-insert
-    free-place-requires
     insert-requires
     slice-aggregate-insert-2
+    free-place-requires
     insert-requires-2
     slice-aggregate-insert-3
-    equals-requires
     insert-requires-3
-    slice-aggregate-insert-4
-    insert-requires-4
     slice-aggregate-transition
     slice-aggregate-transition-2
     transition-requires

@@ -1,25 +1,98 @@
--- `places::count::node` meets its contract.
-use mathlib.Core.Path.{_≡_, sym, ap, subst, _∙_}
-use Prim.Native.Nat.{_+_, _-_}
+-- `places::count::node` meets its contract. Where a Stop and a Call meet, what their releases add to is told.
+use mathlib.Core.Logic.{⊎-elim}
+use mathlib.Core.Path.{_≡_, sym, subst, _∙_}
+use mathlib.Core.List.{List}
+use Prim.Native.Nat.{ℕ, _+_, _-_}
 use native.Mathlib.Omega.{arith}
 use borrow.Author.Needs.{needs}
 use Rattle.lists.specs.Lists.{from}
 use Rattle.table.specs.Words.{nodeKind, argumentsOf}
 use Rattle.table.specs.Owners.{held}
 use Rattle.places.specs.Inner.Plan.{Named}
-use Rattle.places.specs.Inner.Counting.{Few, sumsOf, addTimes, over, releaseSums, copySums, silentSums, nodeSums}
+use Rattle.places.specs.Inner.Counting.{Few, Sums, sumsOf, addTimes, over, releaseSums, copySums, silentSums, nodeSums}
 use Rattle.places.proofs.Controls.{few-nodes}
-use Rattle.places.proofs.NodeCounts.{names-asks, names-gives, stop-sums, choice-sums, new-sums, call-sums, copied-few, called-few, arguments-named}
-use Rattle.places.proofs.NodeCounts.{arguments-are, choice-range, free-few}
+use Rattle.places.proofs.NodeCounts.{names-asks, names-gives, stopped, chosen, made, other-kind, call-sums, copied-few, called-few, arguments-named}
+use Rattle.places.proofs.NodeCounts.{arguments-are, free-few}
 use Rattle.places.proofs.count.node.Statement.{statement}
 use Rattle.places.proofs.count.node.Tie as tie
-use Rattle.places.proofs.count.all_copies.Reads as all-copies-reads
-use Rattle.places.proofs.count.all_releases.Reads as all-releases-reads
-use Rattle.places.proofs.count.more.Reads as more-reads
-use Rattle.places.proofs.count.silents.Reads as silents-reads
-use Rattle.table.proofs.fields.field3.Reads as field3-reads
-use Rattle.table.proofs.fields.field4.Reads as field4-reads
-use Rattle.table.proofs.index.held_names.Reads as held-names-reads
+
+abbrev start : tie.After-field33 → tie.Start
+start c = c .before .before .before .before .before .before
+
+abbrev table : tie.Start → List ℕ
+table s = s .args .table .now
+
+abbrev sums : tie.Start → Sums
+sums s = sumsOf (s .args .t)
+
+abbrev kind : tie.Start → ℕ
+kind s = nodeKind (table s) (s .args .n)
+
+abbrev all : tie.Start → Sums
+all s = nodeSums (table s) (sums s) (s .args .n)
+
+-- ---- what each kind of node adds
+
+of-choice : (c : tie.Then1)
+    → let s = start (c .before) in
+    let f = c .before .before .field32 .result in
+    all s ≡ over (silentSums (table s)) (sums s) (from f (f + c .before .field33 .result - f))
+of-choice c =
+    let b = c .before in
+    let s = start b in
+    let k = b .before .before .field3 in
+    chosen (table s) (s .pre .0 .accepted) (s .args .n) (s .pre .3) (sums s) (k .result) (k .ensures .is) (b .before .field32 .result) (b .field33 .result)
+    (b .before .field32 .ensures .is) (b .field33 .ensures .is) (c .if1 .taken)
+
+of-new : (c : tie.Then2)
+    → let s = start (c .before .before) in
+    all s ≡ addTimes (sums s) (s .args .plan .privates) (s .args .free + 2) (s .args .free + 2)
+of-new c =
+    let b = c .before .before in
+    let s = start b in
+    let k = b .before .before .field3 in
+    made (table s) (s .pre .0 .accepted) (s .args .n) (s .pre .3) (sums s) (k .result) (k .ensures .is) (s .args .plan .privates) (s .args .free)
+    (s .pre .1 .privates-are) (s .pre .2) (c .if2 .taken)
+
+abbrev start2 : tie.After-held-names → tie.Start
+start2 c = start (c .before .before .before .before)
+
+other : (c : tie.After-held-names) (i : ℕ) → (c .before .before .before .before .before .before .field3 .result ≡ i → ⊥) → kind (start2 c) ≡ i → ⊥
+other c =
+    let s = start2 c in
+    let k = c .before .before .before .before .before .before .field3 in
+    other-kind (table s) (s .pre .0 .accepted) (s .args .n) (s .pre .3) (sums s) (k .result) (k .ensures .is)
+
+not-one : (c : tie.After-held-names) → kind (start2 c) ≡ 1 → ⊥
+not-one c = other c 1 (c .before .before .before .if1 .left)
+
+not-two : (c : tie.After-held-names) → kind (start2 c) ≡ 2 → ⊥
+not-two c = other c 2 (c .before .before .if2 .left)
+
+-- after the copies
+met : (c : tie.Joined3)
+    → let s = start2 (c .before .before) in
+    all s ≡ over (releaseSums (table s)) (sumsOf (c .if3 .r)) (held (table s) (s .args .n))
+met c =
+    let b = c .before .before in
+    let d = b .before .before .before .before in
+    let s = start2 b in
+    let w = table s in
+    let h = s .pre .0 .accepted in
+    let a = s .args in
+    let k = d .before .before .field3 in
+    ⊎-elim
+    (λ x.
+    let as′ =
+    arguments-are w (a .n) (d .before .field32 .result) (d .field33 .result) (x .1 .result) (d .before .field32 .ensures .is) (d .field33 .ensures .is)
+    (x .1 .ensures .is) in
+    let copied : sumsOf (c .if3 .r) ≡ over (copySums w) (addTimes (sums s) 1 1 1) (argumentsOf w (a .n)) =
+    rw (x .4) (x .3 .ensures ∙ rw (as′, x .2 .ensures)) in
+    rw copied (call-sums w h (a .n) (s .pre .3) (sums s) (other b 0 (x .0 .taken)) (not-one b) (not-two b)))
+    (λ x. rw (x .1) (stopped w h (a .n) (s .pre .3) (sums s) (k .result) (k .ensures .is) (x .0 .left)))
+    (c .if3 .came)
+
+-- ---- what the calls ask
 
 field3-requires : tie.Need-field3-requires
 field3-requires c κs = search needs
@@ -30,10 +103,30 @@ field3-requires-2 c κs = search needs
 field3-requires-3 : tie.Need-field3-requires-3
 field3-requires-3 c κs = search needs
 
+add-silents : tie.Need-add-silents
+add-silents c = search needs
+
+silents-requires : tie.Need-silents-requires
+silents-requires c κs =
+    (omega (arith, c .before .before .field32 .ensures .small, c .before .field33 .ensures .small), subst Few (of-choice c) (start (c .before) .pre .4))
+
+returns : tie.Need-returns
+returns c = c .silents .ensures ∙ sym (of-choice (c .before))
+
+add-more : tie.Need-add-more
+add-more c = let s = start (c .before .before) in omega (arith, s .pre .2, free-few (table s) (s .pre .1 .few-bounds))
+
+add-more-2 : tie.Need-add-more-2
+add-more-2 c = let s = start (c .before .before) in omega (arith, s .pre .2, free-few (table s) (s .pre .1 .few-bounds))
+
+more-requires : tie.Need-more-requires
+more-requires c κs = subst Few (of-new c) (start (c .before .before) .pre .4)
+
+returns-2 : tie.Need-returns-2
+returns-2 c = c .more .ensures ∙ sym (of-new (c .before))
+
 cast-held-names : tie.Need-cast-held-names
-cast-held-names c =
-    let s = c .before .before .before .before .before .before .before in
-    omega (arith, s .pre .3, few-nodes (s .args .table .now) (s .pre .0 .accepted))
+cast-held-names c = let s = start (c .before .before) in omega (arith, s .pre .3, few-nodes (table s) (s .pre .0 .accepted))
 
 slice-aggregate-held-names : tie.Need-slice-aggregate-held-names
 slice-aggregate-held-names c = search needs
@@ -41,227 +134,62 @@ slice-aggregate-held-names c = search needs
 held-names-requires : tie.Need-held-names-requires
 held-names-requires c κs = search needs
 
+field4-requires : tie.Need-field4-requires
+field4-requires c κs = search needs
+
+add-end : tie.Need-add-end
+add-end c = search needs
+
+more-requires-2 : tie.Need-more-requires-2
+more-requires-2 c κs =
+    let t = c .before in
+    let b = t .before .before in
+    let s = start2 b in
+    called-few (table s) (s .pre .0 .accepted) (s .args .n) (s .pre .3) (sums s) (other b 0 (t .if3 .taken)) (not-one b) (not-two b) (s .pre .4)
+
+all-copies-requires : tie.Need-all-copies-requires
+all-copies-requires c κs =
+    let t = c .before .before in
+    let b = t .before .before in
+    let d = b .before .before .before .before in
+    let s = start2 b in
+    let w = table s in
+    let h = s .pre .0 .accepted in
+    let a = s .args in
+    let f = c .before .field4 in
+    let as′ =
+    arguments-are w (a .n) (d .before .field32 .result) (d .field33 .result) (f .result) (d .before .field32 .ensures .is) (d .field33 .ensures .is)
+    (f .ensures .is) in (
+      s .pre .1,
+      subst (Named w) (sym as′) (arguments-named w h (a .n) (s .pre .3) (sums s) (other b 0 (t .if3 .taken)) (not-one b) (not-two b)),
+      rw (as′, c .more2 .ensures) (copied-few w h (a .n) (s .pre .3) (sums s) (other b 0 (t .if3 .taken)) (not-one b) (not-two b) (s .pre .4)),
+    )
+
 slice-aggregate-all-releases : tie.Need-slice-aggregate-all-releases
 slice-aggregate-all-releases c = search needs
 
 all-releases-requires : tie.Need-all-releases-requires
 all-releases-requires c κs =
-    let c2 = c .before .before in
-    let c4 = c2 .before .before in
-    let c7 = c4 .before .before .before in
-    let s = c7 .before .before .before .before in
+    let j = c .before in
+    let b = j .before .before in
+    let s = start2 b in
     let a = s .args in
-    let w = a .table .now in
-    let h = s .pre .0 .accepted in
-    let t = sumsOf (a .t) in
-    let e = stop-sums w h (a .n) (s .pre .3) t (sym (c7 .field3 .ensures .is) ∙ c4 .if1 .taken) in
+    let n = b .held-names in
     let q =
-    names-asks w (a .owners .now) (a .homes .now) (s .pre .0) (a .n) (s .pre .3) _ (c2 .held-names .result) (c2 .held-names .last .1 .1 .1 .1 .0)
-    (c2 .held-names .ensures) (omega arith) t (subst Few e (s .pre .4)) in
+    names-asks (table s) (a .owners .now) (a .homes .now) (s .pre .0) (a .n) (s .pre .3) _ (n .result) (n .last .1 .1 .1 .1 .0) (n .ensures) (omega arith)
+    (sumsOf (j .if3 .r)) (subst Few (met j) (s .pre .4)) in
     (s .pre .1, q .0, q .1, q .2)
-
-returns : tie.Need-returns
-returns c =
-    let c3 = c .before .before .before in
-    let c5 = c3 .before .before in
-    let c8 = c5 .before .before .before in
-    let s = c8 .before .before .before .before in
-    let a = s .args in
-    let w = a .table .now in
-    let h = s .pre .0 .accepted in
-    let t = sumsOf (a .t) in
-    let e = stop-sums w h (a .n) (s .pre .3) t (sym (c8 .field3 .ensures .is) ∙ c5 .if1 .taken) in
-    names-gives w (a .owners .now) (a .homes .now) (s .pre .0) (a .n) (s .pre .3) _ (c3 .held-names .result) (c3 .held-names .last .1 .1 .1 .1 .0)
-    (c3 .held-names .ensures) (omega arith) t (sumsOf (c .all-releases .result)) (c .all-releases .ensures)
-    ∙ sym e
-
-add-silents : tie.Need-add-silents
-add-silents c = search needs
-
-silents-requires : tie.Need-silents-requires
-silents-requires c κs =
-    let s = c .before .before .before .before .before .before .before .before in
-    let a = s .args in
-    let w = a .table .now in
-    let h = s .pre .0 .accepted in
-    let t = sumsOf (a .t) in
-    let f = c .before .before .before .field32 in
-    let g = c .before .before .field33 in
-    let e : nodeSums w t (a .n) ≡ over (silentSums w) t (from (f .result) (f .result + g .result - f .result)) =
-    choice-sums w h (a .n) (s .pre .3) t (sym (c .before .before .before .before .field3 .ensures .is) ∙ c .if2 .taken)
-    ∙ rw (f .ensures .is, g .ensures .is) (ap (over (silentSums w) t) (sym (choice-range _ _))) in
-    (omega (arith, f .ensures .small, g .ensures .small), subst Few e (s .pre .4))
-
-returns-2 : tie.Need-returns-2
-returns-2 c =
-    let s = c .before .before .before .before .before .before .before .before .before in
-    let a = s .args in
-    let w = a .table .now in
-    let h = s .pre .0 .accepted in
-    let t = sumsOf (a .t) in
-    let f = c .before .before .before .before .field32 in
-    let g = c .before .before .before .field33 in
-    let e : nodeSums w t (a .n) ≡ over (silentSums w) t (from (f .result) (f .result + g .result - f .result)) =
-    choice-sums w h (a .n) (s .pre .3) t (sym (c .before .before .before .before .before .field3 .ensures .is) ∙ c .before .if2 .taken)
-    ∙ rw (f .ensures .is, g .ensures .is) (ap (over (silentSums w) t) (sym (choice-range _ _))) in
-    c .silents .ensures ∙ sym e
-
-add-more : tie.Need-add-more
-add-more c =
-    let c9 = c .before .before .before .before .before .before .before .before .before in
-    omega (arith, c9 .pre .2, free-few (c9 .args .table .now) (c9 .pre .1 .few-bounds))
-
-add-more-2 : tie.Need-add-more-2
-add-more-2 c =
-    let c9 = c .before .before .before .before .before .before .before .before .before in
-    omega (arith, c9 .pre .2, free-few (c9 .args .table .now) (c9 .pre .1 .few-bounds))
-
-more-requires : tie.Need-more-requires
-more-requires c κs =
-    let c5 = c .before .before .before .before .before in
-    let s = c5 .before .before .before .before in
-    let a = s .args in
-    let w = a .table .now in
-    let h = s .pre .0 .accepted in
-    let t = sumsOf (a .t) in
-    let e : nodeSums w t (a .n) ≡ addTimes t (a .plan .privates) (a .free + 2) (a .free + 2) =
-    new-sums w h (a .n) (s .pre .3) t (sym (c5 .field3 .ensures .is) ∙ c .if3 .taken) ∙ rw (s .pre .1 .privates-are, s .pre .2) in
-    subst Few e (s .pre .4)
 
 returns-3 : tie.Need-returns-3
 returns-3 c =
-    let c6 = c .before .before .before .before .before .before in
-    let s = c6 .before .before .before .before in
+    let j = c .before .before in
+    let b = j .before .before in
+    let s = start2 b in
     let a = s .args in
-    let w = a .table .now in
-    let h = s .pre .0 .accepted in
-    let t = sumsOf (a .t) in
-    let e : nodeSums w t (a .n) ≡ addTimes t (a .plan .privates) (a .free + 2) (a .free + 2) =
-    new-sums w h (a .n) (s .pre .3) t (sym (c6 .field3 .ensures .is) ∙ c .before .if3 .taken) ∙ rw (s .pre .1 .privates-are, s .pre .2) in
-    c .more .ensures ∙ sym e
-
-cast-held-names-2 : tie.Need-cast-held-names-2
-cast-held-names-2 c =
-    let s = c .before .before .before .before .before .before .before .before .before in
-    omega (arith, s .pre .3, few-nodes (s .args .table .now) (s .pre .0 .accepted))
-
-slice-aggregate-held-names-2 : tie.Need-slice-aggregate-held-names-2
-slice-aggregate-held-names-2 c = search needs
-
-held-names-requires-2 : tie.Need-held-names-requires-2
-held-names-requires-2 c κs = search needs
-
-more-requires-2 : tie.Need-more-requires-2
-more-requires-2 c κs =
-    let s = c .before .before .before .before .before .before .before .before .before .before .before .before in
-    let a = s .args in
-    let w = a .table .now in
-    let h = s .pre .0 .accepted in
-    let t = sumsOf (a .t) in
-    let f = c .before .before .before .before .before .before .before .before .field3 .ensures .is in
-    let n0 : nodeKind w (a .n) ≡ 0 → ⊥ = λ q. c .before .before .before .before .before .if1 .left (f ∙ q) in
-    let n1 : nodeKind w (a .n) ≡ 1 → ⊥ = λ q. c .before .before .before .before .if2 .left (f ∙ q) in
-    let n2 : nodeKind w (a .n) ≡ 2 → ⊥ = λ q. c .before .before .before .if3 .left (f ∙ q) in
-    called-few w h (a .n) (s .pre .3) t n0 n1 n2 (s .pre .4)
-
-field4-requires : tie.Need-field4-requires
-field4-requires c κs = search needs
-
-add-all-copies : tie.Need-add-all-copies
-add-all-copies c = search needs
-
-all-copies-requires : tie.Need-all-copies-requires
-all-copies-requires c κs =
-    let c5 = c .before .before .before .before .before in
-    let c6 = c5 .before in
-    let c7 = c6 .before in
-    let c8 = c7 .before in
-    let c9 = c8 .before in
-    let c10 = c9 .before in
-    let s = c10 .before .before .before .before in
-    let a = s .args in
-    let w = a .table .now in
-    let h = s .pre .0 .accepted in
-    let t = sumsOf (a .t) in
-    let f = c10 .field3 .ensures .is in
-    let n0 : nodeKind w (a .n) ≡ 0 → ⊥ = λ q. c7 .if1 .left (f ∙ q) in
-    let n1 : nodeKind w (a .n) ≡ 1 → ⊥ = λ q. c6 .if2 .left (f ∙ q) in
-    let n2 : nodeKind w (a .n) ≡ 2 → ⊥ = λ q. c5 .if3 .left (f ∙ q) in
-    let as′ =
-    arguments-are w (a .n) (c9 .field32 .result) (c8 .field33 .result) (c .field4 .result) (c9 .field32 .ensures .is) (c8 .field33 .ensures .is)
-    (c .field4 .ensures .is) in
-    let few = copied-few w h (a .n) (s .pre .3) t n0 n1 n2 (s .pre .4) in (
-      s .pre .1,
-      subst (Named w) (sym as′) (arguments-named w h (a .n) (s .pre .3) t n0 n1 n2),
-      rw (as′, c .before .more2 .ensures) few,
-    )
-
-slice-aggregate-all-releases-2 : tie.Need-slice-aggregate-all-releases-2
-slice-aggregate-all-releases-2 c = search needs
-
-all-releases-requires-2 : tie.Need-all-releases-requires-2
-all-releases-requires-2 c κs =
-    let c2 = c .before .before in
-    let c3 = c2 .before in
-    let c5 = c3 .before .before in
-    let c7 = c5 .before .before in
-    let c8 = c7 .before in
-    let c9 = c8 .before in
-    let c10 = c9 .before in
-    let c11 = c10 .before in
-    let c12 = c11 .before in
-    let s = c12 .before .before .before .before in
-    let a = s .args in
-    let w = a .table .now in
-    let h = s .pre .0 .accepted in
-    let t = sumsOf (a .t) in
-    let f = c12 .field3 .ensures .is in
-    let n0 : nodeKind w (a .n) ≡ 0 → ⊥ = λ q. c9 .if1 .left (f ∙ q) in
-    let n1 : nodeKind w (a .n) ≡ 1 → ⊥ = λ q. c8 .if2 .left (f ∙ q) in
-    let n2 : nodeKind w (a .n) ≡ 2 → ⊥ = λ q. c7 .if3 .left (f ∙ q) in
-    let as′ =
-    arguments-are w (a .n) (c11 .field32 .result) (c10 .field33 .result) (c2 .field4 .result) (c11 .field32 .ensures .is) (c10 .field33 .ensures .is)
-    (c2 .field4 .ensures .is) in
-    let copied : sumsOf (c .before .all-copies .result) ≡ over (copySums w) (addTimes t 1 1 1) (argumentsOf w (a .n)) =
-    c .before .all-copies .ensures ∙ rw (as′, c3 .more2 .ensures) in
-    let e : nodeSums w t (a .n) ≡ over (releaseSums w) (sumsOf (c .before .all-copies .result)) (held w (a .n)) =
-    call-sums w h (a .n) (s .pre .3) t n0 n1 n2 ∙ rw copied in
-    let q =
-    names-asks w (a .owners .now) (a .homes .now) (s .pre .0) (a .n) (s .pre .3) _ (c5 .held-names2 .result) (c5 .held-names2 .last .1 .1 .1 .1 .0)
-    (c5 .held-names2 .ensures) (omega arith) (sumsOf (c .before .all-copies .result)) (subst Few e (s .pre .4)) in
-    (s .pre .1, q .0, q .1, q .2)
-
-returns-4 : tie.Need-returns-4
-returns-4 c =
-    let c2 = c .before .before in
-    let c3 = c2 .before in
-    let c4 = c3 .before in
-    let c6 = c4 .before .before in
-    let c8 = c6 .before .before in
-    let c9 = c8 .before in
-    let c10 = c9 .before in
-    let c11 = c10 .before in
-    let c12 = c11 .before in
-    let c13 = c12 .before in
-    let s = c13 .before .before .before .before in
-    let a = s .args in
-    let w = a .table .now in
-    let h = s .pre .0 .accepted in
-    let t = sumsOf (a .t) in
-    let f = c13 .field3 .ensures .is in
-    let n0 : nodeKind w (a .n) ≡ 0 → ⊥ = λ q. c10 .if1 .left (f ∙ q) in
-    let n1 : nodeKind w (a .n) ≡ 1 → ⊥ = λ q. c9 .if2 .left (f ∙ q) in
-    let n2 : nodeKind w (a .n) ≡ 2 → ⊥ = λ q. c8 .if3 .left (f ∙ q) in
-    let as′ =
-    arguments-are w (a .n) (c12 .field32 .result) (c11 .field33 .result) (c3 .field4 .result) (c12 .field32 .ensures .is) (c11 .field33 .ensures .is)
-    (c3 .field4 .ensures .is) in
-    let copied : sumsOf (c2 .all-copies .result) ≡ over (copySums w) (addTimes t 1 1 1) (argumentsOf w (a .n)) =
-    c2 .all-copies .ensures ∙ rw (as′, c4 .more2 .ensures) in
-    let e : nodeSums w t (a .n) ≡ over (releaseSums w) (sumsOf (c2 .all-copies .result)) (held w (a .n)) =
-    call-sums w h (a .n) (s .pre .3) t n0 n1 n2 ∙ rw copied in
-    names-gives w (a .owners .now) (a .homes .now) (s .pre .0) (a .n) (s .pre .3) _ (c6 .held-names2 .result) (c6 .held-names2 .last .1 .1 .1 .1 .0)
-    (c6 .held-names2 .ensures) (omega arith) (sumsOf (c2 .all-copies .result)) (sumsOf (c .all-releases2 .result)) (c .all-releases2 .ensures)
-    ∙ sym e
+    let n = b .held-names in
+    names-gives (table s) (a .owners .now) (a .homes .now) (s .pre .0) (a .n) (s .pre .3) _ (n .result) (n .last .1 .1 .1 .1 .0) (n .ensures) (omega arith)
+    (sumsOf (j .if3 .r)) (sumsOf (c .all-releases .result)) (c .all-releases .ensures)
+    ∙ sym (met j)
 
 pub node-spec : {M : Type 1} → statement M
 node-spec =
@@ -270,26 +198,20 @@ node-spec =
     field3-requires
     field3-requires-2
     field3-requires-3
-    cast-held-names
-    slice-aggregate-held-names
-    held-names-requires
-    slice-aggregate-all-releases
-    all-releases-requires
-    returns
     add-silents
     silents-requires
-    returns-2
+    returns
     add-more
     add-more-2
     more-requires
-    returns-3
-    cast-held-names-2
-    slice-aggregate-held-names-2
-    held-names-requires-2
-    more-requires-2
+    returns-2
+    cast-held-names
+    slice-aggregate-held-names
+    held-names-requires
     field4-requires
-    add-all-copies
+    add-end
+    more-requires-2
     all-copies-requires
-    slice-aggregate-all-releases-2
-    all-releases-requires-2
-    returns-4)
+    slice-aggregate-all-releases
+    all-releases-requires
+    returns-3)
