@@ -22,7 +22,7 @@ use Rattle.builder.specs.Inner.Writing
 use Rattle.builder.specs.Inner.Writing.{writes, heads, putAll, Inside}
 use Rattle.places.specs.Inner.Counting.{sumsOf, allSums}
 use Rattle.places.specs.Inner.Plan.{today, headerOf, Laid}
-use Rattle.builder.specs.Inner.Plan.{put, state, ofTable}
+use Rattle.builder.specs.Inner.Parts.{put, state, ofTable}
 use Rattle.places.specs.declared.layout.Layout.{Layout}
 use Rattle.places.specs.declared.count.Totals.{Totals}
 use Rattle.builder.proofs.Writing.{writes-length, put-append, put-place, put-arc, put-length, inside-first, begun, written}

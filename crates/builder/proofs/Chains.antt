@@ -1,5 +1,5 @@
 -- Chains of control places: where each place leads, and the arrows of releases as the code makes them.
-use mathlib.Core.Path.{_≡_, refl, ap, subst, _∙_}
+use mathlib.Core.Path.{_≡_, refl, sym, ap, subst, _∙_}
 use mathlib.Core.Bool.{Bool, true, false}
 use mathlib.Core.List.{List, [], _∷_}
 use Prim.Native.Nat.{ℕ, suc, _+_, _≤_, _<_}
@@ -21,7 +21,7 @@ use Rattle.places.specs.Inner.Arcs.{reachedPlaces}
 use Rattle.builder.specs.Inner.Writing
 use Rattle.builder.specs.Inner.Writing.{putOne, Inside}
 use Rattle.places.specs.Inner.Plan.{today, Holds, Differs}
-use Rattle.builder.specs.Inner.Plan.{Chained, ofTable, put, state, arrow}
+use Rattle.builder.specs.Inner.Parts.{Chained, ofTable, put, state, arrow}
 use Rattle.builder.specs.declared.chain.Chain.{Chain}
 use Rattle.builder.specs.declared.write.Heads.{Heads}
 use Rattle.places.proofs.Today.{private-reached}
@@ -148,6 +148,9 @@ module _ (w : List ℕ) where
 module _ (w out : List ℕ) (h : Heads) (d : Description) (t : Transition) (is : ofTable w d ≡ t) where
   pub put-as : put w out h (d ∷ []) ≡ putOne (state out h) t
   put-as = put-one w out h d ∙ ap (putOne (state out h)) is
+
+  pub put-from : (s : Writing.Heads) → s ≡ putOne (state out h) t → s ≡ put w out h (d ∷ [])
+  put-from s e = e ∙ sym put-as
 
   pub inside-as : Inside (put w out h (d ∷ [])) → Inside (putOne (state out h) t)
   inside-as i = subst Inside put-as i

@@ -17,7 +17,7 @@ use Rattle.places.specs.Transitions.{take, copying}
 use Rattle.places.specs.Inner.Arcs.{takenPlaces, givenPlaces, exists, numbersOf}
 use Rattle.places.specs.Inner.Spans.{firstValue, endValue}
 use Rattle.places.specs.Inner.Plan.{today, Holds, Reads}
-use Rattle.builder.specs.Inner.Plan.{Chained, Filled, ofTable, arrow}
+use Rattle.builder.specs.Inner.Parts.{Chained, Filled, ofTable, arrow}
 use Rattle.builder.specs.declared.chain.Chain.{Chain}
 use Rattle.places.proofs.Arcs.{inputs-named, outputs-named}
 use Rattle.places.proofs.Spans.{value-member, member-value}

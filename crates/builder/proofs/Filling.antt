@@ -13,7 +13,7 @@ use Rattle.places.specs.Places.{Place, free}
 use Rattle.places.specs.Rows.{controlStart, numberOf, Exists}
 use Rattle.places.specs.Inner.Arcs.{insert, exists, numbersOf}
 use Rattle.places.specs.Inner.Plan.{today}
-use Rattle.builder.specs.Inner.Plan.{Rising, Inserted, Filled}
+use Rattle.builder.specs.Inner.Parts.{Rising, Inserted, Filled}
 use Rattle.places.proofs.Rows.{places-length, number-below}
 use Rattle.places.proofs.Numbers.{numbers-few}
 use Rattle.places.proofs.Split.{numbers-none, numbers-yes, numbers-no, numbers-tail, numbers-swap, numbers-ascend}

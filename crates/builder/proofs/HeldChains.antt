@@ -19,7 +19,7 @@ use Rattle.table.proofs.Accepted.{accepted}
 use Rattle.places.specs.Places.{controls}
 use Rattle.places.specs.Transitions.{releases, copies, calling, ofNode}
 use Rattle.places.specs.Inner.Plan.{today, Known, Spotted, Named, Bounded, Frees, argumentName}
-use Rattle.builder.specs.Inner.Plan.{Chained}
+use Rattle.builder.specs.Inner.Parts.{Chained}
 use Rattle.places.proofs.Controls.{nodes-are, publics-are, bounds-are}
 use Rattle.places.proofs.ByWords.{called-inside, arguments-inside, argument-inside, formals-of, arguments-of, held-of, held-known}
 use Rattle.places.proofs.ByWords.{count-stop, count-call}

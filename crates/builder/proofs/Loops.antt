@@ -8,7 +8,7 @@ use lib.Seq.{slice, length-take-le}
 use Rattle.lists.specs.Lists.{from}
 use Rattle.lists.proofs.Slices.{slice-step, slice-none}
 use Rattle.builder.specs.Inner.Writing.{writes, Heads, heads, putOne}
-use Rattle.builder.specs.Inner.Plan.{arrow}
+use Rattle.builder.specs.Inner.Parts.{arrow}
 use Rattle.builder.proofs.Writing.{writes-one, writes-none, writes-append}
 
 -- words of a list

@@ -19,7 +19,7 @@ use Rattle.places.specs.Places.{Place, equals, differs, free, control}
 use Rattle.places.specs.Rows.{numberOf}
 use Rattle.places.specs.Inner.Arcs.{allDiffer, numbersOf}
 use Rattle.places.specs.Inner.Plan.{today, Holds, Differs}
-use Rattle.builder.specs.Inner.Plan.{Inserted, Filled, ofTable, made, arrow}
+use Rattle.builder.specs.Inner.Parts.{Inserted, Filled, ofTable, made, arrow}
 use Rattle.places.proofs.Names.{values-restricted}
 use Rattle.places.proofs.Arcs.{inputs-named, outputs-named}
 use Rattle.places.proofs.ByKind.{differs-restricted}

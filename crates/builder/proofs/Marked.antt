@@ -25,7 +25,7 @@ use Rattle.places.specs.Rows.{freeStart}
 use Rattle.places.specs.Inner.Arcs.{insert, startsAt, initialNumbers}
 use Rattle.builder.specs.Inner.Writing.{writes}
 use Rattle.places.specs.Inner.Plan.{today, values, controlOf, rowOf, Rowed, Spotted}
-use Rattle.builder.specs.Inner.Plan.{Rising, Inserted, initialRows, initialSpots}
+use Rattle.builder.specs.Inner.Parts.{Rising, Inserted, initialRows, initialSpots}
 use Rattle.places.specs.declared.layout.Layout.{Layout}
 use Rattle.places.proofs.Rows.{control-next}
 use Rattle.places.proofs.Order.{control-rises}

@@ -17,7 +17,7 @@ use Rattle.places.specs.Places.{control}
 use Rattle.places.specs.Rows.{numberOf, Exists}
 use Rattle.places.specs.Transitions.{Description, releases, silents, going, calling, ofNode}
 use Rattle.places.specs.Inner.Plan.{today, controlOf}
-use Rattle.builder.specs.Inner.Plan.{Chained, ofTable, made, arrow}
+use Rattle.builder.specs.Inner.Parts.{Chained, ofTable, made, arrow}
 use Rattle.builder.specs.declared.chain.Chain.{Chain}
 use Rattle.places.proofs.Explicit.{going-inputs, going-outputs, calling-inputs, calling-outputs}
 use Rattle.places.proofs.Controls.{nodes-are, publics-are, bounds-are, privates-are}

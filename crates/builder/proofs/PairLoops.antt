@@ -16,7 +16,7 @@ use Rattle.places.specs.Transitions.{Description, common, sentOn}
 use Rattle.builder.specs.Inner.Writing
 use Rattle.builder.specs.Inner.Writing.{putAll, Inside}
 use Rattle.places.specs.Inner.Plan.{today, values, Rowed, Reads, Lists, InBoth, reached}
-use Rattle.builder.specs.Inner.Plan.{ofTable, told, sentTold, pairTold, Paired, Run}
+use Rattle.builder.specs.Inner.Parts.{ofTable, told, sentTold, pairTold, Paired, Run}
 use Rattle.places.specs.declared.layout.Layout.{Layout}
 use Rattle.places.specs.declared.layout.Reach.{Reach}
 use Rattle.builder.specs.declared.communications.Pair.{Pair}

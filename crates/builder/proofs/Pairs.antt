@@ -22,7 +22,7 @@ use Rattle.places.specs.Rows.{numberOf, IsBound, Exists, has-differs, has-contr
 use Rattle.places.specs.Inner.Arcs.{insert, exists, numbersOf}
 use Rattle.builder.specs.Inner.Writing.{putOne, putAll, Inside}
 use Rattle.places.specs.Inner.Plan.{today, values, controlOf, Holds, Reads, Differs}
-use Rattle.builder.specs.Inner.Plan.{ofTable, state, put, told, Paired, arrow, Rising, Inserted, Placed, insOf, outsOf, Tells}
+use Rattle.builder.specs.Inner.Parts.{ofTable, state, put, told, Paired, arrow, Rising, Inserted, Placed, insOf, outsOf, Tells}
 use Rattle.builder.specs.declared.write.Heads.{Heads}
 use Rattle.builder.specs.declared.write.Arcs.{Arcs}
 use Rattle.builder.specs.declared.communications.Pair.{Pair}

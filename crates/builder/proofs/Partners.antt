@@ -19,7 +19,7 @@ use Rattle.places.specs.Transitions.{Description, ofPair}
 use Rattle.builder.specs.Inner.Writing
 use Rattle.builder.specs.Inner.Writing.{putAll, Inside}
 use Rattle.places.specs.Inner.Plan.{today, Spotted, Defined}
-use Rattle.builder.specs.Inner.Plan.{state, pairTold, withBranch, withAll, Paired}
+use Rattle.builder.specs.Inner.Parts.{state, pairTold, withBranch, withAll, Paired}
 use Rattle.builder.specs.declared.write.Heads.{Heads}
 use Rattle.builder.proofs.Writing.{put-none, put-append, inside-first}
 use Rattle.places.proofs.Controls.{nodes-are}

@@ -21,7 +21,7 @@ use Rattle.places.specs.Inner.Arcs.{numbersOf}
 use Rattle.builder.specs.Inner.Writing
 use Rattle.builder.specs.Inner.Writing.{putOne, putAll, rise}
 use Rattle.places.specs.Inner.Plan.{today, Rowed, Holds, Reads}
-use Rattle.builder.specs.Inner.Plan.{Paired, Run, Tells, ofTable, state, put, told, arrow, insOf, outsOf, risen}
+use Rattle.builder.specs.Inner.Parts.{Paired, Run, Tells, ofTable, state, put, told, arrow, insOf, outsOf, risen}
 use Rattle.places.specs.declared.layout.Layout.{Layout}
 use Rattle.builder.specs.declared.write.Heads.{Heads}
 use Rattle.builder.specs.declared.write.Arcs.{Arcs}

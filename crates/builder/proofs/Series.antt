@@ -14,7 +14,7 @@ use Rattle.lists.proofs.Members.{member-getD, append-member, map-append}
 use Rattle.lists.proofs.Ranges.{from-more, from-done}
 use Rattle.net.specs.Net.{Transition}
 use Rattle.builder.specs.Inner.Writing.{writes, Heads, heads, putOne, putAll, Inside, maskOf, rise, sums, Steady}
-use Rattle.builder.specs.Inner.Plan.{insOf, outsOf, Short, risen}
+use Rattle.builder.specs.Inner.Parts.{insOf, outsOf, Short, risen}
 use Rattle.builder.specs.declared.write.Arcs.{Arcs}
 use Rattle.builder.proofs.Writing.{writes-append, writes-behind, put-none, put-cons, inside-first, one-room}
 

@@ -1,3 +1,3 @@
 -- Definitions that only promises of private functions cite.
 pub mod Writing
-pub mod Plan
+pub mod Parts

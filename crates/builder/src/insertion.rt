@@ -1,7 +1,7 @@
 // A transition's arcs: ascending lists of place numbers, made by insertion.
 ghost use Rattle.places.specs.Places.{equals};
 ghost use Rattle.places.specs.Inner.Plan.{Rowed, Reads};
-ghost use Rattle.builder.specs.Inner.Plan.{Rising, Inserted, Placed};
+ghost use Rattle.builder.specs.Inner.Parts.{Rising, Inserted, Placed};
 use crate::layout::equals;
 use places::layout::Layout;
 

@@ -8,7 +8,7 @@ ghost use Rattle.table.specs.Scheme.{scheme};
 ghost use Rattle.places.specs.Inner.Arcs.{initialNumbers};
 ghost use Rattle.builder.specs.Inner.Writing.{writes};
 ghost use Rattle.places.specs.Inner.Plan.{today};
-ghost use Rattle.builder.specs.Inner.Plan.{initialRows, initialSpots};
+ghost use Rattle.builder.specs.Inner.Parts.{initialRows, initialSpots};
 ghost use Rattle.places.specs.Inner.Plan.{Rowed, Spotted, Laid};
 use crate::insertion::insert;
 use crate::write::words;

@@ -13,7 +13,7 @@ ghost use Rattle.places.specs.Transitions.{releases, silents, ofNode};
 ghost use Rattle.places.specs.Inner.Arcs.{allDiffer, numbersOf};
 ghost use Rattle.builder.specs.Inner.Writing.{Inside};
 ghost use Rattle.places.specs.Inner.Plan.{today, controlOf};
-ghost use Rattle.builder.specs.Inner.Plan.{put, state, made};
+ghost use Rattle.builder.specs.Inner.Parts.{put, state, made};
 ghost use Rattle.places.specs.Inner.Plan.{Known, Rowed, Spotted, Laid};
 use crate::chain::Chain;
 use crate::chain::copy_all;

@@ -6,7 +6,7 @@ ghost use lib.ListN.{length, take};
 ghost use Rattle.lists.specs.Lists.{from, range};
 ghost use Rattle.builder.specs.Inner.Writing.{writes, putOne, putAll, Inside, maskOf, sums, Steady};
 ghost use Rattle.places.specs.Inner.Counting.{Few, sumsOf};
-ghost use Rattle.builder.specs.Inner.Plan.{state, arrow, risen, Short};
+ghost use Rattle.builder.specs.Inner.Parts.{state, arrow, risen, Short};
 ghost use Rattle.places.specs.Inner.Plan.{headerOf};
 use lists::store32;
 use places::count::Totals;

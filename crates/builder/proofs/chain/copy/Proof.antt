@@ -9,9 +9,9 @@ use Rattle.table.specs.Scheme.{scheme}
 use Rattle.places.specs.Places.{Place, equals, differs, control}
 use Rattle.places.specs.Transitions.{copying}
 use Rattle.places.specs.Inner.Plan.{today, Holds}
-use Rattle.builder.specs.Inner.Plan.{Filled, ofTable, arrow}
+use Rattle.builder.specs.Inner.Parts.{Filled, ofTable, arrow}
 use Rattle.places.proofs.Controls.{few-nodes}
-use Rattle.builder.proofs.Chains.{Next, chain-few, has-difference, next-place, own-place, own-number, put-as, inside-as}
+use Rattle.builder.proofs.Chains.{Next, chain-few, has-difference, next-place, own-place, own-number, put-from, inside-as}
 use Rattle.builder.proofs.Filling.{fill-none, fill-with, fill-without, fill-few, fill-rising}
 use Rattle.builder.proofs.Copying.{read-few, free-holds, no-difference, copy-arrow}
 use borrow.Author.Needs.{needs}
@@ -230,7 +230,7 @@ returns : tie.Need-returns
 returns c =
     let b = c .before .before .before .before .before .before .before in
     let a = start5 b .args in
-    c .before .before .transition .ensures ∙ sym (put-as (a .table .now) (a .out .now) (a .h) _ _ (arrow-is b))
+    put-from (a .table .now) (a .out .now) (a .h) _ _ (arrow-is b) _ (c .before .before .transition .ensures)
 
 pub copy-spec : {M : Type 1} → statement M
 copy-spec =

@@ -9,7 +9,7 @@ use Rattle.lists.proofs.Ranges.{member-from}
 use Rattle.table.specs.Scheme.{scheme}
 use Rattle.places.specs.Transitions.{copies}
 use Rattle.places.specs.Inner.Plan.{today, argumentName}
-use Rattle.builder.specs.Inner.Plan.{put, state, ofTable}
+use Rattle.builder.specs.Inner.Parts.{put, state, ofTable}
 use Rattle.builder.proofs.Writing.{put-none}
 use Rattle.builder.proofs.Chains.{chain-few, state-length}
 use Rattle.builder.proofs.ChainLoops.{part-inside, part-more, argument-member, copies-start, copies-more, copies-done}

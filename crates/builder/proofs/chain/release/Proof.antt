@@ -1,5 +1,5 @@
 -- `builder::chain::release` meets its contract. Where the ways meet, the outputs are told.
-use mathlib.Core.Path.{_≡_, refl, sym, _∙_}
+use mathlib.Core.Path.{_≡_, refl}
 use mathlib.Core.List.{[], _∷_}
 use mathlib.Core.Logic.{⊎-elim}
 use Prim.Native.Nat.{_+_, _≤_}
@@ -8,9 +8,9 @@ use lib.ListN.{length, take}
 use Rattle.table.specs.Scheme.{scheme}
 use Rattle.places.specs.Transitions.{releasing}
 use Rattle.places.specs.Inner.Plan.{today}
-use Rattle.builder.specs.Inner.Plan.{ofTable, arrow}
+use Rattle.builder.specs.Inner.Parts.{ofTable, arrow}
 use Rattle.places.proofs.Controls.{few-nodes}
-use Rattle.builder.proofs.Chains.{chain-few, release-public, release-gives, put-as, inside-as}
+use Rattle.builder.proofs.Chains.{chain-few, release-public, release-gives, put-from, inside-as}
 use borrow.Author.Needs.{needs}
 use Rattle.builder.proofs.chain.release.Statement.{statement}
 use Rattle.builder.proofs.chain.release.Tie as tie
@@ -89,7 +89,7 @@ same-length c = search needs
 returns : tie.Need-returns
 returns c =
     let a = c .before .before .before .before .before .before .before .before .before .before .before .before .before .before .args in
-    c .before .before .transition .ensures ∙ sym (put-as (a .table .now) (a .out .now) (a .h) _ _ (met (c .before .before .before .before .before .before) .0))
+    put-from (a .table .now) (a .out .now) (a .h) _ _ (met (c .before .before .before .before .before .before) .0) _ (c .before .before .transition .ensures)
 
 pub release-spec : {M : Type 1} → statement M
 release-spec =

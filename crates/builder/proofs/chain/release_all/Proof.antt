@@ -6,7 +6,7 @@ use lib.ListN.{length, take, drop}
 use Rattle.table.specs.Scheme.{scheme}
 use Rattle.places.specs.Transitions.{releases}
 use Rattle.places.specs.Inner.Plan.{today}
-use Rattle.builder.specs.Inner.Plan.{put, state, ofTable}
+use Rattle.builder.specs.Inner.Parts.{put, state, ofTable}
 use Rattle.builder.proofs.Writing.{put-none}
 use Rattle.builder.proofs.Chains.{chain-few, state-length}
 use Rattle.builder.proofs.ChainLoops.{part-inside, part-more, taken-member, releases-start, releases-more, releases-done}

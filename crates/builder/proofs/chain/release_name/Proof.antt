@@ -7,7 +7,7 @@ use lib.ListN.{length, drop}
 use Rattle.table.specs.Scheme.{scheme}
 use Rattle.places.specs.Transitions.{releasing}
 use Rattle.places.specs.Inner.Plan.{today, values}
-use Rattle.builder.specs.Inner.Plan.{put, state, ofTable}
+use Rattle.builder.specs.Inner.Parts.{put, state, ofTable}
 use Rattle.builder.proofs.Chains.{state-length}
 use Rattle.builder.proofs.ValueLoops.{map-done, map-inside, map-more, reach-count, reach-at, reach-member}
 use borrow.Author.Needs.{needs}

@@ -9,7 +9,7 @@ use lib.ListN.{length}
 use Rattle.table.specs.Words.{next}
 use Rattle.table.specs.Owners.{home}
 use Rattle.places.specs.Places.{Place, equals, differs, control}
-use Rattle.builder.specs.Inner.Plan.{Rising}
+use Rattle.builder.specs.Inner.Parts.{Rising}
 use Rattle.builder.proofs.Pairs.{Filled, Speaks, fill-none, fill-rising, speaks, takesOf, givesOf, put-in}
 use Rattle.builder.proofs.Pairs.{joined, take-private, take-public, move-at, home-inside, send-next, receive-next, tells}
 use borrow.Author.Needs.{needs}

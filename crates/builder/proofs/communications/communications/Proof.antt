@@ -10,7 +10,7 @@ use Rattle.lists.specs.Lists.{from, range, flat}
 use Rattle.lists.proofs.Tests.{same-yes}
 use Rattle.table.specs.Words.{branches, branchKind}
 use Rattle.builder.specs.Inner.Writing.{Inside}
-use Rattle.builder.specs.Inner.Plan.{ofTable, state, put, withAll}
+use Rattle.builder.specs.Inner.Parts.{ofTable, state, put, withAll}
 use Rattle.builder.proofs.Partners.{flat-done, flat-inside, flat-more, flat-skip, same-state, no-send}
 use Rattle.builder.proofs.communications.communications.Statement.{statement}
 use Rattle.builder.proofs.communications.communications.Tie as tie

@@ -11,7 +11,7 @@ use Rattle.table.specs.Scheme.{scheme}
 use Rattle.places.specs.Transitions.{Description, common}
 use Rattle.builder.specs.Inner.Writing.{Inside}
 use Rattle.places.specs.Inner.Plan.{today, Lists}
-use Rattle.builder.specs.Inner.Plan.{state, put, sentTold}
+use Rattle.builder.specs.Inner.Parts.{state, put, sentTold}
 use Rattle.builder.proofs.PairLoops.{values-few, value-inside, channel-high, heard-high, both-lists, pair-is, pair-done}
 use Rattle.builder.proofs.PairLoops.{pair-needs, pair-more}
 use Rattle.builder.proofs.communications.pair_up.Statement.{statement}

@@ -13,7 +13,7 @@ use Rattle.table.specs.Words.{branches, branchKind}
 use Rattle.table.specs.Owners.{branchThread}
 use Rattle.places.specs.Transitions.{Description}
 use Rattle.builder.specs.Inner.Writing.{Inside}
-use Rattle.builder.specs.Inner.Plan.{ofTable, state, put, withBranch, withAll}
+use Rattle.builder.specs.Inner.Parts.{ofTable, state, put, withBranch, withAll}
 use Rattle.builder.proofs.Partners.{flat-done, flat-inside, flat-more, flat-skip, same-state, partner-told, partner-same}
 use Rattle.builder.proofs.Partners.{partner-none, pair-known}
 use Rattle.builder.proofs.communications.partners.Statement.{statement}

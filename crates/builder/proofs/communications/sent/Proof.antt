@@ -10,7 +10,7 @@ use Rattle.lists.specs.Lists.{from}
 use Rattle.table.specs.Words.{publics}
 use Rattle.places.specs.Transitions.{Description}
 use Rattle.builder.specs.Inner.Writing.{Inside}
-use Rattle.builder.specs.Inner.Plan.{told, state, put}
+use Rattle.builder.specs.Inner.Parts.{told, state, put}
 use Rattle.builder.proofs.PairLoops.{sent-high, self-is, self-reads, public-is, public-reads, first-run, first-inside, first-none, last-run}
 use Rattle.builder.proofs.PairLoops.{last-inside, sent-both, sent-first}
 use Rattle.builder.proofs.Partners.{same-state}

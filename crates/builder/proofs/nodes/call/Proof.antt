@@ -12,7 +12,7 @@ use Rattle.table.specs.Scheme.{scheme}
 use Rattle.places.specs.Transitions.{releases, copies, calling, ofNode}
 use Rattle.builder.specs.Inner.Writing.{Inside}
 use Rattle.places.specs.Inner.Plan.{today, argumentName}
-use Rattle.builder.specs.Inner.Plan.{put, state, ofTable, arrow, Chained}
+use Rattle.builder.specs.Inner.Parts.{put, state, ofTable, arrow, Chained}
 use Rattle.places.proofs.Controls.{few-nodes}
 use Rattle.builder.proofs.Chains.{chain-few, put-as, inside-as}
 use Rattle.builder.proofs.ChainLoops.{part-inside, part-more}

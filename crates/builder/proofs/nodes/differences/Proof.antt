@@ -8,7 +8,7 @@ use Rattle.table.specs.Words.{publics, names}
 use Rattle.table.specs.Scheme.{scheme}
 use Rattle.places.specs.Inner.Arcs.{numbersOf}
 use Rattle.places.specs.Inner.Plan.{today, Differs}
-use Rattle.builder.specs.Inner.Plan.{Filled}
+use Rattle.builder.specs.Inner.Parts.{Filled}
 use Rattle.places.proofs.Names.{kind-free, kind-restricted}
 use Rattle.builder.proofs.Filling.{fill-same, fill-rising}
 use Rattle.builder.proofs.Making.{differsBelow, below-length, below-all, below-start, below-with, below-without}

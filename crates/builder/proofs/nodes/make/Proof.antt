@@ -1,5 +1,5 @@
 -- `builder::nodes::make` meets its contract. Outputs and inputs are put in place by place.
-use mathlib.Core.Path.{_≡_, sym, subst, _∙_}
+use mathlib.Core.Path.{_≡_, sym, subst}
 use mathlib.Core.List.{List, _∷_}
 use Prim.Native.Nat.{ℕ}
 use native.Mathlib.Omega.{arith}
@@ -9,9 +9,9 @@ use Rattle.table.specs.Scheme.{scheme}
 use Rattle.places.specs.Places.{Place, equals, free, control}
 use Rattle.places.specs.Inner.Arcs.{allDiffer}
 use Rattle.places.specs.Inner.Plan.{Holds}
-use Rattle.builder.specs.Inner.Plan.{Filled, ofTable, made, arrow}
+use Rattle.builder.specs.Inner.Parts.{Filled, ofTable, made, arrow}
 use Rattle.places.proofs.Controls.{few-nodes}
-use Rattle.builder.proofs.Chains.{has-free-value, put-as, inside-as}
+use Rattle.builder.proofs.Chains.{has-free-value, put-from, inside-as}
 use Rattle.builder.proofs.Filling.{fill-with, fill-few, fill-rising}
 use Rattle.builder.proofs.NodeArrows.{first-place, first-number}
 use Rattle.builder.proofs.Making.{all-length, made-inside, made-holds, made-arrow}
@@ -209,7 +209,7 @@ returns : tie.Need-returns
 returns c =
     let b = c .before .before .before .before .before .before .before in
     let a = start5 b .args in
-    c .before .before .transition .ensures ∙ sym (put-as (a .table .now) (a .out .now) (a .h) _ _ (arrow-is b))
+    put-from (a .table .now) (a .out .now) (a .h) _ _ (arrow-is b) _ (c .before .before .transition .ensures)
 
 pub make-spec : {M : Type 1} → statement M
 make-spec =

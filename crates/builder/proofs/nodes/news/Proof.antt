@@ -8,7 +8,7 @@ use Rattle.lists.specs.Lists
 use Rattle.lists.specs.Lists.{word}
 use Rattle.lists.proofs.Ranges.{from-length, from-getD}
 use Rattle.table.specs.Words.{publics, bounds, nodeSecond}
-use Rattle.builder.specs.Inner.Plan.{put, state, ofTable, made}
+use Rattle.builder.specs.Inner.Parts.{put, state, ofTable, made}
 use Rattle.builder.proofs.Chains.{state-length}
 use Rattle.builder.proofs.ValueLoops.{map-done, map-inside, map-more}
 use Rattle.builder.proofs.Making.{made-inside}

@@ -4,7 +4,7 @@ use native.Mathlib.Omega.{arith}
 use Rattle.lists.proofs.Tests.{same-yes}
 use Rattle.table.specs.Words.{nodeKind}
 use Rattle.builder.specs.Inner.Writing.{Inside}
-use Rattle.builder.specs.Inner.Plan.{put}
+use Rattle.builder.specs.Inner.Parts.{put}
 use Rattle.places.proofs.ByWords.{other-call, choice-inside}
 use Rattle.builder.proofs.NodeArrows.{all-stop, all-choice, all-new, all-call}
 use borrow.Author.Needs.{needs}

@@ -13,7 +13,7 @@ use Rattle.table.specs.Scheme.{scheme}
 use Rattle.places.specs.Transitions.{silents, going}
 use Rattle.builder.specs.Inner.Writing.{Inside}
 use Rattle.places.specs.Inner.Plan.{today}
-use Rattle.builder.specs.Inner.Plan.{put, state, ofTable}
+use Rattle.builder.specs.Inner.Parts.{put, state, ofTable}
 use Rattle.builder.proofs.Writing.{put-none}
 use Rattle.builder.proofs.Chains.{put-as, inside-as, state-length}
 use Rattle.builder.proofs.ChainLoops.{part-inside, part-more}

@@ -7,7 +7,7 @@ use Rattle.table.specs.Scheme.{scheme}
 use Rattle.places.specs.Transitions.{releases}
 use Rattle.builder.specs.Inner.Writing.{Inside}
 use Rattle.places.specs.Inner.Plan.{today}
-use Rattle.builder.specs.Inner.Plan.{put}
+use Rattle.builder.specs.Inner.Parts.{put}
 use Rattle.places.proofs.Controls.{few-nodes}
 use Rattle.builder.proofs.HeldChains.{held-taken, held-room, held-bounded, stop-few, stop-chained}
 use borrow.Author.Needs.{needs}

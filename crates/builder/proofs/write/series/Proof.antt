@@ -10,7 +10,7 @@ use Rattle.lists.proofs.Ranges.{from-whole}
 use Rattle.net.specs.Net.{Transition}
 use Rattle.builder.specs.Inner.Writing
 use Rattle.builder.specs.Inner.Writing.{heads, putOne, putAll, Inside}
-use Rattle.builder.specs.Inner.Plan.{state, risen}
+use Rattle.builder.specs.Inner.Parts.{state, risen}
 use Rattle.builder.proofs.Series.{Merged, merge, steady, series-done, series-inside, series-room, series-more}
 use Rattle.builder.proofs.write.series.Statement.{statement}
 use Rattle.builder.proofs.write.series.Tie as tie

@@ -1,7 +1,7 @@
 -- `builder::write::transition` meets its contract. The record at the first head, the arcs at the second.
 use native.Mathlib.Omega.{arith}
 use lib.ListN.{take}
-use Rattle.builder.specs.Inner.Plan.{state, arrow}
+use Rattle.builder.specs.Inner.Parts.{state, arrow}
 use Rattle.builder.proofs.Loops.{arcs-size, put-arrow}
 use Rattle.builder.proofs.Writing.{one-room}
 use borrow.Author.Needs.{needs}
