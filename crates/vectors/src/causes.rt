@@ -3,68 +3,43 @@ use builder::Built;
 use net::Cause;
 use net::Firing;
 use net::Reason;
-use table::Verdict;
 
 // A cause's number, or 0, and what was counted.
-pub struct Outcome {
-    pub cause: u64,
-    pub value: u64,
-}
-
-// What was done, so many.
-pub fn done(value: usize) -> Outcome {
-    Outcome {
-        cause: 0,
-        value: value as u64,
-    }
-}
-
-// A refusal.
-pub fn refused(cause: u64) -> Outcome {
-    Outcome {
-        cause: cause,
-        value: 0,
-    }
-}
-
-// The number of a table's cause.
-pub fn of_table(verdict: Verdict) -> u64 {
-    table::number(verdict) as u64
-}
+pub struct Outcome(pub usize, pub usize);
 
 // What building answered.
 pub fn of_build(built: Built) -> Outcome {
     match built {
-        Built::Words(count) => done(count),
-        Built::Refused(verdict) => refused(of_table(verdict)),
-        Built::Room => refused(10),
+        Built::Words(count) => Outcome(0, count),
+        Built::Refused(verdict) => Outcome(table::number(verdict), 0),
+        Built::Room => Outcome(10, 0),
     }
 }
 
 // What a call on states answered.
 pub fn of_process(answer: process::Answer) -> Outcome {
     match answer {
-        process::Answer::Done(count) => done(count),
-        process::Answer::Refused(verdict) => refused(of_table(verdict)),
-        process::Answer::Malformed => refused(18),
-        process::Answer::NotOpen => refused(19),
-        process::Answer::NoRoom => refused(10),
+        process::Answer::Done(count) => Outcome(0, count),
+        process::Answer::Refused(verdict) => Outcome(table::number(verdict), 0),
+        process::Answer::Malformed => Outcome(18, 0),
+        process::Answer::NotOpen => Outcome(19, 0),
+        process::Answer::NoRoom => Outcome(10, 0),
     }
 }
 
 // What reading back answered.
 pub fn of_read(answer: readback::Answer) -> Outcome {
     match answer {
-        readback::Answer::Done(count) => done(count),
-        readback::Answer::Refused(verdict) => refused(of_table(verdict)),
-        readback::Answer::NoMarking => refused(13),
-        readback::Answer::NoState => refused(17),
-        readback::Answer::NoRoom => refused(10),
+        readback::Answer::Done(count) => Outcome(0, count),
+        readback::Answer::Refused(verdict) => Outcome(table::number(verdict), 0),
+        readback::Answer::NoMarking => Outcome(13, 0),
+        readback::Answer::NoState => Outcome(17, 0),
+        readback::Answer::NoRoom => Outcome(10, 0),
     }
 }
 
 // The number of an image's cause.
-fn of_net(cause: Cause) -> u64 {
+fn of_net(cause: Cause) -> usize {
     match cause {
         Cause::ImageWrong => 11,
         Cause::RecordWrong => 12,
@@ -76,29 +51,19 @@ fn of_net(cause: Cause) -> u64 {
 }
 
 // What a firing answered.
-pub fn of_firing(firing: Firing) -> u64 {
+pub fn of_firing(firing: Firing) -> usize {
     match firing {
         Firing::Made => 0,
         Firing::Refused(cause) => of_net(cause),
     }
 }
 
-// The cause that ended a run, or 0.
-pub fn of_run(reason: Reason) -> u64 {
+// What ended a run: a cause or 0, and the reason's number, 0 with a cause.
+pub fn of_run(reason: Reason) -> Outcome {
     match reason {
-        Reason::LimitReached => 0,
-        Reason::HistoryFull => 0,
-        Reason::NothingEnabled => 0,
-        Reason::Stopped(cause) => of_net(cause),
-    }
-}
-
-// The reason that ended a run, or 0 with a cause.
-pub fn reason_of(reason: Reason) -> u64 {
-    match reason {
-        Reason::LimitReached => 1,
-        Reason::HistoryFull => 2,
-        Reason::NothingEnabled => 3,
-        Reason::Stopped(_) => 0,
+        Reason::LimitReached => Outcome(0, 1),
+        Reason::HistoryFull => Outcome(0, 2),
+        Reason::NothingEnabled => Outcome(0, 3),
+        Reason::Stopped(cause) => Outcome(of_net(cause), 0),
     }
 }

@@ -3,8 +3,8 @@ use lists::word8;
 use lists::word32;
 
 pub struct Digest {
-    pub high: u64,
-    pub low: u64,
+    pub high: usize,
+    pub low: usize,
 }
 
 // The digest of no bytes: cbf29ce484222325.
@@ -16,7 +16,7 @@ fn empty() -> Digest {
 }
 
 // The digest with a byte more: the byte is joined by exclusive or, then all is multiplied by 2^40 + 435.
-fn joined(digest: Digest, byte: u64) -> Digest {
+fn joined(digest: Digest, byte: usize) -> Digest {
     let low = (digest.low ^ byte) % 4294967296;
     let high = digest.high % 4294967296;
     let product = low * 435;
@@ -27,30 +27,30 @@ fn joined(digest: Digest, byte: u64) -> Digest {
 }
 
 // The digest with the four bytes of a word more, the low byte first.
-fn joined_word(digest: Digest, word: u64) -> Digest {
+fn joined_word(digest: Digest, word: usize) -> Digest {
     let one = joined(digest, word % 256);
     let two = joined(one, word / 256 % 256);
     let three = joined(two, word / 65536 % 256);
     joined(three, word / 16777216 % 256)
 }
 
-// The digest of bytes.
-pub fn of_bytes(bytes: &[u8]) -> Digest {
+// The digest of the first bytes.
+pub fn of_bytes(bytes: &[u8], count: usize) -> Digest {
     let mut digest = empty();
     let mut i: usize = 0;
-    while i < bytes.len() {
-        digest = joined(digest, word8(bytes, i) as u64);
+    while i < count {
+        digest = joined(digest, word8(bytes, i));
         i += 1;
     }
     digest
 }
 
-// The digest of 32-bit words.
-pub fn of_words(words: &[u32]) -> Digest {
+// The digest of the first 32-bit words.
+pub fn of_words(words: &[u32], count: usize) -> Digest {
     let mut digest = empty();
     let mut i: usize = 0;
-    while i < words.len() {
-        digest = joined_word(digest, word32(words, i) as u64);
+    while i < count {
+        digest = joined_word(digest, word32(words, i));
         i += 1;
     }
     digest

@@ -1,168 +1,105 @@
 // A line of input taken apart: field 0 is its letter, the fields after it are its numbers.
-ghost use Prim.Native.Nat.{_≤_, _<_};
-ghost use lib.ListN.{length};
-use crate::sizes::store64;
-use crate::sizes::word64;
+ghost use Prim.Native.Nat.{_≤_};
+use crate::sizes::least;
 use libc::STDIN_FILENO;
-use lists::store8;
+use lists::word8;
 
-// The smaller of two numbers.
-pub fn least(a: usize, b: usize) -> usize
-    ensures { λ r. ⌜ (r ≤ a) × (r ≤ b) ⌝ }
-{
-    if a < b {
-        return a;
-    }
-    b
+// A request: its letter, how many numbers it has, and the first four.
+pub struct Request {
+    pub letter: u8,
+    pub count: usize,
+    pub a: usize,
+    pub b: usize,
+    pub c: usize,
+    pub d: usize,
 }
 
-// Where the line that starts at `from` ends, after its line feed; `from` itself if there is none.
-pub(crate) fn end_from(input: &[u8], from: usize) -> usize
-    requires { ⌜ from ≤ length (now input) ⌝ }
-    ensures { λ r. ⌜ (from ≤ r) × (r ≤ length (now (input .entry))) ⌝ }
+// Reads the input, and answers how many bytes it has, at most 1,048,576.
+pub fn read(input: &mut [u8; 1048576]) -> usize {
+    io::read_full(STDIN_FILENO, input)
+}
+
+// Where the line that starts at `from` has its line feed; `count`, where the input ends, if there is none.
+pub(crate) fn end_from(input: &[u8], from: usize, count: usize) -> usize
+    requires { ⌜ from ≤ count ⌝ }
+    ensures { λ r. ⌜ (from ≤ r) × (r ≤ count) ⌝ }
 {
     let mut i = from;
-    while i < input.len() {
-        if input[i] == b'\n' {
-            return i + 1;
+    while i < count {
+        if word8(input, i) == 10 {
+            return i;
         }
         i += 1;
     }
-    from
+    count
 }
 
-// Moves the bytes from an index on to the start, and answers how many there are.
-pub fn move_down(bytes: &mut [u8], from: usize) -> usize {
-    let mut to: usize = 0;
-    let mut i = from;
-    while i < bytes.len() {
-        let byte = bytes[i];
-        store8(bytes, to, byte);
-        to += 1;
-        i += 1;
+// A field with a byte more: a digit goes on with its number, unless that is too large, and a letter replaces it.
+fn with_byte(number: usize, byte: u8) -> usize {
+    if byte < b'0' || byte > b'9' {
+        return byte as usize;
     }
-    to
-}
-
-// Reads more input after the bytes that were kept, and answers how many bytes there are now.
-pub fn read_more(input: &mut [u8], kept: usize) -> usize {
-    if kept < input.len() {
-        let more = io::read_full(STDIN_FILENO, &mut input[kept..]);
-        return kept + more;
-    }
-    kept
-}
-
-// A number with a decimal digit after it. A number that would be too large stays as it is.
-fn with_digit(number: u64, digit: u8) -> u64 {
     if number > 1844674407370955161 {
         return number;
     }
-    std::num::wrapping_add_u64(number * 10, digit as u64)
+    std::num::wrapping_add_usize(number * 10, (byte - b'0') as usize)
 }
 
-// Takes a byte of a line: a space starts the next field, a digit goes on with it, a letter fills it, a line feed is
-// left out. Answers the field.
-fn take_byte(fields: &mut [u64], field: usize, byte: u8) -> usize {
-    if byte == b'\n' {
+// Takes a byte of a line: a space ends the field, another byte is added to it. Answers the field that goes on.
+fn take_byte(fields: &mut [usize], field: usize, byte: u8) -> usize {
+    if field >= fields.len() {
         return field;
     }
     if byte == b' ' {
-        if field < fields.len() {
-            store64(fields, field + 1, 0);
-            return field + 1;
-        }
-        return field;
+        return field + 1;
     }
-    if byte < b'0' || byte > b'9' {
-        store64(fields, field, byte as u64);
-        return field;
-    }
-    store64(
-        fields,
-        field,
-        with_digit(word64(fields, field), byte - b'0'),
-    );
+    fields[field] = with_byte(fields[field], byte);
     field
 }
 
-// Sets the fields that a request may lack to 0.
-fn clear(fields: &mut [u64]) {
-    store64(fields, 0, 0);
-    store64(fields, 1, 0);
-    store64(fields, 2, 0);
-    store64(fields, 3, 0);
-    store64(fields, 4, 0);
-}
-
-// Fills in the fields of a line, and answers how many numbers there are, at most 4,095.
-pub fn fields_of(line: &[u8], fields: &mut [u64]) -> usize {
-    clear(fields);
+// Fills in the fields, which are 0, of the line from `from` to `end`, and answers how many numbers there are, at most
+// 4,095.
+pub fn fields_of(input: &[u8], from: usize, end: usize, fields: &mut [usize]) -> usize {
     let mut field: usize = 0;
-    let mut i: usize = 0;
-    while i < line.len() {
-        field = take_byte(fields, field, line[i]);
+    let mut i = from;
+    while i < end {
+        field = take_byte(fields, field, byte(word8(input, i)));
         i += 1;
     }
     least(field, 4095)
 }
 
-// The letter of a request.
-pub fn letter(fields: &[u64]) -> u8 {
-    (word64(fields, 0) % 256) as u8
-}
-
-// A number of a request, as a count.
-pub fn count_at(fields: &[u64], i: usize) -> usize {
-    word64(fields, i) as usize
-}
-
-// A number of a request, as a 32-bit word.
-pub fn word_at(fields: &[u64], i: usize) -> u32 {
-    (word64(fields, i) % 4294967296) as u32
-}
-
-// A number of a request, as a 16-bit word.
-pub fn half_at(fields: &[u64], i: usize) -> u16 {
-    (word64(fields, i) % 65536) as u16
-}
-
-// A number of a request, as a byte.
-pub fn byte_at(fields: &[u64], i: usize) -> u8 {
-    (word64(fields, i) % 256) as u8
-}
-
-// The number after field i.
-fn next_field(i: usize) -> usize {
-    if i < 4096 {
-        return i + 1;
+// Field i, 0 past the last.
+pub fn number_at(fields: &[usize], i: usize) -> usize {
+    if i < fields.len() {
+        return fields[i];
     }
-    4096
+    0
 }
 
-// Writes the first numbers of a request to the start of `out`, as many as fill it.
-pub fn copy8(fields: &[u64], out: &mut [u8]) {
-    let mut i: usize = 0;
-    while i < out.len() {
-        out[i] = byte_at(fields, next_field(i));
-        i += 1;
+// The request of a line's fields.
+pub fn request_of(fields: &[usize], count: usize) -> Request {
+    Request {
+        letter: byte(number_at(fields, 0)),
+        count: count,
+        a: number_at(fields, 1),
+        b: number_at(fields, 2),
+        c: number_at(fields, 3),
+        d: number_at(fields, 4),
     }
 }
 
-// Writes the first numbers of a request to the start of `out`, as many as fill it.
-pub fn copy16(fields: &[u64], out: &mut [u16]) {
-    let mut i: usize = 0;
-    while i < out.len() {
-        out[i] = half_at(fields, next_field(i));
-        i += 1;
-    }
+// A number as a 32-bit word.
+pub fn word(number: usize) -> u32 {
+    (number % 4294967296) as u32
 }
 
-// Writes the first numbers of a request to the start of `out`, as many as fill it.
-pub fn copy32(fields: &[u64], out: &mut [u32]) {
-    let mut i: usize = 0;
-    while i < out.len() {
-        out[i] = word_at(fields, next_field(i));
-        i += 1;
-    }
+// A number as a 16-bit word.
+pub fn half(number: usize) -> u16 {
+    (number % 65536) as u16
+}
+
+// A number as a byte.
+pub fn byte(number: usize) -> u8 {
+    (number % 256) as u8
 }

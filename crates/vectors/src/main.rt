@@ -1,9 +1,9 @@
 // Answers requests with the library. Another implementation of the rules wrote the answers that are expected.
 //
-// Standard input has a request on each line: a letter, then decimal numbers, a space before each; it is read in 64
-// turns of at most 65,536 bytes, and a line is shorter than that. Each request is answered by a line: its letter, then
-// numbers and lists, a space before each. What requests make is kept for those after them: a table, an image, a
-// marking, state words and the history of the latest run, all empty at first.
+// Standard input has a request on each line: a letter, then decimal numbers, a space before each; its first 1,048,576
+// bytes are read, and each line that ends there is answered. The answer is a line: the request's letter, then numbers
+// and lists, a space before each. What requests make is kept for those after them: a table, an image, a marking, state
+// words and the history of the latest run, all empty at first.
 //
 //   request           what is done                                            answer
 //   t word..          the table is these words, and is checked                cause
@@ -38,6 +38,7 @@
 // A list is its length, then, if that is at most 128, `:` and its items with a space between, else `#` and the 64-bit
 // FNV-1a digest of its bytes, the low byte of each item first, in 16 hexadecimal digits.
 mod causes;
+mod changes;
 mod digest;
 mod line;
 mod nets;
@@ -45,99 +46,58 @@ mod sizes;
 mod states;
 mod text;
 
-use crate::sizes::cut8;
+use crate::sizes::Sizes;
 
-// What kind of request a letter stands for: 0 sets the image or the marking, 1 builds or fires, 2 sets the table or the
-// state, 3 asks for a state or its open steps.
-fn group(letter: u8) -> u8 {
-    match letter {
-        b'w' | b'j' | b'i' | b'p' | b'l' | b'm' => 0,
-        b'b' | b'f' | b'r' | b'h' | b'u' => 1,
-        b't' | b'x' | b'y' => 2,
-        _ => 3,
-    }
-}
-
-// Answers a request in `out`, and tells how many bytes that took. What is lent: the request's fields and its count of
-// numbers, the lengths of what is kept, and what is kept.
+// Answers the request of a line's fields, and tells the lengths of what is kept after it.
 fn answer(
-    fields: &[u64],
+    fields: &[usize],
     count: usize,
-    sizes: &mut [u64],
-    table: &mut [u16],
-    image: &mut [u32],
-    marking: &mut [u8],
-    history: &mut [u32],
-    state: &mut [u16],
-    out: &mut [u8],
-) -> usize {
-    let letter = line::letter(fields);
-    let at = text::put(out, 0, letter);
-    match group(letter) {
-        0 => nets::set(letter, fields, count, sizes, image, marking, out, at),
-        1 => nets::fire(
-            letter,
-            fields,
-            count,
-            sizes,
-            table,
-            image,
-            marking,
-            history,
-            out,
-            at,
-        ),
-        2 => states::set(letter, fields, count, sizes, table, state, out, at),
-        _ => states::answer(letter, fields, sizes, table, marking, state, out, at),
+    sizes: Sizes,
+    table: &mut [u16; 4096],
+    image: &mut [u32; 131072],
+    marking: &mut [u8; 32768],
+    history: &mut [u32; 4096],
+    state: &mut [u16; 64],
+) -> Sizes {
+    let request = line::request_of(fields, count);
+    let letter = request.letter;
+    text::byte(letter);
+    match letter {
+        b't' => changes::table(request, fields, sizes, table),
+        b'w' | b'j' | b'i' => changes::image(request, fields, sizes, image),
+        b'p' | b'l' | b'm' => changes::marking(request, fields, sizes, marking),
+        b'x' | b'y' => changes::state(request, fields, sizes, state),
+        b'b' => nets::build(request, sizes, table, image),
+        b'f' | b'r' | b'h' => nets::play(request, fields, sizes, image, marking, history),
+        b'u' => nets::run(request, sizes, image, marking, history),
+        b'g' | b's' | b'k' => states::next(request, sizes, table, marking, state),
+        b'o' => states::open_steps(request, sizes, table, state),
+        _ => sizes,
     }
 }
 
-// Answers the request of one line.
-fn answer_line(
-    request: &[u8],
-    sizes: &mut [u64],
-    table: &mut [u16],
-    image: &mut [u32],
-    marking: &mut [u8],
-    history: &mut [u32],
-    state: &mut [u16],
-) {
-    let mut fields = [0u64; 4096];
-    let mut out = [0u8; 8192];
-    let count = line::fields_of(request, &mut fields);
-    let at = answer(
-        &fields,
-        count,
-        sizes,
-        table,
-        image,
-        marking,
-        history,
-        state,
-        &mut out,
-    );
-    let end = text::put(&mut out, at, b'\n');
-    text::write(&out, end);
-}
-
-// Answers the request of each whole line, and tells where the rest starts.
+// Answers the request of each whole line.
 fn answer_lines(
-    input: &[u8],
-    sizes: &mut [u64],
-    table: &mut [u16],
-    image: &mut [u32],
-    marking: &mut [u8],
-    history: &mut [u32],
-    state: &mut [u16],
-) -> usize {
+    input: &[u8; 1048576],
+    count: usize,
+    table: &mut [u16; 4096],
+    image: &mut [u32; 131072],
+    marking: &mut [u8; 32768],
+    history: &mut [u32; 4096],
+    state: &mut [u16; 64],
+) {
+    let mut sizes = sizes::none();
     let mut at: usize = 0;
-    while at < input.len() {
-        let end = line::end_from(input, at);
-        if end == at {
-            return at;
+    while at < count {
+        let end = line::end_from(input, at, count);
+        if end == count {
+            return;
         }
-        answer_line(
-            &input[at..end],
+        let mut fields = [0usize; 4096];
+        let numbers = line::fields_of(input, at, end, &mut fields);
+        sizes = answer(
+            &fields,
+            numbers,
             sizes,
             table,
             image,
@@ -145,58 +105,22 @@ fn answer_lines(
             history,
             state,
         );
-        at = end;
-    }
-    at
-}
-
-// Reads once, answers each whole line, moves the rest to the start, and tells how many bytes that is. Bytes of a line
-// that was begun stand at the start.
-fn answer_turn(
-    kept: usize,
-    input: &mut [u8],
-    sizes: &mut [u64],
-    table: &mut [u16],
-    image: &mut [u32],
-    marking: &mut [u8],
-    history: &mut [u32],
-    state: &mut [u16],
-) -> usize {
-    let read = line::read_more(input, kept);
-    let end = cut8(read, input);
-    let rest = answer_lines(&input[..end], sizes, table, image, marking, history, state);
-    line::move_down(&mut input[..end], rest)
-}
-
-// Reads and answers all of the input.
-fn answer_all(
-    input: &mut [u8],
-    sizes: &mut [u64],
-    table: &mut [u16],
-    image: &mut [u32],
-    marking: &mut [u8],
-    history: &mut [u32],
-    state: &mut [u16],
-) {
-    let mut kept: usize = 0;
-    let mut turns: usize = 64;
-    while turns > 0 {
-        kept = answer_turn(kept, input, sizes, table, image, marking, history, state);
-        turns -= 1;
+        text::byte(b'\n');
+        at = end + 1;
     }
 }
 
 fn main() {
-    let mut input = io::large_buffer();
-    let mut sizes = [0u64; 5];
+    let mut input = [0u8; 1048576];
     let mut table = [0u16; 4096];
     let mut image = [0u32; 131072];
     let mut marking = [0u8; 32768];
     let mut history = [0u32; 4096];
     let mut state = [0u16; 64];
-    answer_all(
-        &mut input,
-        &mut sizes,
+    let count = line::read(&mut input);
+    answer_lines(
+        &input,
+        count,
         &mut table,
         &mut image,
         &mut marking,

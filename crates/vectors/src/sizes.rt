@@ -1,36 +1,35 @@
-// How many items there are: of lists of 64-bit numbers, of what requests have made, and of parts to lend.
+// The lengths of what is kept, and of parts to lend.
+ghost use Prim.Native.Nat.{_≤_};
 ghost use Rattle.io.specs.Counts.{Counts};
-use crate::line::least;
 
-// Where the lengths of the table, image, marking, state and history are kept.
-pub const TABLE: usize = 0;
-
-pub const IMAGE: usize = 1;
-
-pub const MARKING: usize = 2;
-
-pub const STATE: usize = 3;
-
-pub const HISTORY: usize = 4;
-
-// Number i of a list, 0 past its end.
-pub fn word64(words: &[u64], i: usize) -> u64 {
-    if i < words.len() {
-        return words[i];
-    }
-    0
+// The lengths of the table, the image, the marking, the state and the history.
+pub struct Sizes {
+    pub table: usize,
+    pub image: usize,
+    pub marking: usize,
+    pub state: usize,
+    pub history: usize,
 }
 
-// Writes v at i, and nothing past the end.
-pub fn store64(out: &mut [u64], i: usize, v: u64) {
-    if i < out.len() {
-        out[i] = v;
+// Nothing is kept.
+pub fn none() -> Sizes {
+    Sizes {
+        table: 0,
+        image: 0,
+        marking: 0,
+        state: 0,
+        history: 0,
     }
 }
 
-// The length that is kept of what `which` names.
-pub fn size(sizes: &[u64], which: usize) -> usize {
-    word64(sizes, which) as usize
+// The smaller of two numbers.
+pub fn least(a: usize, b: usize) -> usize
+    ensures { λ r. ⌜ (r ≤ a) × (r ≤ b) ⌝ }
+{
+    if a < b {
+        return a;
+    }
+    b
 }
 
 // How many of `count` items the list has.

@@ -1,15 +1,14 @@
--- `vectors::digest::of_bytes` meets its contract. Loop: the index is at most the length. Measure: bytes left.
+-- `vectors::digest::of_bytes` meets its contract. Loop: the index is at most the count. Measure: bytes left.
 use borrow.Author.Needs.{needs}
 use Prim.Native.Nat.{_≤_, _-_}
-use lib.ListN.{length}
 use Rattle.vectors.proofs.digest.of_bytes.Statement.{statement}
 use Rattle.vectors.proofs.digest.of_bytes.Tie as tie
 
 abbrev Inv-loop : tie.InvT-loop
-Inv-loop bytes digest₀ i₀ digest i = i ≤ length bytes
+Inv-loop bytes count digest₀ i₀ digest i = i ≤ count
 
 abbrev μ-loop : tie.MeasureT-loop
-μ-loop bytes digest₀ i₀ digest i = length bytes - i
+μ-loop bytes count digest₀ i₀ digest i = count - i
 
 empty-requires : tie.Need-empty-requires Inv-loop μ-loop
 empty-requires c κs = search needs

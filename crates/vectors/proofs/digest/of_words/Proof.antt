@@ -1,15 +1,14 @@
--- `vectors::digest::of_words` meets its contract. Loop: the index is at most the length. Measure: words left.
+-- `vectors::digest::of_words` meets its contract. Loop: the index is at most the count. Measure: words left.
 use borrow.Author.Needs.{needs}
 use Prim.Native.Nat.{_≤_, _-_}
-use lib.ListN.{length}
 use Rattle.vectors.proofs.digest.of_words.Statement.{statement}
 use Rattle.vectors.proofs.digest.of_words.Tie as tie
 
 abbrev Inv-loop : tie.InvT-loop
-Inv-loop words digest₀ i₀ digest i = i ≤ length words
+Inv-loop words count digest₀ i₀ digest i = i ≤ count
 
 abbrev μ-loop : tie.MeasureT-loop
-μ-loop words digest₀ i₀ digest i = length words - i
+μ-loop words count digest₀ i₀ digest i = count - i
 
 empty-requires : tie.Need-empty-requires Inv-loop μ-loop
 empty-requires c κs = search needs

@@ -1,24 +1,20 @@
--- `vectors::line::end_from` meets its contract. Loop: the index lies between `from` and the length. Measure: bytes left.
+-- `vectors::line::end_from` meets its contract. Loop: the index lies between `from` and the count. Measure: bytes left.
 use borrow.Author.Needs.{needs}
 use Prim.Native.Nat.{_≤_, _-_}
-use lib.ListN.{length}
 use Rattle.vectors.proofs.line.end_from.Statement.{statement}
 use Rattle.vectors.proofs.line.end_from.Tie as tie
 
 abbrev Inv-loop : tie.InvT-loop
-Inv-loop input from i₀ i = (from ≤ i) × (i ≤ length input)
+Inv-loop input from count i₀ i = (from ≤ i) × (i ≤ count)
 
 abbrev μ-loop : tie.MeasureT-loop
-μ-loop input from i₀ i = length input - i
+μ-loop input from count i₀ i = count - i
 
 loop-holds : tie.Need-loop-holds Inv-loop μ-loop
 loop-holds c = search needs
 
-shared-slice-read-if1 : tie.Need-shared-slice-read-if1 Inv-loop μ-loop
-shared-slice-read-if1 c = search needs
-
-add-result : tie.Need-add-result Inv-loop μ-loop
-add-result c = search needs
+word8-requires : tie.Need-word8-requires Inv-loop μ-loop
+word8-requires c κs = search needs
 
 returns : tie.Need-returns Inv-loop μ-loop
 returns c = search needs
@@ -42,8 +38,7 @@ end-from-spec =
     Inv-loop
     μ-loop
     loop-holds
-    shared-slice-read-if1
-    add-result
+    word8-requires
     returns
     add-i
     loop-less

@@ -7,19 +7,19 @@ use Rattle.vectors.proofs.line.fields_of.Statement.{statement}
 use Rattle.vectors.proofs.line.fields_of.Tie as tie
 
 abbrev Inv-loop : tie.InvT-loop
-Inv-loop line fields₀ field₀ i₀ fields field i = length fields ≡ length fields₀
+Inv-loop input from end fields₀ field₀ i₀ fields field i = length fields ≡ length fields₀
 
 abbrev μ-loop : tie.MeasureT-loop
-μ-loop line fields₀ field₀ i₀ fields field i = length line - i
-
-clear-requires : tie.Need-clear-requires Inv-loop μ-loop
-clear-requires c κs = search needs
+μ-loop input from end fields₀ field₀ i₀ fields field i = end - i
 
 loop-holds : tie.Need-loop-holds Inv-loop μ-loop
 loop-holds c = search needs
 
-shared-slice-read-take-byte : tie.Need-shared-slice-read-take-byte Inv-loop μ-loop
-shared-slice-read-take-byte c = search needs
+word8-requires : tie.Need-word8-requires Inv-loop μ-loop
+word8-requires c κs = search needs
+
+byte-requires : tie.Need-byte-requires Inv-loop μ-loop
+byte-requires c κs = search needs
 
 take-byte-requires : tie.Need-take-byte-requires Inv-loop μ-loop
 take-byte-requires c κs = search needs
@@ -48,9 +48,9 @@ fields-of-spec =
     (tie.spec
     Inv-loop
     μ-loop
-    clear-requires
     loop-holds
-    shared-slice-read-take-byte
+    word8-requires
+    byte-requires
     take-byte-requires
     add-i
     loop-less

@@ -7,10 +7,13 @@ use Rattle.vectors.proofs.nets.fill32.Statement.{statement}
 use Rattle.vectors.proofs.nets.fill32.Tie as tie
 
 abbrev Inv-loop : tie.InvT-loop
-Inv-loop words₀ from word i₀ words i = length words ≡ length words₀
+Inv-loop words₀ count end i₀ words i = length words ≡ length words₀
 
 abbrev μ-loop : tie.MeasureT-loop
-μ-loop words₀ from word i₀ words i = length words₀ - i
+μ-loop words₀ count end i₀ words i = end - i
+
+least-requires : tie.Need-least-requires Inv-loop μ-loop
+least-requires c κs = search needs
 
 loop-holds : tie.Need-loop-holds Inv-loop μ-loop
 loop-holds c = search needs
@@ -42,6 +45,7 @@ fill32-spec =
     (tie.spec
     Inv-loop
     μ-loop
+    least-requires
     loop-holds
     mul-words
     slice-write-words

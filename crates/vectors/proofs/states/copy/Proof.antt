@@ -7,19 +7,19 @@ use Rattle.vectors.proofs.states.copy.Statement.{statement}
 use Rattle.vectors.proofs.states.copy.Tie as tie
 
 abbrev Inv-loop : tie.InvT-loop
-Inv-loop from to₀ i₀ to i = length to ≡ length to₀
+Inv-loop from count to₀ i₀ to i = length to ≡ length to₀
 
 abbrev μ-loop : tie.MeasureT-loop
-μ-loop from to₀ i₀ to i = length from - i
+μ-loop from count to₀ i₀ to i = count - i
 
 loop-holds : tie.Need-loop-holds Inv-loop μ-loop
 loop-holds c = search needs
 
-mul-store16 : tie.Need-mul-store16 Inv-loop μ-loop
-mul-store16 c = search needs
+word16-requires : tie.Need-word16-requires Inv-loop μ-loop
+word16-requires c κs = search needs
 
-shared-slice-read-store16 : tie.Need-shared-slice-read-store16 Inv-loop μ-loop
-shared-slice-read-store16 c = search needs
+cast-store16 : tie.Need-cast-store16 Inv-loop μ-loop
+cast-store16 c = search needs
 
 store16-requires : tie.Need-store16-requires Inv-loop μ-loop
 store16-requires c κs = search needs
@@ -46,8 +46,8 @@ copy-spec =
     Inv-loop
     μ-loop
     loop-holds
-    mul-store16
-    shared-slice-read-store16
+    word16-requires
+    cast-store16
     store16-requires
     add-i
     loop-less
