@@ -17,7 +17,8 @@ struct Change {
     first: usize,
 }
 
-// What a request does to a list that holds `held` items and has room for `most`. Fields past the last are 0.
+// What a request does to a list that holds `held` items and has room for `most`: a new length with items of 0 where it
+// is lengthened, as fields past the last are; one item, if there is such a one; or all items.
 fn change_of(request: Request, held: usize, most: usize) -> Change {
     let letter = request.letter;
     match letter {
@@ -51,7 +52,7 @@ fn change_of(request: Request, held: usize, most: usize) -> Change {
     }
 }
 
-// Sets bytes to fields.
+// Sets the bytes from `from` to `to`, as far as there are any, to the fields from `first` on.
 fn set8(fields: &[usize], first: usize, bytes: &mut [u8], from: usize, to: usize) {
     let end = least(to, bytes.len());
     let mut field = first;
@@ -63,7 +64,7 @@ fn set8(fields: &[usize], first: usize, bytes: &mut [u8], from: usize, to: usize
     }
 }
 
-// Sets words to fields.
+// Sets the words from `from` to `to`, as far as there are any, to the fields from `first` on.
 fn set16(fields: &[usize], first: usize, words: &mut [u16], from: usize, to: usize) {
     let end = least(to, words.len());
     let mut field = first;
@@ -75,7 +76,7 @@ fn set16(fields: &[usize], first: usize, words: &mut [u16], from: usize, to: usi
     }
 }
 
-// Sets words to fields.
+// Sets the words from `from` to `to`, as far as there are any, to the fields from `first` on.
 pub fn set32(fields: &[usize], first: usize, words: &mut [u32], from: usize, to: usize) {
     let end = least(to, words.len());
     let mut field = first;

@@ -19,7 +19,7 @@ pub fn read(input: &mut [u8; 1048576]) -> usize {
     io::read_full(STDIN_FILENO, input)
 }
 
-// Where the line that starts at `from` has its line feed; `count`, where the input ends, if there is none.
+// Where the line that starts at `from` has its line feed, 10; `count`, where the input ends, if there is none.
 pub(crate) fn end_from(input: &[u8], from: usize, count: usize) -> usize
     requires { ⌜ from ≤ count ⌝ }
     ensures { λ r. ⌜ (from ≤ r) × (r ≤ count) ⌝ }
@@ -34,7 +34,7 @@ pub(crate) fn end_from(input: &[u8], from: usize, count: usize) -> usize
     count
 }
 
-// A field with a byte more: a digit goes on with its number, unless that is too large, and a letter replaces it.
+// A field with a byte more: a digit goes on with its number, unless that is too large, and another byte replaces it.
 fn with_byte(number: usize, byte: u8) -> usize {
     if byte < b'0' || byte > b'9' {
         return byte as usize;

@@ -11,7 +11,7 @@ use crate::sizes::least;
 use crate::text;
 use net::Replayed;
 
-// Fills the first words, as many as there are.
+// Fills the first `count` words, or all if there are fewer.
 fn fill32(words: &mut [u32], count: usize) {
     let end = least(count, words.len());
     let mut i: usize = 0;
