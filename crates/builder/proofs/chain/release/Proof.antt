@@ -35,7 +35,9 @@ on-requires c κs =
     (s .pre .2, omega (arith, f .0), omega (arith, f .1))
 
 given-back-requires : tie.Need-given-back-requires
-given-back-requires c κs = search needs
+given-back-requires c κs =
+    let p = c .before .before .before .before .before .before .before .before .pre in
+    (p .0, p .3, omega (arith, p .0 .publics-are, c .if1 .taken))
 
 met : (c : tie.Joined1)
     → let a = c .before .before .before .before .before .before .before .before .args in
