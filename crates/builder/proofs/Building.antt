@@ -9,8 +9,8 @@ use lib.ListN.{length, drop, length-map, length-append}
 use borrow.Author.Tests.{lt-ltb, le-ltb}
 use Rattle.lists.specs.Lists.{pick, same, range, flat, total}
 use Rattle.lists.proofs.Tests.{same-yes, same-no}
-use Rattle.table.specs.Words.{nodes, branches}
-use Rattle.table.specs.Scheme.{Scheme, scheme}
+use Rattle.scheme.specs.Words.{nodes, branches}
+use Rattle.scheme.specs.Scheme.{Scheme, scheme}
 use Rattle.table.specs.Causes.{cause}
 use Rattle.net.specs.Net.{Net, Transition, arcsOf, headerWords, recordsOffset, arcsOffset, encode}
 use Rattle.net.proofs.Encode

@@ -4,9 +4,9 @@ use mathlib.Core.Bool.{Bool, true, false}
 use mathlib.Core.List.{List, [], _∷_, map}
 use Prim.Native.Nat.{ℕ}
 use Rattle.lists.specs.Lists.{same, from, every, some, keep, flat, member, firstFrom, positionsFrom, total}
-use Rattle.table.specs.Words.{formals, branchesOf, argumentsOf}
-use Rattle.table.specs.Owners.{home, owner, pickOwner, heldBy, definitionBy, held, definition}
-use Rattle.table.specs.Scheme.{Scheme, scheme, nodeAt, branchAt, argumentsAt, pickBinder, binderOf}
+use Rattle.scheme.specs.Words.{formals, branchesOf, argumentsOf}
+use Rattle.scheme.specs.Owners.{home, owner, pickOwner, heldBy, definitionBy, held, definition}
+use Rattle.scheme.specs.Scheme.{Scheme, scheme, nodeAt, branchAt, argumentsAt, pickBinder, binderOf}
 use Rattle.net.specs.Net.{encode, recordsFrom}
 use Rattle.places.specs.Values.{allValues, valuesOf, privateValuesOf}
 use Rattle.places.specs.Places.{controls, controlPlaces, row, rows, places}

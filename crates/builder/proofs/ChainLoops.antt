@@ -10,7 +10,7 @@ use Rattle.lists.specs.Lists.{word, from, member}
 use Rattle.lists.proofs.Slices.{drop-step, drop-none}
 use Rattle.lists.proofs.Members.{member-getD, member-map}
 use Rattle.lists.proofs.Ranges.{member-from}
-use Rattle.table.specs.Scheme.{Scheme}
+use Rattle.scheme.specs.Scheme.{Scheme}
 use Rattle.net.specs.Net.{Transition}
 use Rattle.places.specs.Values.{Values, valuesOf}
 use Rattle.places.specs.Transitions.{releasing, releases, copying, copies}

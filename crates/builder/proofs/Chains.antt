@@ -9,8 +9,8 @@ use lib.Dec.{ltb}
 use lib.ListN.{length}
 use borrow.Author.Tests.{lt-ltb, le-ltb}
 use Rattle.lists.specs.Lists.{pick}
-use Rattle.table.specs.Words.{publics, names, nodes}
-use Rattle.table.specs.Scheme.{Scheme, Node, stop, choice, new, call, scheme}
+use Rattle.scheme.specs.Words.{publics, names, nodes}
+use Rattle.scheme.specs.Scheme.{Scheme, Node, stop, choice, new, call, scheme}
 use Rattle.table.specs.Causes.{cause}
 use Rattle.net.specs.Net.{Transition}
 use Rattle.places.specs.Values.{Values}

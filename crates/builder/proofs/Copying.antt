@@ -9,8 +9,8 @@ use lib.Dec.{ltb}
 use lib.ListN
 use borrow.Author.Tests.{lt-ltb, le-ltb}
 use Rattle.lists.specs.Lists.{pick}
-use Rattle.table.specs.Words.{publics, names}
-use Rattle.table.specs.Scheme.{Scheme, scheme}
+use Rattle.scheme.specs.Words.{publics, names}
+use Rattle.scheme.specs.Scheme.{Scheme, scheme}
 use Rattle.places.specs.Values.{Values}
 use Rattle.places.specs.Places.{Place, equals, differs, control}
 use Rattle.places.specs.Transitions.{take, copying}

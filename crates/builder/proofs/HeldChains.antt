@@ -10,10 +10,10 @@ use Rattle.lists.specs.Lists.{word, from, member}
 use Rattle.lists.proofs.Tests.{same-true}
 use Rattle.lists.proofs.Ranges.{from-length, from-member}
 use Rattle.lists.proofs.Members.{map-member}
-use Rattle.table.specs.Words.{nodes, definitions, root, firstFormal, formalCount, formals, nodeKind, nodeFirst, nodeSecond, isStop, isCall, argumentsOf}
-use Rattle.table.specs.Owners.{held}
-use Rattle.table.specs.Index.{heldIn, HeldNames}
-use Rattle.table.specs.Scheme.{Scheme, call, scheme}
+use Rattle.scheme.specs.Words.{nodes, definitions, root, firstFormal, formalCount, formals, nodeKind, nodeFirst, nodeSecond, isStop, isCall, argumentsOf}
+use Rattle.scheme.specs.Owners.{held}
+use Rattle.scheme.specs.Index.{heldIn, HeldNames}
+use Rattle.scheme.specs.Scheme.{Scheme, call, scheme}
 use Rattle.table.specs.Causes.{cause}
 use Rattle.table.proofs.Accepted.{accepted}
 use Rattle.places.specs.Places.{controls}

@@ -10,8 +10,8 @@ use Rattle.lists.specs.Lists.{from}
 use Rattle.lists.proofs.Tests.{same-true}
 use Rattle.lists.proofs.Ranges.{from-length, from-snoc, member-from}
 use Rattle.lists.proofs.Members.{map-append}
-use Rattle.table.specs.Words.{publics, bounds, names, nodes, nodeKind, nodeFirst, nodeSecond, isNew}
-use Rattle.table.specs.Scheme.{Scheme, new, scheme}
+use Rattle.scheme.specs.Words.{publics, bounds, names, nodes, nodeKind, nodeFirst, nodeSecond, isNew}
+use Rattle.scheme.specs.Scheme.{Scheme, new, scheme}
 use Rattle.table.specs.Causes.{cause}
 use Rattle.table.proofs.Accepted.{accepted}
 use Rattle.places.specs.Values.{Values}

@@ -15,8 +15,8 @@ use Rattle.lists.proofs.Ascending.{ascends-cons, ascends-lower}
 use Rattle.lists.proofs.Positions.{ascends-same}
 use Rattle.lists.proofs.Sums.{sum-few}
 use Rattle.lists.proofs.Standing.{some-in, member-in}
-use Rattle.table.specs.Words.{publics, bounds, names, nodes, threads, root, entry}
-use Rattle.table.specs.Scheme.{Scheme, scheme}
+use Rattle.scheme.specs.Words.{publics, bounds, names, nodes, threads, root, entry}
+use Rattle.scheme.specs.Scheme.{Scheme, scheme}
 use Rattle.table.specs.Causes.{cause}
 use Rattle.table.proofs.Accepted.{accepted}
 use Rattle.places.specs.Values.{allValues, privateValuesOf}

@@ -7,9 +7,9 @@ use native.Mathlib.Omega.{arith}
 use lib.Dec.{ltb}
 use Rattle.lists.specs.Lists.{pick, from, flat}
 use Rattle.lists.proofs.Tests.{same-no}
-use Rattle.table.specs.Words.{publics, bounds, nodes, branches, nodeKind, nodeFirst, nodeSecond, branchKind, next, channel, branchName, isSend, isReceive}
-use Rattle.table.specs.Owners.{held}
-use Rattle.table.specs.Scheme.{Scheme, call, absent, send, receive, nextNode, branchAt, scheme}
+use Rattle.scheme.specs.Words.{publics, bounds, nodes, branches, nodeKind, nodeFirst, nodeSecond, branchKind, next, channel, branchName, isSend, isReceive}
+use Rattle.scheme.specs.Owners.{held}
+use Rattle.scheme.specs.Scheme.{Scheme, call, absent, send, receive, nextNode, branchAt, scheme}
 use Rattle.table.specs.Causes.{cause}
 use Rattle.table.proofs.Accepted.{accepted}
 use Rattle.places.specs.Values.{Values}

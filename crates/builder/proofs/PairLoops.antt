@@ -10,8 +10,8 @@ use Rattle.lists.specs.Lists.{pick, same, word, from, flat, member}
 use Rattle.lists.proofs.Tests.{same-yes, same-no, same-true, and-left, and-right}
 use Rattle.lists.proofs.Members.{member-here, member-left, member-right, member-keep, map-append}
 use Rattle.lists.proofs.Ranges.{member-from}
-use Rattle.table.specs.Words.{publics, bounds, names, branchKind, channel, branchName}
-use Rattle.table.specs.Scheme.{scheme}
+use Rattle.scheme.specs.Words.{publics, bounds, names, branchKind, channel, branchName}
+use Rattle.scheme.specs.Scheme.{scheme}
 use Rattle.places.specs.Transitions.{Description, common, sentOn}
 use Rattle.builder.specs.Inner.Writing
 use Rattle.builder.specs.Inner.Writing.{putAll, Inside}

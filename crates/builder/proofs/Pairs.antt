@@ -11,9 +11,9 @@ use Rattle.lists.proofs.Tests.{same-true}
 use Rattle.lists.proofs.Ranges.{from-member, member-from, from-append}
 use Rattle.lists.proofs.Members.{one-member, member-place}
 use Rattle.lists.proofs.Ascending.{element-below}
-use Rattle.table.specs.Words.{publics, bounds, names, nodes, branches, branchKind, channel, branchName, next}
-use Rattle.table.specs.Owners.{home}
-use Rattle.table.specs.Scheme.{Scheme, send, receive, present, nextNode, scheme}
+use Rattle.scheme.specs.Words.{publics, bounds, names, nodes, branches, branchKind, channel, branchName, next}
+use Rattle.scheme.specs.Owners.{home}
+use Rattle.scheme.specs.Scheme.{Scheme, send, receive, present, nextNode, scheme}
 use Rattle.table.specs.Causes.{cause}
 use Rattle.table.proofs.Accepted.{accepted}
 use Rattle.places.specs.Values.{allValues}

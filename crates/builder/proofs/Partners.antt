@@ -9,9 +9,9 @@ use borrow.Author.Tests.{lt-ltb}
 use Rattle.lists.specs.Lists.{pick, same, word, from, range, flat}
 use Rattle.lists.proofs.Tests.{same-yes, same-no, same-true}
 use Rattle.lists.proofs.Ranges.{from-more, from-done}
-use Rattle.table.specs.Words.{nodes, branches, branchKind, channel, branchName, next, isSilent, isSend, isReceive, field4}
-use Rattle.table.specs.Owners.{home, branchThread}
-use Rattle.table.specs.Scheme.{Branch, absent, silent, send, receive, present, nextNode, branchAt, scheme}
+use Rattle.scheme.specs.Words.{nodes, branches, branchKind, channel, branchName, next, isSilent, isSend, isReceive, field4}
+use Rattle.scheme.specs.Owners.{home, branchThread}
+use Rattle.scheme.specs.Scheme.{Branch, absent, silent, send, receive, present, nextNode, branchAt, scheme}
 use Rattle.table.specs.Causes.{cause}
 use Rattle.table.proofs.Accepted.{accepted}
 use Rattle.net.specs.Net.{Transition}

@@ -8,7 +8,7 @@ use native.Mathlib.Decide.{decLe}
 use native.Mathlib.Omega.{arith}
 use Rattle.lists.specs.Lists.{member}
 use Rattle.lists.proofs.Members.{member-here, member-there, member-cases, member-nil, member-not}
-use Rattle.table.specs.Scheme.{Scheme}
+use Rattle.scheme.specs.Scheme.{Scheme}
 use Rattle.places.specs.Values.{Values}
 use Rattle.places.specs.Places.{Place}
 use Rattle.places.specs.Rows.{numberOf, Exists}

@@ -9,9 +9,9 @@ use native.Mathlib.Omega.{arith}
 use lib.Dec.{ltb}
 use borrow.Author.Tests.{lt-ltb, ltb-true}
 use Rattle.lists.specs.Lists.{from, range}
-use Rattle.table.specs.Words.{publics, nodes, channel, branchName, next}
-use Rattle.table.specs.Owners.{home}
-use Rattle.table.specs.Scheme.{Scheme, send, receive, scheme}
+use Rattle.scheme.specs.Words.{publics, nodes, channel, branchName, next}
+use Rattle.scheme.specs.Owners.{home}
+use Rattle.scheme.specs.Scheme.{Scheme, send, receive, scheme}
 use Rattle.table.proofs.Accepted.{accepted}
 use Rattle.net.specs.Net.{Transition}
 use Rattle.places.specs.Values.{Values}

@@ -8,7 +8,7 @@ use lib.ListN.{length, drop}
 use Rattle.lists.specs.Lists.{word, flat, member}
 use Rattle.lists.proofs.Slices.{drop-step, drop-none}
 use Rattle.lists.proofs.Members.{member-getD}
-use Rattle.table.specs.Words.{publics, bounds}
+use Rattle.scheme.specs.Words.{publics, bounds}
 use Rattle.net.specs.Net.{Transition}
 use Rattle.builder.specs.Inner.Writing.{Heads, putAll, Inside}
 use Rattle.places.specs.Inner.Plan.{Lists, reached}

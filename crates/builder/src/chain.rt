@@ -6,8 +6,8 @@ ghost use Prim.Native.Nat.{_+_, _-_, _<_, _≤_};
 ghost use lib.Dec.{ltb};
 ghost use lib.ListN.{length, take};
 ghost use Rattle.lists.specs.Lists.{pick, from};
-ghost use Rattle.table.specs.Words.{publics, names};
-ghost use Rattle.table.specs.Scheme.{scheme};
+ghost use Rattle.scheme.specs.Words.{publics, names};
+ghost use Rattle.scheme.specs.Scheme.{scheme};
 ghost use Rattle.places.specs.Places.{differs, free};
 ghost use Rattle.places.specs.Rows.{numberOf};
 ghost use Rattle.places.specs.Transitions.{releasing, releases, copying, copies};
@@ -30,7 +30,7 @@ use lists::word32;
 use places::layout::Layout;
 use places::layout::is_restricted;
 use places::layout::reach_of;
-use table::fields::field1;
+use scheme::fields::field1;
 
 // The chain of a node: the node that it leads to, its first control place, how many it has, and the place that the last
 // one leads to.

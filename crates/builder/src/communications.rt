@@ -4,7 +4,7 @@ ghost use mathlib.Core.Path.{_≡_};
 ghost use mathlib.Core.List.{[], _∷_, map};
 ghost use Prim.Native.Nat.{_+_, _-_, _<_};
 ghost use Rattle.lists.specs.Lists.{from};
-ghost use Rattle.table.specs.Words.{branches, channel, branchName, isSend};
+ghost use Rattle.scheme.specs.Words.{branches, channel, branchName, isSend};
 ghost use Rattle.builder.specs.Inner.Writing.{Inside};
 ghost use Rattle.builder.specs.Inner.Parts.{put, state, told, sentTold, pairTold, withAll, allTold};
 ghost use Rattle.places.specs.Inner.Plan.{Rowed, Laid, Defined};
@@ -27,7 +27,7 @@ use places::count::common;
 use places::count::thread_of;
 use places::layout::Layout;
 use places::layout::reach_of;
-use table::fields::field4;
+use scheme::fields::field4;
 
 // What the communications of a send and a receive share: the branches, the names that they use, and the places before
 // and after them.

@@ -3,8 +3,8 @@ ghost use mathlib.Core.Path.{_≡_};
 ghost use Prim.Native.Nat.{_+_, _-_, _<_, _≤_};
 ghost use lib.ListN.{length};
 ghost use Rattle.lists.specs.Lists.{from};
-ghost use Rattle.table.specs.Words.{publics, bounds};
-ghost use Rattle.table.specs.Scheme.{scheme};
+ghost use Rattle.scheme.specs.Words.{publics, bounds};
+ghost use Rattle.scheme.specs.Scheme.{scheme};
 ghost use Rattle.places.specs.Inner.Arcs.{initialNumbers};
 ghost use Rattle.builder.specs.Inner.Writing.{writes};
 ghost use Rattle.places.specs.Inner.Plan.{today};
@@ -16,9 +16,9 @@ use lists::store32;
 use lists::word16;
 use lists::word32;
 use places::layout::Layout;
-use table::fields::field1;
-use table::fields::field4;
-use table::fields::name_kind;
+use scheme::fields::field1;
+use scheme::fields::field4;
+use scheme::fields::name_kind;
 
 fn count_up(out: &mut [u32], at: usize, first: usize, count: usize) -> usize
     requires { ⌜ (first + count ≤ 4294967296) × (at < 4294967296) ⌝ }

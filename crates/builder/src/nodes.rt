@@ -5,10 +5,10 @@ ghost use mathlib.Core.List.{[], _∷_, map};
 ghost use Prim.Native.Nat.{_+_, _-_, _<_, _≤_};
 ghost use lib.ListN.{length, take};
 ghost use Rattle.lists.specs.Lists.{from, range, flat};
-ghost use Rattle.table.specs.Words.{publics, bounds, names, nodes, branches, nodeFirst, nodeSecond};
-ghost use Rattle.table.specs.Words.{isStop, isNew, isCall};
-ghost use Rattle.table.specs.Owners.{held};
-ghost use Rattle.table.specs.Scheme.{scheme, call};
+ghost use Rattle.scheme.specs.Words.{publics, bounds, names, nodes, branches, nodeFirst, nodeSecond};
+ghost use Rattle.scheme.specs.Words.{isStop, isNew, isCall};
+ghost use Rattle.scheme.specs.Owners.{held};
+ghost use Rattle.scheme.specs.Scheme.{scheme, call};
 ghost use Rattle.places.specs.Transitions.{releases, silents, ofNode};
 ghost use Rattle.places.specs.Inner.Arcs.{allDiffer, numbersOf};
 ghost use Rattle.builder.specs.Inner.Writing.{Inside};
@@ -29,9 +29,9 @@ use crate::write::transition;
 use lists::word16;
 use lists::word32;
 use places::layout::Layout;
-use table::fields::field3;
-use table::fields::field4;
-use table::fields::name_kind;
+use scheme::fields::field3;
+use scheme::fields::field4;
+use scheme::fields::name_kind;
 
 fn silents(
     table: &[u16],
@@ -172,7 +172,7 @@ fn call(
     let d = field3(table, 10, n, 1);
     let formals = field4(table, 8, d, 3);
     let mut names = [0u32; 64];
-    let held = table::index::held_names(table, owners, homes, n as u16, &mut names);
+    let held = scheme::index::held_names(table, owners, homes, n as u16, &mut names);
     let to = field4(table, 8, d, 1);
     let c = Chain {
         node: n,
@@ -216,7 +216,7 @@ fn stop(
         (releases (scheme (now (table .entry))) (today (now (table .entry))) n n 0 (held (now (table .entry)) n)) ⌝ }
 {
     let mut names = [0u32; 64];
-    let held = table::index::held_names(table, owners, homes, n as u16, &mut names);
+    let held = scheme::index::held_names(table, owners, homes, n as u16, &mut names);
     let first = word32(spots, n);
     let c = Chain {
         node: n,

@@ -10,9 +10,9 @@ use lib.Dec.{ltb}
 use lib.ListN.{length, drop}
 use Rattle.lists.specs.Lists.{pick, same}
 use Rattle.lists.proofs.Tests.{same-true}
-use Rattle.table.specs.Words.{threads, bounds}
+use Rattle.scheme.specs.Words.{threads, bounds}
 use Rattle.table.specs.Causes.{cause}
-use Rattle.table.specs.Scheme.{scheme}
+use Rattle.scheme.specs.Scheme.{scheme}
 use Rattle.table.proofs.Accepted.{accepted}
 use Rattle.net.specs.Firing.{isMarking}
 use Rattle.places.specs.Values.{allValues}

@@ -1,9 +1,9 @@
 -- Every case of the table has its answer: one proof, by computing.
 use mathlib.Core.Path.{_≡_, refl}
 use Rattle.lists.specs.Lists as ListsL
-use Rattle.table.specs.Words as WordsT
-use Rattle.table.specs.Owners as OwnersT
-use Rattle.table.specs.Scheme as SchemeT
+use Rattle.scheme.specs.Words as WordsT
+use Rattle.scheme.specs.Owners as OwnersT
+use Rattle.scheme.specs.Scheme as SchemeT
 use Rattle.table.specs.Causes as CausesT
 use Rattle.net.specs.Image as ImageN
 use Rattle.net.specs.Net as NetN

@@ -6,7 +6,7 @@ use mathlib.Core.Bool.{Bool, true, false, true≢false, false≢true}
 use mathlib.Core.Option.{Option, none, some}
 use native.Mathlib.Decide.{ℕ-discrete}
 use Rattle.lists.proofs.Tests.{same-self}
-use Rattle.table.specs.Scheme.{Scheme}
+use Rattle.scheme.specs.Scheme.{Scheme}
 use Rattle.process.specs.States.{State, put, valueOf, oneValue, Renamed}
 use Rattle.fidelity.specs.Inner.Marks.{given}
 use Rattle.fidelity.specs.Inner.Standing.{Alike}

@@ -9,7 +9,7 @@ use native.Mathlib.Decide.{decLe}
 use lib.ListN.{length, getD, replicate, length-map}
 use Rattle.lists.specs.Lists.{pick, positions, every, ascends}
 use Rattle.lists.proofs.Tests.{and-intro, or-true}
-use Rattle.table.specs.Scheme.{Scheme}
+use Rattle.scheme.specs.Scheme.{Scheme}
 use Rattle.table.specs.Accepted.{Accepted}
 use Rattle.process.specs.States.{State, start}
 use Rattle.process.specs.Steps.{isOpen}

@@ -9,7 +9,7 @@ use lib.ListN.{length, getD}
 use borrow.Author.Tests.{lt-ltb, le-leb, ltb-true, leb-true}
 use Rattle.lists.proofs.Tests.{and-left, and-right, or-true}
 use Rattle.lists.proofs.Members.{member-getD}
-use Rattle.table.specs.Scheme.{Scheme, new, call, send, receive}
+use Rattle.scheme.specs.Scheme.{Scheme, new, call, send, receive}
 use Rattle.table.specs.Accepted.{NameOf, Accepted}
 use Rattle.places.specs.Values.{Values, allValues}
 use Rattle.readback.specs.Configurations.{spot, Configuration}

@@ -12,7 +12,7 @@ use lib.ListN.{length, take, drop, getD}
 use borrow.Author.Tests.{lt-ltb, le-ltb}
 use Rattle.lists.specs.Lists.{pick, same, member}
 use Rattle.lists.proofs.Tests.{same-self, same-true, same-no}
-use Rattle.table.specs.Scheme.{Scheme, choice, new, send, receive}
+use Rattle.scheme.specs.Scheme.{Scheme, choice, new, send, receive}
 use Rattle.table.specs.Accepted.{NameOf, Usable, Accepted}
 use Rattle.process.specs.States.{State}
 use Rattle.process.specs.Steps.{Step, newStep, communication, isOpen}

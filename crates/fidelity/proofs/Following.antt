@@ -11,8 +11,8 @@ use lib.Dec.{ltb}
 use lib.ListN.{length, getD}
 use Rattle.lists.specs.Lists.{pick, same}
 use Rattle.lists.proofs.Tests.{and-false, same-self, same-true, same-no}
-use Rattle.table.specs.Scheme.{Scheme, Node, stop, choice, new, call, silent, send, receive}
-use Rattle.table.specs.Kinds.{isStop}
+use Rattle.scheme.specs.Scheme.{Scheme, Node, stop, choice, new, call, silent, send, receive}
+use Rattle.scheme.specs.Kinds.{isStop}
 use Rattle.table.specs.Accepted.{Accepted}
 use Rattle.process.specs.States.{State, put, valueOf}
 use Rattle.process.specs.Steps.{arrived, called, received, silently, newly, calling, meeting}

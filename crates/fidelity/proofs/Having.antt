@@ -7,7 +7,7 @@ use mathlib.Core.List.{List, [], _∷_}
 use Rattle.lists.specs.Lists as Lists
 use Rattle.lists.specs.Lists.{pick, same, keep}
 use Rattle.lists.proofs.Tests.{and-left, and-right, both-ways, same-self, same-true}
-use Rattle.table.specs.Scheme.{Scheme}
+use Rattle.scheme.specs.Scheme.{Scheme}
 use Rattle.table.specs.Accepted.{Accepted}
 use Rattle.places.specs.Values.{Values}
 use Rattle.places.specs.Places.{Place, equals, differs, free, control, places}

@@ -5,7 +5,7 @@ use mathlib.Core.Logic.{_≢_}
 use mathlib.Core.Bool.{Bool, true, false, not, _&&_}
 use Rattle.lists.specs.Lists.{pick, same}
 use Rattle.lists.proofs.Tests.{same-self, same-no, pick-true}
-use Rattle.table.specs.Scheme.{Scheme, new, call, silent, send, receive}
+use Rattle.scheme.specs.Scheme.{Scheme, new, call, silent, send, receive}
 use Rattle.process.specs.States.{State}
 use Rattle.process.specs.Steps as Steps
 use Rattle.process.specs.Steps.{newStep, silentStep, communication, callStep, noStep, silently, newly, calling, meeting}

@@ -14,7 +14,7 @@ use Rattle.lists.specs.Lists.{pick, same, from, range, keep, flat, member}
 use Rattle.lists.proofs.Tests.{and-left, and-right, and-intro, same-self, same-true, same-no, same-false, pick-true, pick-false}
 use Rattle.lists.proofs.Ranges.{member-from, from-member}
 use Rattle.lists.proofs.Members.{member-here, one-member, member-getD, member-keep}
-use Rattle.table.specs.Scheme.{Scheme, Node, stop, choice, new, call, Branch, absent, silent, send, receive}
+use Rattle.scheme.specs.Scheme.{Scheme, Node, stop, choice, new, call, Branch, absent, silent, send, receive}
 use Rattle.table.specs.Accepted.{NameOf, Usable, Chosen, Accepted}
 use Rattle.places.specs.Values.{Values, valuesOf, privateValues}
 use Rattle.places.specs.Places.{controls}

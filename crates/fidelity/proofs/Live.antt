@@ -11,8 +11,8 @@ use borrow.Author.Tests.{leb-true}
 use Rattle.lists.specs.Lists.{same, member}
 use Rattle.lists.proofs.Tests.{and-right, or-cases, same-self, same-true, same-no}
 use Rattle.lists.proofs.Members.{member-append, distinct-append}
-use Rattle.table.specs.Scheme.{Scheme, Node, stop, choice, new, call, silent, send, receive}
-use Rattle.table.specs.Kinds.{isStop}
+use Rattle.scheme.specs.Scheme.{Scheme, Node, stop, choice, new, call, silent, send, receive}
+use Rattle.scheme.specs.Kinds.{isStop}
 use Rattle.table.specs.Accepted.{NameOf, Chosen, Accepted}
 use Rattle.process.specs.States.{State}
 use Rattle.process.specs.Steps.{Step, silentStep, communication, callStep}

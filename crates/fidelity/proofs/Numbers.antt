@@ -11,7 +11,7 @@ use Rattle.lists.specs.Lists as Lists
 use Rattle.lists.specs.Lists.{bit, same, member, positions, every}
 use Rattle.lists.proofs.Tests.{not-true-false, and-left, and-right, and-true, and-false, same-self, same-true, same-yes}
 use Rattle.lists.proofs.Ranges.{every-member, member-every}
-use Rattle.table.specs.Scheme.{Scheme}
+use Rattle.scheme.specs.Scheme.{Scheme}
 use Rattle.table.specs.Accepted.{Accepted}
 use Rattle.net.specs.Firing.{isMarked, isEnabled, hasContact, put, moved}
 use Rattle.net.proofs.Marks.{length-put}

@@ -6,8 +6,8 @@ use mathlib.Core.Bool.{Bool, true, false, not, _&&_, true≢false, false≢true}
 use mathlib.Core.Option.{Option, none, some}
 use Rattle.lists.specs.Lists.{same}
 use Rattle.lists.proofs.Tests.{and-left, and-right, and-intro, same-self, same-true, same-yes, same-no}
-use Rattle.table.specs.Scheme.{Scheme, Node, stop, choice, new, call, Branch, absent, silent, send, receive}
-use Rattle.table.specs.Kinds.{isNew, isCall, isSilent}
+use Rattle.scheme.specs.Scheme.{Scheme, Node, stop, choice, new, call, Branch, absent, silent, send, receive}
+use Rattle.scheme.specs.Kinds.{isNew, isCall, isSilent}
 use Rattle.process.specs.States.{State, oneValue}
 use Rattle.process.specs.Steps.{Step, newStep, silentStep, communication, callStep, noStep, isOpen, canMeet, standsAt}
 use Rattle.fidelity.specs.Inner.Runs.{Open, open-new, open-call, open-silent, open-communication}

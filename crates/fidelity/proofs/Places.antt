@@ -12,7 +12,7 @@ use Rattle.lists.specs.Lists.{pick, same, from, range, flat, member}
 use Rattle.lists.proofs.Tests.{and-left, and-right, and-intro, both-ways, same-true, same-yes}
 use Rattle.lists.proofs.Ranges.{member-from, from-member}
 use Rattle.lists.proofs.Members.{member-keep}
-use Rattle.table.specs.Scheme.{Scheme, Node, stop, choice, new, call}
+use Rattle.scheme.specs.Scheme.{Scheme, Node, stop, choice, new, call}
 use Rattle.table.specs.Accepted.{Accepted}
 use Rattle.places.specs.Values.{Values, valuesOf, privateValues, privateValuesOf}
 use Rattle.places.specs.Places.{Place, equals, differs, free, control, controlsAt, controls, controlPlaces, row, rows, places}

@@ -11,7 +11,7 @@ use lib.ListN.{length}
 use borrow.Author.Tests.{lt-ltb}
 use Rattle.lists.specs.Lists.{pick, from, range}
 use Rattle.lists.proofs.Ranges.{from-member}
-use Rattle.table.specs.Scheme.{Scheme, scheme}
+use Rattle.scheme.specs.Scheme.{Scheme, scheme}
 use Rattle.table.specs.Accepted.{Accepted}
 use Rattle.process.specs.States.{valueOf}
 use Rattle.process.specs.StateWords.{stateWords, valueWords}

@@ -13,7 +13,7 @@ use Rattle.lists.specs.Lists.{pick, same, from, range, keep, flat, member, Dist
 use Rattle.lists.proofs.Tests.{and-left, and-right, and-false, same-self, same-no, same-true, not-true-false}
 use Rattle.lists.proofs.Ranges.{member-from}
 use Rattle.lists.proofs.Members.{distinct-from, distinct-keep, distinct-one}
-use Rattle.table.specs.Scheme.{Scheme}
+use Rattle.scheme.specs.Scheme.{Scheme}
 use Rattle.table.specs.Accepted.{Accepted}
 use Rattle.places.specs.Values.{Values, valuesOf, privateValues, privateValuesOf}
 use Rattle.places.specs.Places.{Place, equals, differs, free, control, controls, controlPlaces, row, rows, places}

@@ -12,7 +12,7 @@ use lib.ListN.{length}
 use borrow.Author.Tests.{ltb-false}
 use Rattle.lists.specs.Lists.{pick, bit, same}
 use Rattle.lists.proofs.Tests.{same-self, same-no}
-use Rattle.table.specs.Scheme.{Scheme, Node, stop, choice, new, call}
+use Rattle.scheme.specs.Scheme.{Scheme, Node, stop, choice, new, call}
 use Rattle.table.specs.Accepted.{Accepted}
 use Rattle.places.specs.Values.{Values}
 use Rattle.places.specs.Transitions.{Description}

@@ -13,7 +13,7 @@ use borrow.Author.Tests.{lt-ltb, le-ltb}
 use Rattle.lists.specs.Lists.{pick, same, member}
 use Rattle.lists.proofs.Tests.{or-right, or-true, same-self, same-no}
 use Rattle.lists.proofs.Members.{member-getD, member-head, distinct-earlier}
-use Rattle.table.specs.Scheme.{Scheme, call}
+use Rattle.scheme.specs.Scheme.{Scheme, call}
 use Rattle.table.specs.Accepted.{NameOf, Usable, Accepted}
 use Rattle.process.specs.States.{State}
 use Rattle.places.specs.Values.{Values}

@@ -15,7 +15,7 @@ use Rattle.lists.specs.Lists as Lists
 use Rattle.lists.specs.Lists.{pick, same, member}
 use Rattle.lists.proofs.Tests.{and-left, and-right, or-false, or-assoc, same-self, same-true, same-no, same-false}
 use Rattle.lists.proofs.Members.{member-append, member-getD, member-rest, distinct-earlier}
-use Rattle.table.specs.Scheme.{Scheme, Node, stop, choice, new, call, silent, send, receive}
+use Rattle.scheme.specs.Scheme.{Scheme, Node, stop, choice, new, call, silent, send, receive}
 use Rattle.table.specs.Accepted.{NameOf, Accepted}
 use Rattle.net.specs.Image.{Label, labelOf}
 use Rattle.places.specs.Values.{Values}

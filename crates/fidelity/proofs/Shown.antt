@@ -14,8 +14,8 @@ use borrow.Author.Tests.{lt-ltb, le-ltb, ltb-true, ltb-false}
 use Rattle.lists.specs.Lists.{pick, same, member}
 use Rattle.lists.proofs.Tests.{and-true, and-false, or-right, same-self, same-true, same-no, same-false}
 use Rattle.lists.proofs.Members.{member-getD, member-drop, distinct-earlier}
-use Rattle.table.specs.Scheme.{Scheme, Node, stop, choice, new, call, silent, send, receive}
-use Rattle.table.specs.Kinds.{isStop}
+use Rattle.scheme.specs.Scheme.{Scheme, Node, stop, choice, new, call, silent, send, receive}
+use Rattle.scheme.specs.Kinds.{isStop}
 use Rattle.table.specs.Accepted.{NameOf, Accepted}
 use Rattle.process.specs.States.{put, valueOf}
 use Rattle.process.specs.Steps.{passed, arrived, called, received}

@@ -14,7 +14,7 @@ use Rattle.lists.proofs.Tests.{and-intro, and-left, and-right, not-true-false, 
 use Rattle.lists.proofs.Ranges.{every-all, below-every, member-from}
 use Rattle.lists.proofs.Members.{distinct-from}
 use Rattle.lists.proofs.Counts.{flat-keep-length}
-use Rattle.table.specs.Scheme.{Scheme}
+use Rattle.scheme.specs.Scheme.{Scheme}
 use Rattle.table.specs.Accepted.{Accepted}
 use Rattle.places.specs.Values.{Values, allValues, privateValues}
 use Rattle.places.specs.Places.{Place, equals, differs, free, places}

@@ -12,8 +12,8 @@ use borrow.Author.Tests.{lt-ltb, le-ltb, ltb-true, ltb-false}
 use Rattle.lists.specs.Lists as Lists
 use Rattle.lists.specs.Lists.{pick, same, range, member}
 use Rattle.lists.proofs.Tests.{not-true-false, both-ways, and-left, and-right, and-intro, same-self, same-true, same-yes, same-sym}
-use Rattle.table.specs.Scheme.{Scheme}
-use Rattle.table.specs.Kinds.{isStop}
+use Rattle.scheme.specs.Scheme.{Scheme}
+use Rattle.scheme.specs.Kinds.{isStop}
 use Rattle.table.specs.Accepted.{NameOf, Accepted}
 use Rattle.process.specs.States.{start, valueOf}
 use Rattle.places.specs.Values.{Values}

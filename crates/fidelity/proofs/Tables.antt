@@ -7,7 +7,7 @@ use mathlib.Core.List.{List, [], _∷_, _++_, append-nil}
 use native.Mathlib.Decide.{decLe}
 use native.Mathlib.Omega.{arith}
 use Rattle.lists.specs.Lists.{member, Distinct}
-use Rattle.table.specs.Scheme.{Scheme, choice, call, silent, send, receive, present, nextNode, binds}
+use Rattle.scheme.specs.Scheme.{Scheme, choice, call, silent, send, receive, present, nextNode, binds}
 use Rattle.table.specs.Accepted.{NameOf, Usable, Chosen, Accepted}
 
 module _ (S : Scheme) (A : Accepted S) where

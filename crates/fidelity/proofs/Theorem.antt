@@ -3,7 +3,7 @@ use mathlib.Core.Path.{_≡_}
 use mathlib.Core.List.{List}
 use Prim.Native.Nat.{ℕ}
 use Rattle.table.specs.Causes.{cause}
-use Rattle.table.specs.Scheme.{scheme}
+use Rattle.scheme.specs.Scheme.{scheme}
 use Rattle.table.proofs.Accepted.{accepted}
 use Rattle.process.proofs.Renaming.{words-renamed}
 use Rattle.places.proofs.Size.{image-size}

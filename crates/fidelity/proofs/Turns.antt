@@ -10,7 +10,7 @@ use lib.ListN.{length}
 use borrow.Author.Tests.{le-leb}
 use Rattle.lists.specs.Lists.{pick}
 use Rattle.lists.proofs.Tests.{and-intro}
-use Rattle.table.specs.Scheme.{Scheme, scheme}
+use Rattle.scheme.specs.Scheme.{Scheme, scheme}
 use Rattle.table.specs.Accepted.{Accepted}
 use Rattle.process.specs.States.{State}
 use Rattle.process.specs.Steps.{isOpen}

@@ -8,8 +8,8 @@ use native.Mathlib.Omega.{arith}
 use lib.ListN.{length, getD}
 use Rattle.lists.specs.Lists.{every}
 use Rattle.lists.proofs.Tests.{and-intro}
-use Rattle.table.specs.Scheme.{Scheme, scheme}
-use Rattle.table.specs.Words.{bounds}
+use Rattle.scheme.specs.Scheme.{Scheme, scheme}
+use Rattle.scheme.specs.Words.{bounds}
 use Rattle.table.specs.Accepted.{Accepted}
 use Rattle.process.specs.States.{State}
 use Rattle.process.specs.Steps.{Step, isOpen}

@@ -7,8 +7,8 @@ use mathlib.Core.Option.{some}
 use mathlib.Core.List.{List}
 use lib.ListN.{length}
 use borrow.Author.Tests.{le-ltb}
-use Rattle.table.specs.Words.{publics}
-use Rattle.table.specs.Scheme.{Scheme, scheme}
+use Rattle.scheme.specs.Words.{publics}
+use Rattle.scheme.specs.Scheme.{Scheme, scheme}
 use Rattle.table.specs.Accepted.{Accepted}
 use Rattle.process.specs.States.{State, Renamed}
 use Rattle.process.specs.StateWords.{stateWords}

@@ -9,7 +9,7 @@ use lib.ListN.{length, take}
 use lib.Seq.{take-length}
 use Rattle.lists.specs.Lists.{pick, same, every}
 use Rattle.lists.proofs.Tests.{and-true, same-no, same-self}
-use Rattle.table.specs.Scheme.{Scheme, scheme}
+use Rattle.scheme.specs.Scheme.{Scheme, scheme}
 use Rattle.table.specs.Accepted.{Accepted}
 use Rattle.process.specs.States.{State, start}
 use Rattle.net.specs.Firing as Firing

@@ -5,7 +5,7 @@ use mathlib.Core.List.{List, [], _∷_, _++_}
 use Prim.Native.Nat.{ℕ}
 use lib.ListN.{length, take}
 use Rattle.lists.specs.Lists.{pick, same, every}
-use Rattle.table.specs.Scheme.{Scheme, scheme}
+use Rattle.scheme.specs.Scheme.{Scheme, scheme}
 use Rattle.process.specs.States.{State, start}
 use Rattle.process.specs.Steps as Steps
 use Rattle.process.specs.Steps.{Step, isOpen}

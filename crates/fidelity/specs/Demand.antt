@@ -6,8 +6,8 @@ use Prim.Native.Nat.{ℕ, suc, _+_, _*_, _^_, _≤_}
 use lib.Dec.{leb}
 use lib.ListN.{length}
 use Rattle.lists.specs.Lists.{pick, same, every}
-use Rattle.table.specs.Words.{publics, bounds}
-use Rattle.table.specs.Scheme.{scheme}
+use Rattle.scheme.specs.Words.{publics, bounds}
+use Rattle.scheme.specs.Scheme.{scheme}
 use Rattle.process.specs.States.{State, start}
 use Rattle.process.specs.Steps.{Step, isOpen}
 use Rattle.process.specs.StateWords.{stateWords}

@@ -12,10 +12,10 @@ use Rattle.lists.proofs.Ranges.{from-more, from-done, from-whole, member-from}
 use Rattle.lists.proofs.Members.{member-getD, member-map}
 use Rattle.lists.proofs.Tests.{same-yes, same-no}
 use Rattle.lists.proofs.Slices.{slice-step, slice-none}
-use Rattle.table.specs.Words.{publics, bounds, branches, branchKind, isStop, isChoice, isNew, isSilent, isSend, isReceive, nodeFirst, nodeSecond}
-use Rattle.table.specs.Words.{channel, branchName, argumentsOf}
-use Rattle.table.specs.Owners.{held, branchThread}
-use Rattle.table.specs.Scheme.{scheme}
+use Rattle.scheme.specs.Words.{publics, bounds, branches, branchKind, isStop, isChoice, isNew, isSilent, isSend, isReceive, nodeFirst, nodeSecond}
+use Rattle.scheme.specs.Words.{channel, branchName, argumentsOf}
+use Rattle.scheme.specs.Owners.{held, branchThread}
+use Rattle.scheme.specs.Scheme.{scheme}
 use Rattle.places.specs.Inner.Plan.{freeNames}
 use Rattle.places.specs.Inner.Counting.{Sums, Few, addTimes, over, releaseSums, copySums, silentSums, nodeSums}
 use Rattle.places.specs.Inner.Counting.{pairSums, partnerSums, sendSums}

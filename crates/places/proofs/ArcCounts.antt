@@ -13,7 +13,7 @@ use Rattle.lists.proofs.Tests.{not-true-false}
 use Rattle.lists.proofs.Ranges.{from-member}
 use Rattle.lists.proofs.Members.{keep-same}
 use Rattle.lists.proofs.Standing.{keep-in, number-in}
-use Rattle.table.specs.Scheme.{Scheme}
+use Rattle.scheme.specs.Scheme.{Scheme}
 use Rattle.table.specs.Accepted.{Accepted}
 use Rattle.places.specs.Values.{Values, allValues, valuesOf}
 use Rattle.places.specs.Places.{Place, equals, differs, free, control, controls, places}

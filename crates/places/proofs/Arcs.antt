@@ -9,7 +9,7 @@ use lib.ListN.{length, length-append, length-map}
 use Rattle.lists.specs.Lists.{pick, same, from, positions}
 use Rattle.lists.proofs.Tests.{false-true, and-left, and-right, or-cases, or-left, or-right, or-true, same-self, same-true}
 use Rattle.lists.proofs.Ranges.{member-from, from-length}
-use Rattle.table.specs.Scheme.{Scheme}
+use Rattle.scheme.specs.Scheme.{Scheme}
 use Rattle.places.specs.Values.{Values}
 use Rattle.places.specs.Places.{Place, equals, differs, free, control, places}
 use Rattle.places.specs.Rows.{Exists, has-differs}

@@ -7,7 +7,7 @@ use native.Mathlib.Omega.{arith}
 use lib.ListN.{length, getD, replicate, length-map}
 use Rattle.lists.specs.Lists.{every, positions, ascends}
 use Rattle.lists.proofs.Tests.{and-intro}
-use Rattle.table.specs.Scheme.{Scheme, scheme}
+use Rattle.scheme.specs.Scheme.{Scheme, scheme}
 use Rattle.net.specs.Image.{placeCount, transitionCount, headerRight, recordRight, labelAt, inputsAt, outputsAt}
 use Rattle.net.specs.Firing.{put, initialMarking, step, stepOf}
 use Rattle.net.specs.Net.{Transition, blank, transitionAt, ascending, isAscending, encode}

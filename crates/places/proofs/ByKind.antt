@@ -11,7 +11,7 @@ use Rattle.lists.proofs.Tests.{and-left, and-right, and-false}
 use Rattle.lists.proofs.Ranges.{from-append, from-member}
 use Rattle.lists.proofs.Members.{keep-append, map-append, member-keep}
 use Rattle.lists.proofs.Ascending.{ascends-cons, ascends-lower, ascends-higher}
-use Rattle.table.specs.Scheme.{Scheme}
+use Rattle.scheme.specs.Scheme.{Scheme}
 use Rattle.places.specs.Values.{Values, valuesOf}
 use Rattle.places.specs.Places.{equals, differs, free, control, controls}
 use Rattle.places.specs.Rows.{rowStart, freeStart, numberOf, IsBound, IsPrivate, Exists, has-equals, has-free}

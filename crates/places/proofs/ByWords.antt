@@ -10,16 +10,16 @@ use borrow.Author.Tests.{lt-ltb}
 use Rattle.lists.specs.Lists.{same, from, range, every}
 use Rattle.lists.proofs.Tests.{true-or-false, false-true, all-hold, same-true, same-yes, same-no}
 use Rattle.lists.proofs.Ranges.{every-below, from-length}
-use Rattle.table.specs.Words.{publics, bounds, definitions, nodes, branches, arguments, names, nodeKind, nodeFirst, nodeSecond, isChoice, isNew, isCall}
-use Rattle.table.specs.Words.{branchKind, channel, branchName, next, formals, formalCount, argument, argumentsOf}
-use Rattle.table.specs.Owners.{held}
-use Rattle.table.specs.Index.{heldIn, HeldNames}
+use Rattle.scheme.specs.Words.{publics, bounds, definitions, nodes, branches, arguments, names, nodeKind, nodeFirst, nodeSecond, isChoice, isNew, isCall}
+use Rattle.scheme.specs.Words.{branchKind, channel, branchName, next, formals, formalCount, argument, argumentsOf}
+use Rattle.scheme.specs.Owners.{held}
+use Rattle.scheme.specs.Index.{heldIn, HeldNames}
 use Rattle.table.specs.Causes.{cause, kindsRight, nameKindRight, formalsZero, nodeKindRight, branchKindRight}
-use Rattle.table.specs.Scheme.{stop, choice, new, call, silent, send, receive, nodeAt, branchAt, argumentsAt, scheme}
+use Rattle.scheme.specs.Scheme.{stop, choice, new, call, silent, send, receive, nodeAt, branchAt, argumentsAt, scheme}
 use Rattle.table.proofs.Passed.{passed}
 use Rattle.table.proofs.Inside
 use Rattle.table.proofs.Inside.{counted}
-use Rattle.table.proofs.Indexed.{held-indexed}
+use Rattle.scheme.proofs.Indexed.{held-indexed}
 use Rattle.places.specs.Places.{controls}
 use Rattle.places.specs.Inner.Plan.{Known}
 use Rattle.places.proofs.Controls.{controls-few, few-nodes}

@@ -10,7 +10,7 @@ use lib.ListN.{length, length-append}
 use borrow.Author.Tests.{leb-true}
 use Rattle.lists.specs.Lists.{bit, member, positions}
 use Rattle.lists.proofs.Tests.{false-true}
-use Rattle.table.specs.Scheme.{Scheme, send, receive, present}
+use Rattle.scheme.specs.Scheme.{Scheme, send, receive, present}
 use Rattle.table.specs.Accepted.{Accepted, NameOf, Usable}
 use Rattle.places.specs.Values.{Values, allValues, valuesOf}
 use Rattle.places.specs.Places.{Place, equals, differs, control, places}

@@ -10,8 +10,8 @@ use lib.Seq.{getD-set-same, getD-set-other}
 use Rattle.lists.specs.Lists.{pick, word, from, range}
 use Rattle.lists.proofs.Ranges.{from-length, from-member}
 use Rattle.lists.proofs.Sums.{sum-few}
-use Rattle.table.specs.Words.{publics, bounds, nodes}
-use Rattle.table.specs.Scheme.{Scheme, Node, stop, choice, new, call, scheme}
+use Rattle.scheme.specs.Words.{publics, bounds, nodes}
+use Rattle.scheme.specs.Scheme.{Scheme, Node, stop, choice, new, call, scheme}
 use Rattle.table.specs.Causes.{cause}
 use Rattle.table.specs.Accepted.{Accepted}
 use Rattle.table.proofs.Accepted.{accepted}

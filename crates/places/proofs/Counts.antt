@@ -4,8 +4,8 @@ use mathlib.Core.Bool.{true, false}
 use mathlib.Core.List.{List}
 use Prim.Native.Nat.{ℕ, _≤_, _<_}
 use borrow.Author.Tests.{lt-ltb, le-ltb}
-use Rattle.table.specs.Words.{publics, bounds}
-use Rattle.table.specs.Scheme.{scheme}
+use Rattle.scheme.specs.Words.{publics, bounds}
+use Rattle.scheme.specs.Scheme.{scheme}
 use Rattle.places.specs.Inner.Counting.{Sums, addTimes, releaseSums, copySums}
 
 pub release-restricted : (w : List ℕ) (s : Sums) (z : ℕ) → scheme w .restricted z ≡ true → releaseSums w s z ≡ addTimes s (bounds w) 2 2

@@ -4,7 +4,7 @@ use mathlib.Core.Bool.{Bool, true, false}
 use mathlib.Core.List.{List, [], _∷_, _++_}
 use Prim.Native.Nat.{ℕ, _+_, _-_, _<_}
 use Rattle.lists.specs.Lists.{pick, positions}
-use Rattle.table.specs.Scheme.{Scheme}
+use Rattle.scheme.specs.Scheme.{Scheme}
 use Rattle.places.specs.Values.{Values}
 use Rattle.places.specs.Places.{Place, equals, differs, free, control, places}
 use Rattle.places.specs.Rows.{numberOf, IsBound, IsPrivate, Exists}

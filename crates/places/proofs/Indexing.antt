@@ -9,14 +9,14 @@ use lib.ListN.{length, length-map}
 use Rattle.lists.specs.Lists.{same, word, range}
 use Rattle.lists.proofs.Ranges.{from-length}
 use Rattle.lists.proofs.Tests.{same-true, same-yes, false-true}
-use Rattle.table.specs.Words.{nodes, branches, definitions}
-use Rattle.table.specs.Owners.{owner, home, definition}
-use Rattle.table.specs.Index.{ownerNumber, FirstDefinitions}
-use Rattle.table.specs.Scheme.{scheme}
+use Rattle.scheme.specs.Words.{nodes, branches, definitions}
+use Rattle.scheme.specs.Owners.{owner, home, definition}
+use Rattle.scheme.specs.Index.{ownerNumber, FirstDefinitions}
+use Rattle.scheme.specs.Scheme.{scheme}
 use Rattle.table.specs.Causes.{cause}
 use Rattle.table.proofs.Accepted.{accepted}
-use Rattle.table.proofs.Indexed.{definition-indexed}
-use Rattle.table.proofs.Scatter.{word-range}
+use Rattle.scheme.proofs.Indexed.{definition-indexed}
+use Rattle.scheme.proofs.Scatter.{word-range}
 use Rattle.table.specs.Answer.{causeOf}
 use Rattle.table.specs.declared.Verdict.{Verdict}
 use Rattle.places.specs.Inner.Plan.{Known, Defined, Rowed, Laid, Counted}

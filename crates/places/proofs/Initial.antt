@@ -10,7 +10,7 @@ use Rattle.lists.proofs.Tests.{same-self, same-no}
 use Rattle.lists.proofs.Ranges.{from-length}
 use Rattle.lists.proofs.Members.{flat-same}
 use Rattle.lists.proofs.Positions.{positions-append, positions-all, positions-none, positions-flat}
-use Rattle.table.specs.Scheme.{Scheme, Node, stop, choice, new, call}
+use Rattle.scheme.specs.Scheme.{Scheme, Node, stop, choice, new, call}
 use Rattle.places.specs.Values.{Values, privateValues, valuesOf, privateValuesOf}
 use Rattle.places.specs.Places.{equals, differs, free, control, controlsAt, controls, controlPlaces, row, rows, places, isInitial}
 use Rattle.places.specs.Rows.{rowStart, freeStart, controlStart}

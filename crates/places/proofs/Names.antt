@@ -13,8 +13,8 @@ use Rattle.lists.specs.Lists.{pick, same, word, from, range, keep, member}
 use Rattle.lists.proofs.Tests.{same-yes, same-no}
 use Rattle.lists.proofs.Ranges.{from-append, from-member, from-more, from-done, from-length, from-getD}
 use Rattle.lists.proofs.Members.{keep-append, keep-all, keep-none, keep-yes, keep-no}
-use Rattle.table.specs.Words.{publics, bounds, names, nameKind}
-use Rattle.table.specs.Scheme.{Scheme, scheme}
+use Rattle.scheme.specs.Words.{publics, bounds, names, nameKind}
+use Rattle.scheme.specs.Scheme.{Scheme, scheme}
 use Rattle.places.specs.Values.{Values, allValues, valuesOf}
 use Rattle.places.specs.Places.{equals, differs, free}
 use Rattle.places.specs.Rows.{rowStart, freeStart, rowLength, numberOf}

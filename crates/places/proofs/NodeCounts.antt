@@ -12,11 +12,11 @@ use Rattle.lists.specs.Lists.{pick, bit, same, from, range, keep, member}
 use Rattle.lists.proofs.Tests.{bit-small, same-yes, same-no, same-true}
 use Rattle.lists.proofs.Ranges.{from-length, from-member}
 use Rattle.lists.proofs.Members.{keep-append, keep-all, keep-none, keep-length, map-member}
-use Rattle.table.specs.Words.{publics, bounds, names, nodes, branches, nodeKind, nodeFirst, nodeSecond, formalCount, argument, argumentsOf}
-use Rattle.table.specs.Words.{channel, branchName, branchKind, isSend}
-use Rattle.table.specs.Owners.{held, branchThread}
-use Rattle.table.specs.Index.{heldIn, HeldNames}
-use Rattle.table.specs.Scheme.{scheme}
+use Rattle.scheme.specs.Words.{publics, bounds, names, nodes, branches, nodeKind, nodeFirst, nodeSecond, formalCount, argument, argumentsOf}
+use Rattle.scheme.specs.Words.{channel, branchName, branchKind, isSend}
+use Rattle.scheme.specs.Owners.{held, branchThread}
+use Rattle.scheme.specs.Index.{heldIn, HeldNames}
+use Rattle.scheme.specs.Scheme.{scheme}
 use Rattle.table.specs.Causes.{cause}
 use Rattle.table.proofs.Accepted.{accepted}
 use Rattle.places.specs.Transitions.{common}

@@ -14,10 +14,10 @@ use Rattle.lists.proofs.Tests.{false-true, same-no}
 use Rattle.lists.proofs.Ranges.{from-length, from-member}
 use Rattle.lists.proofs.Members.{member-here, member-there}
 use Rattle.lists.proofs.Sums.{sum-append}
-use Rattle.table.specs.Words.{publics, bounds, nodes, branches, branchKind, nodeKind, nodeFirst, nodeSecond, channel, branchName, next, isSend, isReceive}
-use Rattle.table.specs.Words.{argumentsOf}
-use Rattle.table.specs.Owners.{held}
-use Rattle.table.specs.Scheme.{Scheme, Node, new, call, absent, send, receive, branchAt, scheme}
+use Rattle.scheme.specs.Words.{publics, bounds, nodes, branches, branchKind, nodeKind, nodeFirst, nodeSecond, channel, branchName, next, isSend, isReceive}
+use Rattle.scheme.specs.Words.{argumentsOf}
+use Rattle.scheme.specs.Owners.{held}
+use Rattle.scheme.specs.Scheme.{Scheme, Node, new, call, absent, send, receive, branchAt, scheme}
 use Rattle.table.specs.Causes.{cause}
 use Rattle.table.specs.Accepted.{Accepted, Usable}
 use Rattle.table.proofs.Accepted.{accepted}

@@ -12,7 +12,7 @@ use Rattle.lists.proofs.Tests.{false-true, and-left, and-right, both-ways}
 use Rattle.lists.proofs.Standing.{in-keep, keep-in, kept-length, number-in, in-number}
 use Rattle.lists.proofs.Counts.{distinct-below}
 use Rattle.lists.proofs.Positions.{ascends-distinct, positions-rise, position-below, positions-are}
-use Rattle.table.specs.Scheme.{Scheme}
+use Rattle.scheme.specs.Scheme.{Scheme}
 use Rattle.places.specs.Values.{Values}
 use Rattle.places.specs.Places.{Place, equals, differs, free, control, controls, places}
 use Rattle.places.specs.Rows.{numberOf, Exists, has-equals, has-differs, has-free, has-control}

@@ -8,7 +8,7 @@ use lib.ListN.{length, length-append}
 use Rattle.lists.specs.Lists.{from, range, keep}
 use Rattle.lists.proofs.Ranges.{from-append}
 use Rattle.lists.proofs.Members.{keep-append}
-use Rattle.table.specs.Scheme.{Scheme}
+use Rattle.scheme.specs.Scheme.{Scheme}
 use Rattle.places.specs.Values.{Values, valuesOf, privateValuesOf}
 use Rattle.places.specs.Places.{equals, differs, free, control}
 use Rattle.places.specs.Rows.{rowLength, rowStart, freeStart, controlStart, numberOf, IsBound, Exists, has-equals, has-differs, has-free, has-control}

@@ -12,9 +12,9 @@ use Rattle.lists.specs.Lists.{pick, bit, range, keep, flat, member, total}
 use Rattle.lists.proofs.Tests.{same-yes, same-no}
 use Rattle.lists.proofs.Ranges.{from-member}
 use Rattle.lists.proofs.Members.{flat-length}
-use Rattle.table.specs.Words.{publics, branches, branchKind, channel, branchName, next, isSilent, isSend, isReceive}
-use Rattle.table.specs.Owners.{branchThread}
-use Rattle.table.specs.Scheme.{Scheme, Branch, absent, silent, send, receive, branchAt, scheme}
+use Rattle.scheme.specs.Words.{publics, branches, branchKind, channel, branchName, next, isSilent, isSend, isReceive}
+use Rattle.scheme.specs.Owners.{branchThread}
+use Rattle.scheme.specs.Scheme.{Scheme, Branch, absent, silent, send, receive, branchAt, scheme}
 use Rattle.table.specs.Causes.{cause}
 use Rattle.table.specs.Accepted.{Accepted}
 use Rattle.table.proofs.Accepted.{accepted}

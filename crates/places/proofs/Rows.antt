@@ -14,7 +14,7 @@ use Rattle.lists.proofs.Ranges.{from-length, flat-split}
 use Rattle.lists.proofs.Members.{map-same, flat-length}
 use Rattle.lists.proofs.Sums.{total-next}
 use Rattle.lists.proofs.Slices.{slice-between}
-use Rattle.table.specs.Scheme.{Scheme}
+use Rattle.scheme.specs.Scheme.{Scheme}
 use Rattle.places.specs.Values.{Values, privateValues, valuesOf, privateValuesOf}
 use Rattle.places.specs.Places.{Place, equals, differs, free, control, controls, controlPlaces, row, rows, places}
 use Rattle.places.specs.Rows.{rowLength, rowStart, freeStart, controlStart, numberOf, IsBound, Exists}

@@ -8,10 +8,10 @@ use lib.ListN.{length}
 use Rattle.lists.specs.Lists.{pick, from, range, keep, positions, total}
 use Rattle.lists.proofs.Ranges.{from-length}
 use Rattle.lists.proofs.Members.{keep-length}
-use Rattle.table.specs.Words.{publics}
+use Rattle.scheme.specs.Words.{publics}
 use Rattle.table.specs.Causes.{cause}
-use Rattle.table.specs.Scheme.{Scheme, Node, stop, choice, new, call, scheme}
-use Rattle.table.specs.Kinds.{isReceive}
+use Rattle.scheme.specs.Scheme.{Scheme, Node, stop, choice, new, call, scheme}
+use Rattle.scheme.specs.Kinds.{isReceive}
 use Rattle.table.specs.Accepted.{Accepted}
 use Rattle.table.proofs.Accepted.{accepted}
 use Rattle.net.specs.Net.{Transition, encode}

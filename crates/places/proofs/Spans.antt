@@ -11,7 +11,7 @@ use borrow.Author.Tests.{lt-ltb, le-ltb, le-leb, leb-true}
 use Rattle.lists.specs.Lists.{pick, from, range, keep, member}
 use Rattle.lists.proofs.Ranges.{from-length, member-from, from-member}
 use Rattle.lists.proofs.Positions.{keep-span}
-use Rattle.table.specs.Scheme.{Scheme}
+use Rattle.scheme.specs.Scheme.{Scheme}
 use Rattle.places.specs.Values.{Values, allValues, valuesOf}
 use Rattle.places.specs.Transitions.{common}
 use Rattle.places.specs.Inner.Spans.{firstValue, endValue, firstCommon, endCommon}

@@ -12,7 +12,7 @@ use Rattle.lists.proofs.Members.{member-append}
 use Rattle.lists.proofs.Ascending.{ascends-append}
 use Rattle.lists.proofs.Positions.{ascends-same}
 use Rattle.lists.proofs.Standing.{map-in, keep-in, number-in}
-use Rattle.table.specs.Scheme.{Scheme}
+use Rattle.scheme.specs.Scheme.{Scheme}
 use Rattle.places.specs.Values.{Values}
 use Rattle.places.specs.Places.{Place, equals, differs, free, control, places}
 use Rattle.places.specs.Rows.{controlStart, numberOf, IsBound, Exists, has-equals, has-differs, has-control}

@@ -3,9 +3,9 @@ use mathlib.Core.Path.{_≡_, ap, _∙_}
 use mathlib.Core.List.{List}
 use Prim.Native.Nat.{ℕ, _<_}
 use Rattle.lists.specs.Lists.{word}
-use Rattle.table.specs.Words.{nodes, branches, field4}
-use Rattle.table.specs.Owners.{home, definition, branchThread}
-use Rattle.table.specs.Scheme.{scheme}
+use Rattle.scheme.specs.Words.{nodes, branches, field4}
+use Rattle.scheme.specs.Owners.{home, definition, branchThread}
+use Rattle.scheme.specs.Scheme.{scheme}
 use Rattle.table.specs.Causes.{cause}
 use Rattle.table.proofs.Accepted.{accepted}
 use Rattle.places.specs.Inner.Plan.{Defined}

@@ -11,7 +11,7 @@ use Rattle.lists.specs.Lists.{pick, from, range, keep, member}
 use Rattle.lists.proofs.Ranges.{from-length, from-append, from-member}
 use Rattle.lists.proofs.Members.{keep-append, keep-all, keep-none}
 use Rattle.lists.proofs.Sums.{total-pick}
-use Rattle.table.specs.Scheme.{Scheme}
+use Rattle.scheme.specs.Scheme.{Scheme}
 use Rattle.places.specs.Values.{Values, allValues, valuesOf, privateValuesOf}
 use Rattle.places.specs.Places.{equals, differs}
 use Rattle.places.specs.Rows.{rowLength, rowStart, controlStart, numberOf}

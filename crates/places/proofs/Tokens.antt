@@ -13,8 +13,8 @@ use Rattle.lists.proofs.Members.{member-here, member-there, member-keep, map-me
 use Rattle.lists.proofs.Counts.{flat-keep-length}
 use Rattle.lists.proofs.Positions.{distinct-within}
 use Rattle.lists.proofs.Sums.{total-pick}
-use Rattle.table.specs.Words.{bounds, threads}
-use Rattle.table.specs.Scheme.{Scheme, scheme}
+use Rattle.scheme.specs.Words.{bounds, threads}
+use Rattle.scheme.specs.Scheme.{Scheme, scheme}
 use Rattle.table.specs.Causes.{cause}
 use Rattle.table.specs.Accepted.{Accepted}
 use Rattle.table.proofs.Accepted.{accepted}

@@ -13,7 +13,7 @@ use Rattle.lists.specs.Lists.{pick, bit, from, flat, member, positions, total}
 use Rattle.lists.proofs.Tests.{and-left, and-right, same-no, same-yes}
 use Rattle.lists.proofs.Members.{member-here, member-there, member-keep}
 use Rattle.lists.proofs.Sums.{sum, sum-append}
-use Rattle.table.specs.Scheme.{Scheme, send, receive}
+use Rattle.scheme.specs.Scheme.{Scheme, send, receive}
 use Rattle.table.specs.Accepted.{Accepted}
 use Rattle.places.specs.Values.{Values, allValues, valuesOf}
 use Rattle.places.specs.Places.{controls, places}

@@ -11,8 +11,8 @@ use Rattle.lists.specs.Lists.{pick, same, from, range, keep, flat, member, tota
 use Rattle.lists.proofs.Ranges.{from-length}
 use Rattle.lists.proofs.Members.{keep-length}
 use Rattle.lists.proofs.Counts.{distinct-length}
-use Rattle.table.specs.Scheme.{Scheme, Node, stop, choice, new, call, Branch, absent, silent, send, receive}
-use Rattle.table.specs.Kinds.{isReceive}
+use Rattle.scheme.specs.Scheme.{Scheme, Node, stop, choice, new, call, Branch, absent, silent, send, receive}
+use Rattle.scheme.specs.Kinds.{isReceive}
 use Rattle.table.specs.Accepted.{Accepted}
 use Rattle.places.specs.Values.{Values, privateValues, valuesOf}
 use Rattle.places.specs.Transitions.{Description, releases, releasing, copies, copying, making, going, silents, calling, ofNode, communicating, common}

@@ -6,8 +6,8 @@ use native.Mathlib.Omega.{arith}
 use lib.ListN.{length, length-map}
 use Rattle.lists.specs.Lists.{range, flat, total}
 use Rattle.lists.proofs.Ranges.{from-member}
-use Rattle.table.specs.Words.{nodes, branches}
-use Rattle.table.specs.Scheme.{scheme}
+use Rattle.scheme.specs.Words.{nodes, branches}
+use Rattle.scheme.specs.Scheme.{scheme}
 use Rattle.table.specs.Causes.{cause}
 use Rattle.table.proofs.Accepted.{accepted}
 use Rattle.net.specs.Net.{Net, inputTotal, outputTotal, headerWords}

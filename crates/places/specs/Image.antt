@@ -3,7 +3,7 @@ use mathlib.Core.List.{List, map}
 use Prim.Native.Nat.{ℕ}
 use lib.ListN.{length}
 use Rattle.lists.specs.Lists.{positions}
-use Rattle.table.specs.Scheme.{Scheme, scheme}
+use Rattle.scheme.specs.Scheme.{Scheme, scheme}
 use Rattle.net.specs.Net.{Net, Transition, encode}
 use Rattle.places.specs.Values.{Values, allValues}
 use Rattle.places.specs.Places.{places, isInitial}

@@ -4,7 +4,7 @@ use mathlib.Core.List.{List, [], _∷_, _++_, map}
 use Prim.Native.Nat.{ℕ, suc, _+_}
 use lib.ListN.{length}
 use Rattle.lists.specs.Lists.{pick, same, from, range, flat, some}
-use Rattle.table.specs.Scheme.{Scheme, Node, stop, choice, new, call}
+use Rattle.scheme.specs.Scheme.{Scheme, Node, stop, choice, new, call}
 use Rattle.places.specs.Values.{Values, privateValues, valuesOf, privateValuesOf}
 
 -- [x=v], [x≠v], [*≠v], and control place k of a node

@@ -5,7 +5,7 @@ use mathlib.Core.List.{map}
 use Prim.Native.Nat.{ℕ, _+_, _-_, _≤_, _<_}
 use lib.ListN.{length}
 use Rattle.lists.specs.Lists.{pick, from, range, keep, total}
-use Rattle.table.specs.Scheme.{Scheme}
+use Rattle.scheme.specs.Scheme.{Scheme}
 use Rattle.places.specs.Values.{Values, valuesOf, privateValuesOf}
 use Rattle.places.specs.Places.{Place, equals, differs, free, control, controls}
 

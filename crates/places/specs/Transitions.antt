@@ -6,7 +6,7 @@ use Prim.Native.Nat.{ℕ, suc, _+_}
 use lib.Dec.{ltb}
 use lib.ListN.{length}
 use Rattle.lists.specs.Lists.{pick, same, from, range, keep, flat, some, member}
-use Rattle.table.specs.Scheme.{Scheme, Node, stop, choice, new, call, Branch, absent, silent, send, receive}
+use Rattle.scheme.specs.Scheme.{Scheme, Node, stop, choice, new, call, Branch, absent, silent, send, receive}
 use Rattle.net.specs.Image.{Label, labelOf}
 use Rattle.places.specs.Values.{Values, privateValues, valuesOf}
 use Rattle.places.specs.Places.{Place, equals, differs, free, control, controls}

@@ -6,9 +6,9 @@ ghost use Prim.Native.Nat.{_+_, _-_, _*_, _<_, _≤_};
 ghost use lib.Dec.{ltb};
 ghost use lib.ListN.{length, take};
 ghost use Rattle.lists.specs.Lists.{pick, bit, from, range};
-ghost use Rattle.table.specs.Words.{publics, names, nodes, branches, argument};
-ghost use Rattle.table.specs.Words.{isSend, branchName, channel};
-ghost use Rattle.table.specs.Owners.{branchThread};
+ghost use Rattle.scheme.specs.Words.{publics, names, nodes, branches, argument};
+ghost use Rattle.scheme.specs.Words.{isSend, branchName, channel};
+ghost use Rattle.scheme.specs.Owners.{branchThread};
 ghost use Rattle.places.specs.Inner.Plan.{Known, Named, Counted, Defined, InBoth, freeNames};
 ghost use Rattle.places.specs.Inner.Counting.{Few, sumsOf, addTimes, over};
 ghost use Rattle.places.specs.Inner.Counting.{releaseSums, copySums, silentSums, nodeSums};
@@ -20,9 +20,9 @@ use crate::layout::is_restricted;
 use crate::layout::reach_of;
 use lists::word16;
 use lists::word32;
-use table::fields::field1;
-use table::fields::field3;
-use table::fields::field4;
+use scheme::fields::field1;
+use scheme::fields::field3;
+use scheme::fields::field4;
 
 // The transitions of a net, their inputs and their outputs.
 pub struct Totals {
@@ -143,7 +143,7 @@ fn node(
         return more(t, plan.privates, free + 2, free + 2);
     }
     let mut names = [0u32; 64];
-    let held = table::index::held_names(table, owners, homes, n as u16, &mut names);
+    let held = scheme::index::held_names(table, owners, homes, n as u16, &mut names);
     let mut r = t;
     if kind != 0 {
         let end = second + field4(table, 8, first, 3);

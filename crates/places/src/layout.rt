@@ -2,17 +2,17 @@
 ghost use mathlib.Core.Path.{_≡_};
 ghost use Prim.Native.Nat.{_+_, _-_, _*_, _<_, _≤_};
 ghost use lib.ListN.{length};
-ghost use Rattle.table.specs.Words.{publics, bounds, names, nodes};
-ghost use Rattle.table.specs.Scheme.{scheme};
+ghost use Rattle.scheme.specs.Words.{publics, bounds, names, nodes};
+ghost use Rattle.scheme.specs.Scheme.{scheme};
 ghost use Rattle.places.specs.Places.{controls};
 ghost use Rattle.places.specs.Rows.{rowLength, freeStart};
 ghost use Rattle.places.specs.Inner.Plan.{today, values, controlOf, freeNames, Known, Laid};
 ghost use Rattle.places.specs.Inner.Plan.{RowsBelow, SpotsBelow, Lists};
 use lists::store32;
 use lists::word16;
-use table::fields::field3;
-use table::fields::field4;
-use table::fields::name_kind;
+use scheme::fields::field3;
+use scheme::fields::field4;
+use scheme::fields::name_kind;
 
 // The counts that place numbers are made of: P, N, where [*≠n] starts, where control places start, how many places
 // there are, and how many tokens at first.
@@ -109,13 +109,13 @@ pub(crate) fn control_count(table: &[u16], owners: &[u32], homes: &[u32], node: 
     let kind = field3(table, 10, node, 0);
     let mut names = [0u32; 64];
     if kind == 0 {
-        return 1 + table::index::held_names(table, owners, homes, node as u16, &mut names);
+        return 1 + scheme::index::held_names(table, owners, homes, node as u16, &mut names);
     }
     if kind == 3 {
         let formals = field4(table, 8, field3(table, 10, node, 1), 3);
         return 1
             + formals
-            + table::index::held_names(table, owners, homes, node as u16, &mut names);
+            + scheme::index::held_names(table, owners, homes, node as u16, &mut names);
     }
     1
 }

@@ -70,11 +70,11 @@ pub fn plan(
     ) {
         return Planned::Short;
     }
-    table::index::owners(table, owners);
-    table::index::homes(table, homes);
+    scheme::index::owners(table, owners);
+    scheme::index::homes(table, homes);
     let owned: &[u32] = owners;
     let homed: &[u32] = homes;
-    table::index::first_definitions(owned, homed, word16(table, 4), definitions);
+    scheme::index::first_definitions(owned, homed, word16(table, 4), definitions);
     Planned::Places(layout::lay_out(table, owned, homed, rows, spots))
 }
 

@@ -12,7 +12,7 @@ use lib.Seq.{sets, take-all, take-append-seam, take-take, getD-take, length-take
 use borrow.Author.Tests.{le-leb, lt-ltb, le-ltb, ltb-true, ltb-false, eq-eqb, ne-eqb}
 use Rattle.lists.specs.Lists.{pick, same, word}
 use Rattle.lists.proofs.Tests.{same-yes, same-no, same-true, true-or-false, false-true}
-use Rattle.table.specs.Words.{publics, bounds, definitions, threads, nodes, branches, arguments}
+use Rattle.scheme.specs.Words.{publics, bounds, definitions, threads, nodes, branches, arguments}
 use Rattle.table.specs.Causes.{cause, firstFailed, longEnough, countsRight, layoutRight}
 use Rattle.table.proofs.Inside.{counted}
 use Rattle.table.proofs.Sizes.{whole-length}

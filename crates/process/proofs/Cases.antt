@@ -7,9 +7,9 @@ use mathlib.Core.Option.{Option, some}
 use Prim.Native.Nat.{ℕ}
 use lib.ListN.{length}
 use Rattle.lists.specs.Lists.{same, from, every, keep, flat, member, firstFrom}
-use Rattle.table.specs.Words.{formals, branchesOf, argumentsOf}
-use Rattle.table.specs.Owners.{home, owner, pickOwner, heldBy, definitionBy, held, definition}
-use Rattle.table.specs.Scheme.{Scheme, scheme, nodeAt, branchAt, argumentsAt, pickBinder, binderOf}
+use Rattle.scheme.specs.Words.{formals, branchesOf, argumentsOf}
+use Rattle.scheme.specs.Owners.{home, owner, pickOwner, heldBy, definitionBy, held, definition}
+use Rattle.scheme.specs.Scheme.{Scheme, scheme, nodeAt, branchAt, argumentsAt, pickBinder, binderOf}
 use Rattle.process.specs.States.{State, start, put}
 use Rattle.process.specs.Steps.{Step, newStep, silentStep, communication, callStep, take, passed, isOpen}
 use Rattle.process.specs.Labels.{labelOf, stepOf, steps, openSteps, openLabels}

@@ -6,11 +6,11 @@ use Prim.Native.Nat.{ℕ, _<_}
 use lib.Dec.{ltb}
 use Rattle.lists.specs.Lists.{pick, word}
 use Rattle.lists.proofs.Tests.{and-left, and-right}
-use Rattle.table.specs.Words.{nodes, branches, definitionThread, isChoice, isNew, isCall, isSilent, isSend, isReceive}
-use Rattle.table.specs.Words.{nodeFirst, nodeSecond, channel, branchName, next}
-use Rattle.table.specs.Scheme.{scheme, stop, new, call, silent, send, receive, nodeAt, branchAt}
-use Rattle.table.specs.Index.{binderThreadIn}
-use Rattle.table.specs.Kinds
+use Rattle.scheme.specs.Words.{nodes, branches, definitionThread, isChoice, isNew, isCall, isSilent, isSend, isReceive}
+use Rattle.scheme.specs.Words.{nodeFirst, nodeSecond, channel, branchName, next}
+use Rattle.scheme.specs.Scheme.{scheme, stop, new, call, silent, send, receive, nodeAt, branchAt}
+use Rattle.scheme.specs.Index.{binderThreadIn}
+use Rattle.scheme.specs.Kinds
 use Rattle.table.proofs.Inside
 use Rattle.table.proofs.NameThreads.{name-thread-in}
 use Rattle.process.specs.Inner.Index.{Indexed, Bound}

@@ -11,9 +11,9 @@ use lib.Seq.{slice}
 use borrow.Author.Tests.{lt-ltb, le-ltb}
 use Rattle.lists.specs.Lists.{same, range, flat}
 use Rattle.lists.proofs.Slices.{slice-between}
-use Rattle.table.specs.Words.{branches}
+use Rattle.scheme.specs.Words.{branches}
 use Rattle.table.specs.Causes.{cause}
-use Rattle.table.specs.Scheme.{scheme}
+use Rattle.scheme.specs.Scheme.{scheme}
 use Rattle.table.proofs.Accepted.{accepted}
 use Rattle.process.specs.States.{State}
 use Rattle.process.specs.Labels.{openSteps, openLabels}

@@ -15,15 +15,15 @@ use Rattle.lists.proofs.Tests.{same-yes, same-no, and-true, false-true}
 use Rattle.lists.proofs.Members.{member-here}
 use Rattle.lists.proofs.Counts.{distinct-below}
 use Rattle.lists.proofs.Slices.{slice-step, slice-none, slice-between}
-use Rattle.table.specs.Words.{publics, bounds, threads, nodes, branches, definitions, nameKind}
-use Rattle.table.specs.Owners.{held}
-use Rattle.table.specs.Index.{heldIn, HeldNames}
+use Rattle.scheme.specs.Words.{publics, bounds, threads, nodes, branches, definitions, nameKind}
+use Rattle.scheme.specs.Owners.{held}
+use Rattle.scheme.specs.Index.{heldIn, HeldNames}
 use Rattle.table.specs.Causes.{cause}
-use Rattle.table.specs.Scheme.{Scheme, scheme, nodeAt}
+use Rattle.scheme.specs.Scheme.{Scheme, scheme, nodeAt}
 use Rattle.table.specs.Accepted.{Accepted}
-use Rattle.table.specs.Kinds.{isStop}
+use Rattle.scheme.specs.Kinds.{isStop}
 use Rattle.table.proofs.Accepted.{accepted}
-use Rattle.table.proofs.Indexed.{held-indexed}
+use Rattle.scheme.proofs.Indexed.{held-indexed}
 use Rattle.process.specs.States.{State, oneValue}
 use Rattle.process.specs.StateWords.{stateOf, holdsAt, nodeRight, nameRight, restrictedRight, hasValue, valueBelow, valuePrivate, sameBool}
 use Rattle.process.specs.Inner.Index.{Indexed, Owned, Known}

@@ -7,8 +7,8 @@ use Prim.Native.Nat.{ℕ, _+_, _≤_, _<_}
 use native.Mathlib.Omega.{arith}
 use Rattle.lists.specs.Lists.{pick, same}
 use Rattle.lists.proofs.Tests.{same-yes, same-no, went-first, true-or-false}
-use Rattle.table.specs.Scheme.{Scheme, Node, stop, choice, new, call, Branch, absent, silent, send, receive}
-use Rattle.table.specs.Kinds.{isNew, isCall, isSilent, isSend, isReceive}
+use Rattle.scheme.specs.Scheme.{Scheme, Node, stop, choice, new, call, Branch, absent, silent, send, receive}
+use Rattle.scheme.specs.Kinds.{isNew, isCall, isSilent, isSend, isReceive}
 use Rattle.process.specs.States.{State, oneValue}
 use Rattle.process.specs.Steps.{Step, newStep, silentStep, communication, callStep, noStep, isOpen, canMeet, standsAt}
 use Rattle.process.specs.Labels.{newNamed, silentNamed, callNamed, communicationNamed, isPartner, stepOf}

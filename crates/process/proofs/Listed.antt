@@ -10,9 +10,9 @@ use lib.ListN.{length, set, length-append}
 use lib.Seq.{sets, slice, length-sets}
 use Rattle.lists.specs.Lists.{pick, same, word, from, range, keep, flat}
 use Rattle.lists.proofs.Slices.{slice-step, slice-none}
-use Rattle.table.specs.Words.{nodes, branches, branchKind, nodeFirst, nodeSecond, isChoice, isNew, isCall, isSilent}
-use Rattle.table.specs.Scheme.{Scheme, scheme, Node, stop, choice, new, call, nodeAt}
-use Rattle.table.specs.Kinds
+use Rattle.scheme.specs.Words.{nodes, branches, branchKind, nodeFirst, nodeSecond, isChoice, isNew, isCall, isSilent}
+use Rattle.scheme.specs.Scheme.{Scheme, scheme, Node, stop, choice, new, call, nodeAt}
+use Rattle.scheme.specs.Kinds
 use Rattle.process.specs.States.{State}
 use Rattle.process.specs.Steps.{silentStep, communication, isOpen, standsAt}
 use Rattle.process.specs.Labels.{labelOf, stepsOfNode}

@@ -13,9 +13,9 @@ use borrow.Author.Tests.{lt-ltb, le-ltb, ltb-false}
 use Rattle.lists.specs.Lists.{pick, same, word, from, range}
 use Rattle.lists.proofs.Tests.{same-yes, same-no}
 use Rattle.lists.proofs.Ranges.{from-length}
-use Rattle.table.specs.Words.{publics, bounds, threads, root, entry}
+use Rattle.scheme.specs.Words.{publics, bounds, threads, root, entry}
 use Rattle.table.specs.Causes.{cause}
-use Rattle.table.specs.Scheme.{scheme}
+use Rattle.scheme.specs.Scheme.{scheme}
 use Rattle.process.specs.States.{oneValue, start}
 use Rattle.process.specs.StateWords.{stateOf, stateWords, valueWords}
 use Rattle.process.specs.Outcomes.{Outcome, answered, startOutcome, refusal}

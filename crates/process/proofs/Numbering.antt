@@ -18,8 +18,8 @@ use Rattle.lists.proofs.Members.{member-not, not-member, map-append}
 use Rattle.lists.proofs.Ranges.{from-more, from-done, from-length, from-snoc, member-from, from-member}
 use lib.Seq.{sets, slice, length-slice, take-suc-set}
 use Rattle.lists.proofs.Slices.{drop-step, drop-none, slice-step, slice-none}
-use Rattle.table.specs.Scheme.{Scheme, scheme}
-use Rattle.table.specs.Words.{publics, bounds, threads}
+use Rattle.scheme.specs.Scheme.{Scheme, scheme}
+use Rattle.scheme.specs.Words.{publics, bounds, threads}
 use Rattle.process.specs.StateWords.{place, noted, valueWords, stateOf, stateWords, sameList}
 use Rattle.process.specs.Inner.Values.{valueAt, nextSeen, Numberable, Turned}
 use Rattle.process.proofs.NameValues.{value-bound}

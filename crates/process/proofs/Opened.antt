@@ -9,10 +9,10 @@ use lib.ListN.{length, length-append}
 use Rattle.lists.specs.Lists.{pick, same, from, range, keep, flat, member}
 use Rattle.lists.proofs.Tests.{not-true-false, and-left, and-right, and-intro, or-left, or-right, same-self}
 use Rattle.lists.proofs.Ranges.{flat-append, from-member}
-use Rattle.table.specs.Words.{nodes, branches, branchKind}
+use Rattle.scheme.specs.Words.{nodes, branches, branchKind}
 use Rattle.table.specs.Causes.{cause}
-use Rattle.table.specs.Scheme.{Scheme, scheme, Node, stop, choice, new, call, Branch, absent, silent, send, receive}
-use Rattle.table.specs.Kinds.{isNew, isCall, isSilent, isSend, isReceive}
+use Rattle.scheme.specs.Scheme.{Scheme, scheme, Node, stop, choice, new, call, Branch, absent, silent, send, receive}
+use Rattle.scheme.specs.Kinds.{isNew, isCall, isSilent, isSend, isReceive}
 use Rattle.table.proofs.Accepted.{accepted}
 use Rattle.process.specs.States.{State, oneValue}
 use Rattle.process.specs.Steps.{Step, newStep, silentStep, communication, callStep, noStep, isOpen, standsAt, canMeet}

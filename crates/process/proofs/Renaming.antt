@@ -13,7 +13,7 @@ use borrow.Author.Tests.{ltb-true, ltb-false, lt-ltb, le-ltb}
 use Rattle.lists.specs.Lists.{pick, same, from, range, member}
 use Rattle.lists.proofs.Tests.{same-self, same-no, same-yes, same-true, and-false}
 use Rattle.lists.proofs.Members.{map-same}
-use Rattle.table.specs.Scheme.{Scheme, Node, stop, choice, new, call, Branch, absent, silent, send, receive}
+use Rattle.scheme.specs.Scheme.{Scheme, Node, stop, choice, new, call, Branch, absent, silent, send, receive}
 use Rattle.table.specs.Accepted.{Accepted}
 use Rattle.process.specs.States.{State, put, valueOf, oneValue, Renamed}
 use Rattle.process.specs.Steps.{Step, newStep, silentStep, communication, callStep, noStep, take, isOpen, standsAt, newAt, callAt, silentBy, meetBy, canMeet, newly, silently, calling, meeting, arrived, called, received}

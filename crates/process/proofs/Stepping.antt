@@ -16,18 +16,18 @@ use Rattle.lists.proofs.Tests.{true-or-false, false-true, not-true-false, same-
 use Rattle.lists.proofs.Ranges.{from-length, from-member}
 use Rattle.lists.proofs.First.{first-none}
 use Rattle.lists.proofs.Members.{member-nil}
-use Rattle.table.specs.Words.{publics, bounds, names, threads, nodes, branches, definitions, branchesOf, isChoice, nodeFirst, nodeSecond}
-use Rattle.table.specs.Owners.{owner, home, definition}
-use Rattle.table.specs.Index.{ownerNumber, binderNumber, FirstDefinitions}
+use Rattle.scheme.specs.Words.{publics, bounds, names, threads, nodes, branches, definitions, branchesOf, isChoice, nodeFirst, nodeSecond}
+use Rattle.scheme.specs.Owners.{owner, home, definition}
+use Rattle.scheme.specs.Index.{ownerNumber, binderNumber, FirstDefinitions}
 use Rattle.table.specs.Causes.{cause}
-use Rattle.table.specs.Scheme.{Scheme, scheme, binderOf}
+use Rattle.scheme.specs.Scheme.{Scheme, scheme, binderOf}
 use Rattle.table.proofs.Accepted.{accepted}
 use Rattle.table.proofs.Passed.{passed}
 use Rattle.table.proofs.Inside
 use Rattle.table.proofs.Trees
 use Rattle.table.proofs.Binders.{outside-unbound}
-use Rattle.table.proofs.Scatter.{word-range}
-use Rattle.table.proofs.Indexed.{definition-indexed}
+use Rattle.scheme.proofs.Scatter.{word-range}
+use Rattle.scheme.proofs.Indexed.{definition-indexed}
 use Rattle.process.specs.States.{State}
 use Rattle.process.specs.Steps.{Step, noStep, isOpen, take}
 use Rattle.process.specs.Labels.{stepOf}

@@ -11,9 +11,9 @@ use lib.Dec.{ltb}
 use borrow.Author.Tests.{lt-ltb}
 use Rattle.lists.specs.Lists.{pick, same, word, from}
 use Rattle.lists.proofs.Tests.{same-yes, same-no, same-self, and-left, true-or-false}
-use Rattle.table.specs.Words.{publics, bounds, nodes, branches, definitions, formals, root, firstFormal, formalCount, nodeFirst, nodeSecond, branchName, channel, next, argument, argumentsOf, isNew, isCall, isSilent}
-use Rattle.table.specs.Scheme.{scheme, new, call, silent, send, receive, argumentsAt}
-use Rattle.table.specs.Kinds
+use Rattle.scheme.specs.Words.{publics, bounds, nodes, branches, definitions, formals, root, firstFormal, formalCount, nodeFirst, nodeSecond, branchName, channel, next, argument, argumentsOf, isNew, isCall, isSilent}
+use Rattle.scheme.specs.Scheme.{scheme, new, call, silent, send, receive, argumentsAt}
+use Rattle.scheme.specs.Kinds
 use Rattle.table.specs.Causes.{cause}
 use Rattle.table.proofs.Accepted.{accepted}
 use Rattle.process.specs.States.{State, put, valueOf}

@@ -5,10 +5,10 @@ use mathlib.Core.List.{List, [], _∷_, _++_, map}
 use Prim.Native.Nat.{ℕ}
 use lib.Dec.{ltb, leb}
 use Rattle.lists.specs.Lists.{pick, same, from, range, keep, flat}
-use Rattle.table.specs.Scheme.{Scheme, Node, stop, choice, new, call, Branch, absent, silent, send, receive}
+use Rattle.scheme.specs.Scheme.{Scheme, Node, stop, choice, new, call, Branch, absent, silent, send, receive}
 use Rattle.process.specs.States.{State}
 use Rattle.process.specs.Steps.{Step, newStep, silentStep, communication, callStep, noStep, isOpen}
-use Rattle.table.specs.Kinds.{isSilent, isSend, isReceive}
+use Rattle.scheme.specs.Kinds.{isSilent, isSend, isReceive}
 
 abbrev pub isBookkeeping : ℕ → Bool
 isBookkeeping kind = leb kind 1

@@ -7,7 +7,7 @@ use lib.Dec.{ltb}
 use lib.ListN.{length, drop}
 use Rattle.lists.specs.Lists.{pick, same}
 use Rattle.table.specs.Causes.{cause}
-use Rattle.table.specs.Scheme.{Scheme, scheme}
+use Rattle.scheme.specs.Scheme.{Scheme, scheme}
 use Rattle.process.specs.States.{State, start}
 use Rattle.process.specs.Steps.{Step, take, isOpen}
 use Rattle.process.specs.Labels.{stepOf, openSteps, openLabels}

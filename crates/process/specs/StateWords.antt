@@ -7,9 +7,9 @@ use Prim.Native.Nat.{ℕ, zero, suc, _+_, _-_}
 use lib.Dec.{ltb, leb}
 use lib.ListN.{length}
 use Rattle.lists.specs.Lists.{pick, same, word, from, range, every, member}
-use Rattle.table.specs.Scheme.{Scheme}
+use Rattle.scheme.specs.Scheme.{Scheme}
 use Rattle.process.specs.States.{State, oneValue}
-use Rattle.table.specs.Kinds.{isStop}
+use Rattle.scheme.specs.Kinds.{isStop}
 use Rattle.process.specs.Steps.{Step, take}
 
 -- where v stands in a list, its length where it does not

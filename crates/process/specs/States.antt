@@ -6,7 +6,7 @@ use mathlib.Core.List.{List, [], _∷_}
 use Prim.Native.Nat.{ℕ}
 use lib.Dec.{ltb}
 use Rattle.lists.specs.Lists.{pick, same}
-use Rattle.table.specs.Scheme.{Scheme}
+use Rattle.scheme.specs.Scheme.{Scheme}
 
 -- "A state has a node per thread, a value per held name, and a counter that never goes back. Values are public names or private numbers."
 -- A value is a number: a public name is itself, private numbers are those from P on. A public name has itself as its value, a name that is not

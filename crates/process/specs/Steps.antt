@@ -5,8 +5,8 @@ use mathlib.Core.List.{List, [], _∷_, _++_, map}
 use Prim.Native.Nat.{ℕ, suc, _+_}
 use lib.Dec.{ltb}
 use Rattle.lists.specs.Lists.{pick, same, from, range, keep, flat}
-use Rattle.table.specs.Scheme.{Scheme, Node, stop, choice, new, call, Branch, absent, silent, send, receive}
-use Rattle.table.specs.Kinds.{isStop, isNew, isCall, isSilent}
+use Rattle.scheme.specs.Scheme.{Scheme, Node, stop, choice, new, call, Branch, absent, silent, send, receive}
+use Rattle.scheme.specs.Kinds.{isStop, isNew, isCall, isSilent}
 use Rattle.process.specs.States.{State, put, valueOf, oneValue}
 
 -- a step: New and Call by their node, a silent step by its branch, a communication by the sending and the receiving branch

@@ -5,9 +5,9 @@ ghost use Prim.Native.Nat.{_+_, _-_, _≤_, _<_};
 ghost use lib.ListN.{length};
 ghost use lib.Seq.{slice};
 ghost use Rattle.lists.specs.Lists.{same, every, from, range, member};
-ghost use Rattle.table.specs.Words.{publics, bounds, threads};
-ghost use Rattle.table.specs.Kinds.{isStop};
-ghost use Rattle.table.specs.Scheme.{scheme};
+ghost use Rattle.scheme.specs.Words.{publics, bounds, threads};
+ghost use Rattle.scheme.specs.Kinds.{isStop};
+ghost use Rattle.scheme.specs.Scheme.{scheme};
 ghost use Rattle.process.specs.States.{oneValue};
 ghost use Rattle.process.specs.StateWords.{stateOf, stateWords, holdsAt, nodeRight, nameRight, restrictedRight};
 ghost use Rattle.process.specs.StateWords.{sameList, wellFormed};
@@ -20,8 +20,8 @@ use crate::values::one_value;
 use crate::values::value_of;
 use lists::word16;
 use lists::word32;
-use table::fields::name_kind;
-use table::index::held_names;
+use scheme::fields::name_kind;
+use scheme::index::held_names;
 
 // Whether a name stands among the first words.
 fn is_listed(names: &[u32], count: usize, name: usize) -> bool

@@ -1,6 +1,6 @@
 // Labels, the steps that they name, and whether a step is open.
 ghost use mathlib.Core.Path.{_≡_};
-ghost use Rattle.table.specs.Scheme.{scheme};
+ghost use Rattle.scheme.specs.Scheme.{scheme};
 ghost use Rattle.process.specs.Steps.{standsAt, isOpen, communication};
 ghost use Rattle.process.specs.Labels.{newNamed, silentNamed, callNamed, stepOf, communicationNamed};
 ghost use Rattle.process.specs.StateWords.{stateOf};
@@ -14,8 +14,8 @@ use crate::values::one_value;
 use crate::values::value_of;
 use lists::word16;
 use lists::word32;
-use table::fields::field3;
-use table::fields::field4;
+use scheme::fields::field3;
+use scheme::fields::field4;
 
 // The two branches of a communication.
 pub struct Pair {

@@ -14,7 +14,7 @@ ghost use mathlib.Core.List.{map};
 ghost use lib.Seq.{sets};
 ghost use lib.ListN.{replicate};
 ghost use Rattle.lists.specs.Lists.{range};
-ghost use Rattle.table.specs.Words.{threads, bounds, root, entry};
+ghost use Rattle.scheme.specs.Words.{threads, bounds, root, entry};
 ghost use Rattle.process.specs.Answers.{outcomeOf};
 ghost use Rattle.process.specs.Outcomes.{startOutcome, openOutcome, stepOutcome};
 ghost use Rattle.process.specs.Inner.Index.{Indexable, Known};
@@ -25,8 +25,8 @@ use crate::listing::list_open;
 use crate::next::write_state;
 use lists::store16;
 use lists::word16;
-use table::fields::field1;
-use table::fields::field4;
+use scheme::fields::field1;
+use scheme::fields::field4;
 
 // What a call did: how many words or labels it wrote, or what it refuses.
 pub enum Answer {
@@ -94,10 +94,10 @@ fn fill_index(
     ensures { λ r. ⌜ Known (now (table .entry)) (now (owners .exit)) (now (homes .exit)) (now (definitions .exit))
         (now (binders .exit)) ⌝ }
 {
-    table::index::owners(table, owners);
-    table::index::homes(table, homes);
-    table::index::first_definitions(owners, homes, word16(table, 4), definitions);
-    table::index::binders(table, binders);
+    scheme::index::owners(table, owners);
+    scheme::index::homes(table, homes);
+    scheme::index::first_definitions(owners, homes, word16(table, 4), definitions);
+    scheme::index::binders(table, binders);
 }
 
 // The labels of the open steps, three words each.

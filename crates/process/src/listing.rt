@@ -8,8 +8,8 @@ ghost use Prim.Native.Nat.{_+_, _≤_, _<_};
 ghost use lib.ListN.{length};
 ghost use lib.Seq.{slice};
 ghost use Rattle.lists.specs.Lists.{from, range, flat};
-ghost use Rattle.table.specs.Words.{nodes, branches};
-ghost use Rattle.table.specs.Scheme.{scheme};
+ghost use Rattle.scheme.specs.Words.{nodes, branches};
+ghost use Rattle.scheme.specs.Scheme.{scheme};
 ghost use Rattle.process.specs.Labels.{openLabels};
 ghost use Rattle.process.specs.StateWords.{stateOf};
 ghost use Rattle.process.specs.Inner.Index.{Indexed};
@@ -23,7 +23,7 @@ use crate::threads::node_is;
 use lists::store32;
 use lists::word16;
 use lists::word32;
-use table::fields::field3;
+use scheme::fields::field3;
 
 // Writes a label; where the next one goes.
 fn write_label(out: &mut [u32], at: usize, kind: u32, a: u32, b: u32) -> usize

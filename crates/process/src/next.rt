@@ -6,9 +6,9 @@ ghost use Prim.Native.Nat.{_≤_, _<_};
 ghost use lib.ListN.{length};
 ghost use lib.Seq.{sets, slice};
 ghost use Rattle.lists.specs.Lists.{pick, same, from, range};
-ghost use Rattle.table.specs.Words.{publics, bounds, threads};
-ghost use Rattle.table.specs.Kinds.{isStop};
-ghost use Rattle.table.specs.Scheme.{scheme};
+ghost use Rattle.scheme.specs.Words.{publics, bounds, threads};
+ghost use Rattle.scheme.specs.Kinds.{isStop};
+ghost use Rattle.scheme.specs.Scheme.{scheme};
 ghost use Rattle.process.specs.Steps.{take, isOpen, passed, newStep, silentStep, communication, callStep};
 ghost use Rattle.process.specs.StateWords.{stateOf, valueWords, stateWords};
 ghost use Rattle.process.specs.Inner.Index.{Bound};
@@ -24,9 +24,9 @@ use crate::values::number_values;
 use crate::values::value_of;
 use lists::store16;
 use lists::word16;
-use table::fields::field1;
-use table::fields::field3;
-use table::fields::field4;
+use scheme::fields::field1;
+use scheme::fields::field3;
+use scheme::fields::field4;
 
 // Whether a name ends as its thread arrives at a node.
 fn ends(

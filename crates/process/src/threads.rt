@@ -4,15 +4,15 @@ ghost use mathlib.Core.Path.{_≡_};
 ghost use mathlib.Core.Bool.{_&&_};
 ghost use lib.Dec.{ltb};
 ghost use Rattle.lists.specs.Lists.{same};
-ghost use Rattle.table.specs.Words.{nodes, branches, nodeKind, branchKind};
-ghost use Rattle.table.specs.Scheme.{scheme};
-ghost use Rattle.table.specs.Kinds.{isStop};
+ghost use Rattle.scheme.specs.Words.{nodes, branches, nodeKind, branchKind};
+ghost use Rattle.scheme.specs.Scheme.{scheme};
+ghost use Rattle.scheme.specs.Kinds.{isStop};
 ghost use Rattle.process.specs.Inner.Index.{Indexed, Bound};
 ghost use Rattle.process.specs.Inner.Values.{Number};
 use lists::word16;
 use lists::word32;
-use table::fields::field3;
-use table::fields::field4;
+use scheme::fields::field3;
+use scheme::fields::field4;
 
 // Whether the table has the node, and it is of the kind.
 pub(crate) fn node_is(table: &[u16], node: usize, kind: usize) -> bool
@@ -83,5 +83,5 @@ pub(crate) fn name_thread(
     requires { ⌜ Bound (now table) (now homes) (now definitions) (now binders) ⌝ }
     ensures { λ r. ⌜ r ≡ scheme (now (table .entry)) .nameThread name ⌝ }
 {
-    table::index::name_thread(table, homes, definitions, binders, name)
+    scheme::index::name_thread(table, homes, definitions, binders, name)
 }

@@ -4,7 +4,7 @@ ghost use mathlib.Core.List.{[], map};
 ghost use Prim.Native.Nat.{_≤_, _<_};
 ghost use lib.ListN.{length, take};
 ghost use lib.Seq.{sets, slice};
-ghost use Rattle.table.specs.Scheme.{scheme};
+ghost use Rattle.scheme.specs.Scheme.{scheme};
 ghost use Rattle.process.specs.States.{oneValue};
 ghost use Rattle.process.specs.StateWords.{stateOf, place, valueWords};
 ghost use Rattle.process.specs.Inner.Values.{Valued, valueAt, Numberable, Turned};

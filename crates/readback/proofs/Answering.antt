@@ -15,9 +15,9 @@ use Rattle.lists.specs.Lists.{pick, same, word, from, range, member}
 use Rattle.lists.proofs.Tests.{same-self, same-no}
 use Rattle.lists.proofs.Ranges.{from-member}
 use Rattle.lists.proofs.Members.{member-here, member-there, member-drop}
-use Rattle.table.specs.Words.{publics, bounds, names, threads}
-use Rattle.table.specs.Scheme.{Scheme, Node, stop, choice, new, call, scheme}
-use Rattle.table.specs.Kinds.{isStop}
+use Rattle.scheme.specs.Words.{publics, bounds, names, threads}
+use Rattle.scheme.specs.Scheme.{Scheme, Node, stop, choice, new, call, scheme}
+use Rattle.scheme.specs.Kinds.{isStop}
 use Rattle.table.specs.Accepted.{Accepted}
 use Rattle.table.specs.Causes.{cause}
 use Rattle.table.proofs.Accepted.{accepted}

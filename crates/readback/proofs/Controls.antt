@@ -4,8 +4,8 @@ use mathlib.Core.List.{List}
 use Prim.Native.Nat.{ℕ, _+_, _-_, _≤_, _<_}
 use native.Mathlib.Omega.{arith}
 use Rattle.lists.specs.Lists.{word}
-use Rattle.table.specs.Words.{nodes}
-use Rattle.table.specs.Scheme.{scheme}
+use Rattle.scheme.specs.Words.{nodes}
+use Rattle.scheme.specs.Scheme.{scheme}
 use Rattle.places.specs.Places.{controls}
 use Rattle.places.specs.Inner.Plan.{controlOf}
 use Rattle.readback.specs.Inner.Noting.{Placed}

@@ -12,7 +12,7 @@ use Rattle.lists.proofs.Tests.{same-self, same-no, true-or-false}
 use Rattle.lists.proofs.Ranges.{member-from, from-member}
 use Rattle.lists.proofs.Members.{flat-same, distinct-from}
 use Rattle.lists.proofs.Numbered.{map-keep-flat}
-use Rattle.table.specs.Scheme.{Scheme}
+use Rattle.scheme.specs.Scheme.{Scheme}
 use Rattle.places.specs.Values.{Values, allValues, valuesOf, privateValues, privateValuesOf}
 use Rattle.places.specs.Places.{Place, equals, differs, free, control, controls, controlPlaces, row, rows, places}
 use Rattle.places.specs.Rows.{rowStart, controlStart, numberOf}

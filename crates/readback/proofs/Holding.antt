@@ -10,9 +10,9 @@ use lib.Seq.{slice}
 use Rattle.lists.specs.Lists.{word, same, from, range, flat}
 use Rattle.lists.proofs.Tests.{true-or-false, same-yes, same-true, false-true}
 use Rattle.lists.proofs.Ranges.{from-length, from-more, from-done, from-whole}
-use Rattle.table.specs.Words.{nodes, threads, nodeKind, nodeFirst, isChoice, isNew, formalCount, formals}
-use Rattle.table.specs.Index.{heldIn, HeldNames}
-use Rattle.table.specs.Scheme.{Scheme, scheme}
+use Rattle.scheme.specs.Words.{nodes, threads, nodeKind, nodeFirst, isChoice, isNew, formalCount, formals}
+use Rattle.scheme.specs.Index.{heldIn, HeldNames}
+use Rattle.scheme.specs.Scheme.{Scheme, scheme}
 use Rattle.net.specs.Firing.{put}
 use Rattle.places.specs.Inner.Plan.{Known}
 use Rattle.places.proofs.ByWords.{stop-node, choice-node, new-node, call-node, other-call, formals-of, called-inside, held-of}

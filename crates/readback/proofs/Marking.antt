@@ -12,7 +12,7 @@ use borrow.Author.Tests.{lt-ltb, le-ltb}
 use Rattle.lists.specs.Lists.{pick, bit, same, word, from, range, flat, member}
 use Rattle.lists.proofs.Tests.{same-self, same-no}
 use Rattle.lists.proofs.Ranges.{from-more, from-done}
-use Rattle.table.specs.Words.{firstFormal, formalCount, formals, nodeFirst}
+use Rattle.scheme.specs.Words.{firstFormal, formalCount, formals, nodeFirst}
 use Rattle.net.specs.Firing.{put}
 
 pub put-append : (v : ℕ) (m xs ys : List ℕ) → put v m (xs ++ ys) ≡ put v (put v m xs) ys

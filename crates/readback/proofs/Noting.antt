@@ -11,9 +11,9 @@ use lib.Seq.{getD-set-same, getD-set-other}
 use Rattle.lists.specs.Lists.{pick, same, word, from, range, every, flat}
 use Rattle.lists.proofs.Tests.{same-self, same-no}
 use Rattle.lists.proofs.Ranges.{from-snoc, from-member, every-same}
-use Rattle.table.specs.Words.{threads, nodes}
-use Rattle.table.specs.Index.{threadIn}
-use Rattle.table.specs.Scheme.{Scheme, scheme}
+use Rattle.scheme.specs.Words.{threads, nodes}
+use Rattle.scheme.specs.Index.{threadIn}
+use Rattle.scheme.specs.Scheme.{Scheme, scheme}
 use Rattle.table.specs.Accepted.{Accepted}
 use Rattle.table.proofs.Accepted.{accepted}
 use Rattle.places.specs.Values.{allValues}

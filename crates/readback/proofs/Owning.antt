@@ -11,8 +11,8 @@ use Rattle.lists.specs.Lists.{pick, bit, same, word, from, range, every, flat, 
 use Rattle.lists.proofs.Tests.{both-ways, true-or-false, same-true}
 use Rattle.lists.proofs.Ranges.{from-member, member-from, every-at, every-same}
 use Rattle.lists.proofs.Members.{append-member, member-take, member-drop, member-flat, flat-member}
-use Rattle.table.specs.Words.{publics, names, threads, nodes}
-use Rattle.table.specs.Scheme.{Scheme, Node, stop, choice, new, call, scheme}
+use Rattle.scheme.specs.Words.{publics, names, threads, nodes}
+use Rattle.scheme.specs.Scheme.{Scheme, Node, stop, choice, new, call, scheme}
 use Rattle.table.specs.Accepted.{Accepted, NameOf}
 use Rattle.table.specs.Causes.{cause}
 use Rattle.table.proofs.Accepted.{accepted}

@@ -6,8 +6,8 @@ use Prim.Native.Nat.{ℕ, zero, suc, _+_, _≤_, _<_}
 use native.Mathlib.Omega.{arith}
 use lib.ListN.{length, replicate}
 use Rattle.lists.specs.Lists.{word}
-use Rattle.table.specs.Words.{names, nodes}
-use Rattle.table.specs.Scheme.{Scheme, scheme}
+use Rattle.scheme.specs.Words.{names, nodes}
+use Rattle.scheme.specs.Scheme.{Scheme, scheme}
 use Rattle.net.specs.Firing.{isMarking, put}
 use Rattle.places.specs.Values.{allValues}
 use Rattle.places.specs.Places

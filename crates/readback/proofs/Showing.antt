@@ -14,15 +14,15 @@ use Rattle.lists.specs.Lists.{pick, same, word, from, range, member}
 use Rattle.lists.proofs.Tests.{same-yes, same-no, not-true-false}
 use Rattle.lists.proofs.Ranges.{from-length, from-append, member-from, from-member}
 use Rattle.lists.proofs.Members.{member-take}
-use Rattle.table.specs.Words.{publics, bounds, names, threads, nodes, definitions, nodeKind, nodeFirst, nodeSecond}
-use Rattle.table.specs.Words.{root, firstFormal, formalCount, formals, arguments, argument, argumentsOf}
+use Rattle.scheme.specs.Words.{publics, bounds, names, threads, nodes, definitions, nodeKind, nodeFirst, nodeSecond}
+use Rattle.scheme.specs.Words.{root, firstFormal, formalCount, formals, arguments, argument, argumentsOf}
 use Rattle.table.specs.Causes.{cause}
-use Rattle.table.specs.Scheme.{Node, stop, choice, new, call, scheme, binderOf}
-use Rattle.table.specs.Index.{binderNumber, binderThreadIn}
-use Rattle.table.specs.Kinds.{isStop, isCall}
+use Rattle.scheme.specs.Scheme.{Node, stop, choice, new, call, scheme, binderOf}
+use Rattle.scheme.specs.Index.{binderNumber, binderThreadIn}
+use Rattle.scheme.specs.Kinds.{isStop, isCall}
 use Rattle.table.proofs.Accepted.{accepted}
 use Rattle.table.proofs.NameThreads.{name-thread-in}
-use Rattle.table.proofs.Scatter.{word-range}
+use Rattle.scheme.proofs.Scatter.{word-range}
 use Rattle.process.specs.States.{valueOf}
 use Rattle.process.specs.Steps.{passed}
 use Rattle.process.specs.Inner.Values.{Number, Valued, valueAt}

@@ -11,7 +11,7 @@ use borrow.Author.Tests.{le-ltb}
 use Rattle.lists.specs.Lists.{pick, bit, same, from, range, every, keep, member}
 use Rattle.lists.proofs.Ranges.{from-member, every-same}
 use Rattle.lists.proofs.Members.{keep-same}
-use Rattle.table.specs.Scheme.{Scheme}
+use Rattle.scheme.specs.Scheme.{Scheme}
 use Rattle.net.specs.Firing.{isMarking}
 use Rattle.places.specs.Values.{Values, allValues, privateValues}
 use Rattle.places.specs.Places.{Place, equals, differs, free, control, places}

@@ -11,8 +11,8 @@ use lib.Seq.{getD-set-same, getD-set-other}
 use Rattle.lists.specs.Lists.{pick, bit, same, word, from, range, every, keep}
 use Rattle.lists.proofs.Tests.{same-self, same-yes, same-no}
 use Rattle.lists.proofs.Ranges.{from-more, from-done}
-use Rattle.table.specs.Words.{publics, bounds, names}
-use Rattle.table.specs.Scheme.{Scheme, scheme}
+use Rattle.scheme.specs.Words.{publics, bounds, names}
+use Rattle.scheme.specs.Scheme.{Scheme, scheme}
 use Rattle.process.specs.Inner.Values.{valueAt}
 use Rattle.places.specs.Values.{allValues}
 use Rattle.places.specs.Rows.{rowStart}

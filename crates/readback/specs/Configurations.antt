@@ -7,8 +7,8 @@ use Prim.Native.Nat.{ℕ, zero, suc, _+_, _-_}
 use lib.Dec.{ltb, leb}
 use lib.ListN.{length, take, drop}
 use Rattle.lists.specs.Lists.{pick, same, member}
-use Rattle.table.specs.Scheme.{Scheme, Node, stop, choice, new, call}
-use Rattle.table.specs.Kinds.{isStop}
+use Rattle.scheme.specs.Scheme.{Scheme, Node, stop, choice, new, call}
+use Rattle.scheme.specs.Kinds.{isStop}
 use Rattle.process.specs.States.{State, valueOf}
 use Rattle.process.specs.Steps.{passed}
 

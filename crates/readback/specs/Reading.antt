@@ -9,7 +9,7 @@ use lib.Dec.{ltb}
 use lib.ListN.{length}
 use Rattle.lists.specs.Lists as Lists
 use Rattle.lists.specs.Lists.{pick, bit, same, from, range, every, keep, member}
-use Rattle.table.specs.Scheme.{Scheme, scheme}
+use Rattle.scheme.specs.Scheme.{Scheme, scheme}
 use Rattle.process.specs.StateWords.{stateWords}
 use Rattle.net.specs.Firing.{isMarking}
 use Rattle.places.specs.Values.{Values, allValues, privateValues}

@@ -7,8 +7,8 @@ ghost use lib.Seq.{slice};
 ghost use lib.Dec.{ltb};
 ghost use mathlib.Core.Bool.{true};
 ghost use Rattle.lists.specs.Lists.{pick, bit, word, from, range, every};
-ghost use Rattle.table.specs.Words.{names, nodes, nodeFirst, formalCount, formals};
-ghost use Rattle.table.specs.Scheme.{scheme};
+ghost use Rattle.scheme.specs.Words.{names, nodes, nodeFirst, formalCount, formals};
+ghost use Rattle.scheme.specs.Scheme.{scheme};
 ghost use Rattle.net.specs.Firing.{put};
 ghost use Rattle.places.specs.Inner.Plan.{Known, Rowed, RowsBelow};
 ghost use Rattle.readback.specs.Configurations.{spot, heldHere};
@@ -25,9 +25,9 @@ use lists::word8;
 use lists::word16;
 use lists::word32;
 use places::layout::Layout;
-use table::fields::field3;
-use table::fields::field4;
-use table::fields::name_kind;
+use scheme::fields::field3;
+use scheme::fields::field4;
+use scheme::fields::name_kind;
 
 // a - b, 0 where b is more.
 fn less(a: usize, b: usize) -> usize
@@ -105,7 +105,7 @@ fn mark_held(
         ≡ put 1 (now (held .entry)) (heldHere (scheme (now (table .entry))) (spot node index)) ⌝ }
 {
     let mut names = [0u32; 64];
-    let count = table::index::held_names(table, owners, homes, node as u16, &mut names);
+    let count = scheme::index::held_names(table, owners, homes, node as u16, &mut names);
     let kind = field3(table, 10, node, 0);
     if kind == 0 {
         return mark_names(&names, index, count, held);

@@ -5,9 +5,9 @@ ghost use Prim.Native.Nat.{suc, _≤_, _<_};
 ghost use lib.ListN.{length};
 ghost use lib.Seq.{sets, slice};
 ghost use Rattle.lists.specs.Lists.{from, range};
-ghost use Rattle.table.specs.Words.{publics, bounds, names, threads};
+ghost use Rattle.scheme.specs.Words.{publics, bounds, names, threads};
 ghost use Rattle.table.specs.Causes.{cause};
-ghost use Rattle.table.specs.Scheme.{scheme};
+ghost use Rattle.scheme.specs.Scheme.{scheme};
 ghost use Rattle.process.specs.States.{valueOf};
 ghost use Rattle.process.specs.StateWords.{valueWords};
 ghost use Rattle.process.specs.Inner.Values.{Number, Valued, valueAt};
@@ -17,9 +17,9 @@ ghost use Rattle.readback.specs.Inner.Showing.{AtNodes, spotAt, valueIn,
 use lists::store16;
 use lists::word16;
 use lists::word32;
-use table::fields::field1;
-use table::fields::field3;
-use table::fields::field4;
+use scheme::fields::field1;
+use scheme::fields::field3;
+use scheme::fields::field4;
 
 // The node that control place `index` of a node shows: in a call's chain the root of the definition called.
 fn node_shown(table: &[u16], node: usize, index: usize) -> usize
@@ -130,7 +130,7 @@ fn name_value(
         (valueOf (valueIn (now (table .entry)) (now (values .entry)))
         (nameShown (scheme (now (table .entry))) (spotAt (now (nodes .entry)) (now (indexes .entry))) name)) r ⌝ }
 {
-    let t = table::index::name_thread(table, homes, definitions, binders, name);
+    let t = scheme::index::name_thread(table, homes, definitions, binders, name);
     let shown = name_shown(table, word32(nodes, t), word32(indexes, t), name);
     value_of(table, values, shown)
 }
@@ -197,7 +197,7 @@ pub(crate) fn write_values(
     let bounds = word16(table, 1);
     let threads = word16(table, 3);
     let mut binders = [0u32; 64];
-    table::index::binders(table, &mut binders);
+    scheme::index::binders(table, &mut binders);
     let mut list = [0u16; 32];
     fill_values(
         table,

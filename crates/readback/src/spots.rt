@@ -3,8 +3,8 @@ ghost use mathlib.Core.Path.{_≡_};
 ghost use Prim.Native.Nat.{_+_, _≤_, _<_};
 ghost use lib.ListN.{replicate};
 ghost use Rattle.lists.specs.Lists.{word, same, every, range};
-ghost use Rattle.table.specs.Words.{nodes, threads};
-ghost use Rattle.table.specs.Scheme.{scheme};
+ghost use Rattle.scheme.specs.Words.{nodes, threads};
+ghost use Rattle.scheme.specs.Scheme.{scheme};
 ghost use Rattle.places.specs.Places.{controls};
 ghost use Rattle.readback.specs.Inner.Standing.{spotsRight};
 ghost use Rattle.readback.specs.Inner.Noting.{Placed, Noting, NotedAll, Seeking, SpotsFound};
@@ -51,7 +51,7 @@ fn note(
     if f.count == 0 {
         return;
     }
-    let thread = table::index::thread(table, definitions, node);
+    let thread = scheme::index::thread(table, definitions, node);
     let before = word32(counts, thread);
     store32(counts, thread, (before + f.count) as u32);
     if before != 0 {

@@ -11,13 +11,13 @@ use Rattle.lists.specs.Lists.{range, from, keep, member, firstFrom}
 use Rattle.lists.proofs.Ranges.{from-length, from-member}
 use Rattle.lists.proofs.Members.{keep-same}
 use Rattle.lists.proofs.First.{Looked, first-cases}
-use Rattle.table.specs.Words.{bounds, definitions, nodes, branches, root, formalCount, nodeFirst, nodeSecond, isChoice, isCall, branchesOf, next}
-use Rattle.table.specs.Words.{isReceive, argument, argumentsOf}
-use Rattle.table.specs.Owners.{childOf, nextOf, owner, home, held, definition, thread}
+use Rattle.scheme.specs.Words.{bounds, definitions, nodes, branches, root, formalCount, nodeFirst, nodeSecond, isChoice, isCall, branchesOf, next}
+use Rattle.scheme.specs.Words.{isReceive, argument, argumentsOf}
+use Rattle.scheme.specs.Owners.{childOf, nextOf, owner, home, held, definition, thread}
 use Rattle.table.specs.Causes.{cause}
-use Rattle.table.specs.Scheme.{choice, binds, byNew, byReceive, branchAt, argumentsAt, binderOf, scheme}
+use Rattle.scheme.specs.Scheme.{choice, binds, byNew, byReceive, branchAt, argumentsAt, binderOf, scheme}
 use Rattle.table.specs.Accepted.{NameOf, Below, Chosen, Accepted}
-use Rattle.table.specs.Kinds.{isReceive as receives}
+use Rattle.scheme.specs.Kinds.{isReceive as receives}
 use Rattle.table.proofs.Inside
 use Rattle.table.proofs.Owned
 use Rattle.table.proofs.Owned.{BranchOf, Leads, by-root, by-new, by-branch}

@@ -11,9 +11,9 @@ use Rattle.lists.specs.Lists.{pick, bit, same, every, from, member, times}
 use Rattle.lists.proofs.Tests.{true-or-false, and-intro, and-both, all-hold, bit-small, same-self, same-true, same-yes, same-no}
 use Rattle.lists.proofs.Ranges.{every-at}
 use Rattle.lists.proofs.First.{Search, hits, found, some-hit, hit-some, found-none, found-nowhere, found-one, tells-some}
-use Rattle.table.specs.Words.{publics, bounds, definitions, nodes, branches, names, nameKind, formals, nodeFirst, isNew, branchName, isReceive}
+use Rattle.scheme.specs.Words.{publics, bounds, definitions, nodes, branches, names, nameKind, formals, nodeFirst, isNew, branchName, isReceive}
 use Rattle.table.specs.Causes.{rangesRight, bindingRight, boundRight, newNames, receivedNames, formalNames}
-use Rattle.table.specs.Scheme.{byNew, byReceive, byFormal, unbound, pickBinder, binderOf}
+use Rattle.scheme.specs.Scheme.{byNew, byReceive, byFormal, unbound, pickBinder, binderOf}
 use Rattle.table.proofs.Inside
 
 -- what binds name x

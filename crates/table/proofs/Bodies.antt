@@ -13,13 +13,13 @@ use Rattle.lists.proofs.Tests.{true-or-false, both-ways, and-intro, and-left, a
 use Rattle.lists.proofs.Ranges.{member-from, from-member, every-same, every-member, member-every, every-below, below-every}
 use Rattle.lists.proofs.Members.{member-append}
 use Rattle.lists.proofs.Counts.{times-none, none-times, member-times}
-use Rattle.table.specs.Words.{publics, definitions, nodes, root, firstFormal, formalCount, formals, nodeFirst, nodeSecond, isNew, isCall, isChoice, branchesOf, next, argumentsOf}
-use Rattle.table.specs.Owners.{held}
+use Rattle.scheme.specs.Words.{publics, definitions, nodes, root, firstFormal, formalCount, formals, nodeFirst, nodeSecond, isNew, isCall, isChoice, branchesOf, next, argumentsOf}
+use Rattle.scheme.specs.Owners.{held}
 use Rattle.table.specs.Causes.{usable, branchScoped, nodeScoped, scopeRight}
-use Rattle.table.specs.Inner.Spans.{tallied, tallyAll}
+use Rattle.scheme.specs.Inner.Spans.{tallied, tallyAll}
 use Rattle.table.specs.Inner.Shaped.{Shaped, BranchOf, Reached, from-root, from-new, from-branch}
 use Rattle.table.specs.Inner.Scope.{heldTally, bodyFuel, bodyScoped, branchBodyScoped}
-use Rattle.table.proofs.Tally.{tally-none, tally-append, tally-one-more}
+use Rattle.scheme.proofs.Tally.{tally-none, tally-append, tally-one-more}
 use Rattle.table.proofs.Inside.{new-not-choice, call-not-new, choice-not-new, choice-not-call}
 use Rattle.table.proofs.Owned.{in-branches, branches-in}
 

@@ -5,8 +5,8 @@ use mathlib.Core.List.{List, [], _∷_}
 use Prim.Native.Nat.{ℕ, _+_}
 use lib.ListN.{set, take}
 use Rattle.lists.specs.Lists.{same, from, every, flat, member, times, firstFrom}
-use Rattle.table.specs.Words.{formals, branchesOf, argumentsOf}
-use Rattle.table.specs.Owners.{home, owner, pickOwner, heldBy, definitionBy, held, definition}
+use Rattle.scheme.specs.Words.{formals, branchesOf, argumentsOf}
+use Rattle.scheme.specs.Owners.{home, owner, pickOwner, heldBy, definitionBy, held, definition}
 use Rattle.table.specs.Causes
 
 -- "ν r.p⟨r⟩.0 beside p(x).0"

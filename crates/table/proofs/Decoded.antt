@@ -11,12 +11,12 @@ use borrow.Author.Tests.{lt-ltb, le-ltb, leb-true, not-true}
 use Rattle.lists.specs.Lists.{same, every, range, from}
 use Rattle.lists.proofs.Tests.{true-or-false, false-true, all-hold, same-true, same-false}
 use Rattle.lists.proofs.Ranges.{every-below, every-at}
-use Rattle.table.specs.Words.{publics, bounds, definitions, nodes, branches, names, nameKind, nodeFirst, nodeSecond, isChoice, isNew, isCall}
-use Rattle.table.specs.Words.{branchKind, branchName, channel, next, isSilent, isSend, isReceive}
-use Rattle.table.specs.Owners.{bindsOf}
+use Rattle.scheme.specs.Words.{publics, bounds, definitions, nodes, branches, names, nameKind, nodeFirst, nodeSecond, isChoice, isNew, isCall}
+use Rattle.scheme.specs.Words.{branchKind, branchName, channel, next, isSilent, isSend, isReceive}
+use Rattle.scheme.specs.Owners.{bindsOf}
 use Rattle.table.specs.Causes.{kindsRight, nameKindRight, formalsZero, nodeKindRight, branchKindRight}
-use Rattle.table.specs.Scheme.{stop, choice, new, call, absent, silent, send, receive, present, nextNode, binds, nodeAt, branchAt}
-use Rattle.table.specs.Kinds.{isReceive as receives}
+use Rattle.scheme.specs.Scheme.{stop, choice, new, call, absent, silent, send, receive, present, nextNode, binds, nodeAt, branchAt}
+use Rattle.scheme.specs.Kinds.{isReceive as receives}
 use Rattle.table.proofs.Inside
 
 -- ---- cause 4

@@ -9,10 +9,10 @@ use native.Mathlib.Omega.{arith}
 use Rattle.lists.specs.Lists.{member, Distinct, none}
 use Rattle.lists.proofs.Tests.{true-or-false, not-true-false}
 use Rattle.lists.proofs.Members.{member-nil, one-member, append-member, snoc-member, distinct-snoc, distinct-from}
-use Rattle.table.specs.Words.{publics, definitions, nodes, branches, names, root, formals, nodeFirst, nodeSecond, isNew, branchName, next, isReceive}
-use Rattle.table.specs.Owners.{home, held, definition, thread, bindsOf}
+use Rattle.scheme.specs.Words.{publics, definitions, nodes, branches, names, root, formals, nodeFirst, nodeSecond, isNew, branchName, next, isReceive}
+use Rattle.scheme.specs.Owners.{home, held, definition, thread, bindsOf}
 use Rattle.table.specs.Causes.{rangesRight, shapeRight, bindingRight}
-use Rattle.table.specs.Scheme.{Binder, byNew, byReceive, byFormal, unbound, binderOf, binderThread}
+use Rattle.scheme.specs.Scheme.{Binder, byNew, byReceive, byFormal, unbound, binderOf, binderThread}
 use Rattle.table.proofs.Owned
 use Rattle.table.proofs.Owned.{BranchOf}
 use Rattle.table.proofs.Trees
@@ -121,7 +121,7 @@ module _ (w : List ℕ) (r : rangesRight w ≡ true) (s : shapeRight w ≡ true)
 
   pub formals-distinct : (d : ℕ) → Distinct (formals w d)
   unfolding formals
-  formals-distinct d = distinct-from (Rattle.table.specs.Words.firstFormal w d) (Rattle.table.specs.Words.formalCount w d)
+  formals-distinct d = distinct-from (Rattle.scheme.specs.Words.firstFormal w d) (Rattle.scheme.specs.Words.formalCount w d)
 
   next-distinct : (n b : ℕ) → BranchOf w n b → Distinct (held w n) → Distinct (held w n ++ bindsOf w b)
   next-distinct n b c d = go (true-or-false (isReceive w b))

@@ -10,9 +10,9 @@ use borrow.Author.Tests.{ltb-true, leb-true}
 use Rattle.lists.specs.Lists.{pick, same, every, range, member}
 use Rattle.lists.proofs.Tests.{true-or-false, and-both, Holds, all-hold, or-cases, same-true, same-no}
 use Rattle.lists.proofs.Ranges.{every-below, from-member}
-use Rattle.table.specs.Words.{publics, bounds, definitions, threads, nodes, branches, arguments, names, isBound, definitionThread, root, firstFormal}
-use Rattle.table.specs.Words.{formals, formalCount, entry, nodeKind, nodeFirst, nodeSecond, isStop, isChoice, isNew, isCall, branchKind, branchName}
-use Rattle.table.specs.Words.{channel, next, isSilent, isSend, isReceive, argument}
+use Rattle.scheme.specs.Words.{publics, bounds, definitions, threads, nodes, branches, arguments, names, isBound, definitionThread, root, firstFormal}
+use Rattle.scheme.specs.Words.{formals, formalCount, entry, nodeKind, nodeFirst, nodeSecond, isStop, isChoice, isNew, isCall, branchKind, branchName}
+use Rattle.scheme.specs.Words.{channel, next, isSilent, isSend, isReceive, argument}
 use Rattle.table.specs.Causes.{countsRight, rangesRight, formalsInside, definitionInside, entryInside, nodeInside, branchInside, argumentInside}
 
 -- ---- a node, or a branch, has one kind

@@ -1,5 +1,4 @@
 pub mod Cases
-pub mod Climb
 pub mod Inside
 pub mod Consecutive
 pub mod Owned
@@ -13,11 +12,8 @@ pub mod Uses
 pub mod Sizes
 pub mod Threads
 pub mod Accepted
-pub mod Tally
 pub mod SpanLists
 pub mod Bodies
 pub mod Parts
 pub mod Walk
-pub mod Scatter
-pub mod Indexed
 pub mod NameThreads

@@ -7,10 +7,10 @@ use native.Mathlib.Omega.{arith}
 use lib.Dec.{ltb}
 use borrow.Author.Tests.{lt-ltb, le-ltb, ltb-true}
 use Rattle.lists.specs.Lists.{pick, word, firstFrom}
-use Rattle.table.specs.Words.{definitions, nodes, branches}
-use Rattle.table.specs.Owners.{home, definition, thread, branchThread}
-use Rattle.table.specs.Scheme.{byNew, byReceive, byFormal, unbound, pickBinder, binderOf, binderThread, scheme}
-use Rattle.table.specs.Index.{binderNumber, binderThreadIn}
+use Rattle.scheme.specs.Words.{definitions, nodes, branches}
+use Rattle.scheme.specs.Owners.{home, definition, thread, branchThread}
+use Rattle.scheme.specs.Scheme.{byNew, byReceive, byFormal, unbound, pickBinder, binderOf, binderThread, scheme}
+use Rattle.scheme.specs.Index.{binderNumber, binderThreadIn}
 use Rattle.table.specs.Causes.{cause}
 use Rattle.table.proofs.Accepted.{accepted}
 

@@ -14,11 +14,12 @@ use Rattle.lists.proofs.Ranges.{every-below, every-member, member-from, from-me
 use Rattle.lists.proofs.Members.{member-nil}
 use Rattle.lists.proofs.Counts.{times-append}
 use Rattle.lists.proofs.First.{first-only, Search, hits, found, some-hit, hit-some, found-none, found-nowhere, found-one, tells-one, tells-some}
-use Rattle.table.specs.Words.{definitions, nodes, branches, arguments, root, nodeFirst, nodeSecond, isChoice, isNew, branchesOf, next}
-use Rattle.table.specs.Owners.{rootOf, childOf, nextOf, nobody, home, owner, pickOwner}
+use Rattle.scheme.specs.Words.{definitions, nodes, branches, arguments, root, nodeFirst, nodeSecond, isChoice, isNew, branchesOf, next}
+use Rattle.scheme.specs.Owners.{rootOf, childOf, nextOf, nobody, home, owner, pickOwner}
 pub use Rattle.table.specs.Inner.Shaped.{BranchOf}
-use Rattle.table.specs.Causes.{rangesRight, shapeRight, rootNodes, newChildren, nextNodes, ownedOnce, childrenAbove, consecutive, branchCount}
-use Rattle.table.specs.Causes.{argumentCount}
+use Rattle.table.specs.Causes.{rangesRight, shapeRight, rootNodes, newChildren, nextNodes, ownedOnce, childrenAbove, consecutive}
+use Rattle.scheme.specs.Words.{branchCount}
+use Rattle.scheme.specs.Words.{argumentCount}
 use Rattle.table.proofs.Inside.{choice-not-new, root-inside, new-inside, next-inside}
 use Rattle.table.proofs.Consecutive.{In, range-unique, range-covers}
 

@@ -7,14 +7,14 @@ use native.Mathlib.Omega.{arith}
 use lib.ListN.{replicate}
 use Rattle.lists.specs.Lists.{same, word, bit, from, range, every, flat, member, times}
 use Rattle.lists.proofs.Ranges.{from-whole, every-same, from-member}
-use Rattle.table.specs.Words.{publics, bounds, definitions, nodes, branches, names, nameKind}
+use Rattle.scheme.specs.Words.{publics, bounds, definitions, nodes, branches, names, nameKind}
 use Rattle.table.specs.Causes.{ownedOnce, boundRight, rootNodes, newChildren, nextNodes}
 use Rattle.table.specs.Inner.Items.{passesOf}
-use Rattle.table.specs.Inner.Spans.{spanOf, tallyAll}
+use Rattle.scheme.specs.Inner.Spans.{spanOf, tallyAll}
 use Rattle.table.specs.declared.tests.Item.{Item}
-use Rattle.table.specs.declared.spans.Source.{Source}
-use Rattle.table.specs.declared.spans.Source.the-variants.{Roots, NewChildren, NextNodes}
-use Rattle.table.proofs.Tally.{tally-append, tally-none, tally-once}
+use Rattle.scheme.specs.declared.spans.Source.{Source}
+use Rattle.scheme.specs.declared.spans.Source.the-variants.{Roots, NewChildren, NextNodes}
+use Rattle.scheme.proofs.Tally.{tally-append, tally-none, tally-once}
 use Rattle.table.proofs.SpanLists.{roots-spans, children-spans, nexts-spans}
 
 -- numbers from a first one up to its end

@@ -7,8 +7,8 @@ use native.Mathlib.Omega.{arith}
 use Rattle.lists.specs.Lists.{member, from}
 use Rattle.lists.proofs.Ranges.{from-member}
 use Rattle.lists.proofs.Members.{map-member}
-use Rattle.table.specs.Words.{nodes, names, formalCount, nodeFirst, nodeSecond, isChoice, isCall, argument, argumentsOf}
-use Rattle.table.specs.Owners.{home}
+use Rattle.scheme.specs.Words.{nodes, names, formalCount, nodeFirst, nodeSecond, isChoice, isCall, argument, argumentsOf}
+use Rattle.scheme.specs.Owners.{home}
 use Rattle.table.specs.Causes.{countsRight, kindsRight, rangesRight, shapeRight}
 use Rattle.table.specs.Inner.Shaped.{Reached, from-root, from-new, from-branch, Shaped}
 use Rattle.table.proofs.Inside

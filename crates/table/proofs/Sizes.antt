@@ -11,7 +11,7 @@ use Rattle.lists.proofs.Tests.{all-hold, true-or-false, same-true}
 use Rattle.lists.proofs.Ranges.{from-length, from-member}
 use Rattle.lists.proofs.Members.{member-nil, one-member, append-member, flat-member}
 use Rattle.lists.proofs.Counts.{pigeonhole, flat-keep-length, flat-one-length}
-use Rattle.table.specs.Words.{publics, bounds, definitions, threads, nodes, branches, arguments, root, nodeSecond, isNew, branchName, isReceive, next}
+use Rattle.scheme.specs.Words.{publics, bounds, definitions, threads, nodes, branches, arguments, root, nodeSecond, isNew, branchName, isReceive, next}
 use Rattle.table.specs.Causes.{layoutRight, rangesRight, shapeRight, bindingRight, rootNodes, newChildren, nextNodes, receivedNames}
 use Rattle.table.proofs.Inside
 use Rattle.table.proofs.Owned

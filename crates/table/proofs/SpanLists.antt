@@ -8,15 +8,12 @@ use Rattle.lists.specs.Lists.{pick, bit, same, from, range, flat}
 use Rattle.lists.proofs.Tests.{same-yes, same-no}
 use Rattle.lists.proofs.Ranges.{from-more, from-done}
 use Rattle.lists.proofs.Members.{flat-same}
-use Rattle.table.specs.Words.{definitions, nodes, branches, formals, nodeFirst, nodeSecond, isNew, isChoice, branchesOf, branchName, isReceive, root, next}
-use Rattle.table.specs.Causes.{rootNodes, newChildren, nextNodes, newNames, receivedNames, formalNames, consecutive, branchCount}
-use Rattle.table.specs.Inner.Spans.{Number, spanFirst, spanCount, spanOf}
-use Rattle.table.specs.declared.spans.Source.{Source}
-use Rattle.table.specs.declared.spans.Source.the-variants.{Roots, Formals, NewChildren, NewNames, NextNodes, ReceivedNames, Branches}
-
--- the numbers from a span's first up to its end
-pub span-is : (w : List ℕ) (s : Source) (i r q : ℕ) → Number (spanFirst w s i) r → Number (spanCount w s i) q → from r (r + q - r) ≡ spanOf w s i
-span-is w s i r q a b = let e : r + q - r ≡ q = omega arith in rw (e, a .is, b .is)
+use Rattle.scheme.specs.Words.{definitions, nodes, branches, formals, nodeFirst, nodeSecond, isNew, isChoice, branchesOf, branchName, isReceive, root, next}
+use Rattle.table.specs.Causes.{rootNodes, newChildren, nextNodes, newNames, receivedNames, formalNames, consecutive}
+use Rattle.scheme.specs.Words.{branchCount}
+use Rattle.scheme.specs.Inner.Spans.{spanOf}
+use Rattle.scheme.specs.declared.spans.Source.{Source}
+use Rattle.scheme.specs.declared.spans.Source.the-variants.{Roots, Formals, NewChildren, NewNames, NextNodes, ReceivedNames, Branches}
 
 -- a span of one number, or of none
 pub from-bit : (x : ℕ) (b : Bool) → from x (bit b) ≡ pick b (x ∷ []) []

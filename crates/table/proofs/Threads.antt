@@ -13,10 +13,10 @@ use Rattle.lists.specs.Lists.{pick, same, from, member, Distinct, none}
 use Rattle.lists.proofs.Tests.{and-intro, and-both, and-false, same-yes, same-no}
 use Rattle.lists.proofs.Ranges.{from-length}
 use Rattle.lists.proofs.Members.{member-nil}
-use Rattle.table.specs.Words.{publics, bounds, definitions, threads, nodes, branches, names, isBound, nameKind, definitionThread, root, firstFormal}
-use Rattle.table.specs.Words.{formalCount, formals, entry, nodeFirst, isNew, branchName, isReceive}
-use Rattle.table.specs.Owners.{home, held, definition, thread, branchThread}
-use Rattle.table.specs.Scheme.{byNew, byReceive, byFormal, unbound, binderOf, binderThread, scheme}
+use Rattle.scheme.specs.Words.{publics, bounds, definitions, threads, nodes, branches, names, isBound, nameKind, definitionThread, root, firstFormal}
+use Rattle.scheme.specs.Words.{formalCount, formals, entry, nodeFirst, isNew, branchName, isReceive}
+use Rattle.scheme.specs.Owners.{home, held, definition, thread, branchThread}
+use Rattle.scheme.specs.Scheme.{byNew, byReceive, byFormal, unbound, binderOf, binderThread, scheme}
 use Rattle.table.specs.Accepted.{NameOf}
 use Rattle.table.proofs.Inside
 use Rattle.table.proofs.Trees

@@ -5,10 +5,10 @@ use mathlib.Core.Bool.{true}
 use mathlib.Core.List.{List, [], _∷_, _++_}
 use Prim.Native.Nat.{ℕ, zero, suc, _≤_, _<_}
 use native.Mathlib.Omega.{arith}
-use Rattle.table.specs.Words.{definitions, nodes, branches, root, formals, nodeFirst, nodeSecond, isNew, next}
-use Rattle.table.specs.Owners.{rootOf, childOf, nextOf, nobody, home, owner, held, definition, bindsOf}
+use Rattle.scheme.specs.Words.{definitions, nodes, branches, root, formals, nodeFirst, nodeSecond, isNew, next}
+use Rattle.scheme.specs.Owners.{rootOf, childOf, nextOf, nobody, home, owner, held, definition, bindsOf}
 use Rattle.table.specs.Causes.{rangesRight, shapeRight}
-use Rattle.table.proofs.Climb
+use Rattle.scheme.proofs.Climb
 use Rattle.table.proofs.Inside
 use Rattle.table.proofs.Owned
 use Rattle.table.proofs.Owned.{BranchOf, Leads, by-root, by-new, by-branch}

@@ -8,9 +8,9 @@ use borrow.Author.Tests.{ltb-true, not-true}
 use Rattle.lists.specs.Lists.{pick, same, every, range, member}
 use Rattle.lists.proofs.Tests.{and-both, or-cases, same-true, same-false}
 use Rattle.lists.proofs.Ranges.{every-below, every-member}
-use Rattle.table.specs.Words.{publics, threads, nodes, isPublic, definitionThread, formalCount, entry, nodeFirst, isCall, branchesOf, branchName}
-use Rattle.table.specs.Words.{channel, isSilent, isSend, isReceive, argumentsOf}
-use Rattle.table.specs.Owners.{held, definition, thread}
+use Rattle.scheme.specs.Words.{publics, threads, nodes, isPublic, definitionThread, formalCount, entry, nodeFirst, isCall, branchesOf, branchName}
+use Rattle.scheme.specs.Words.{channel, isSilent, isSend, isReceive, argumentsOf}
+use Rattle.scheme.specs.Owners.{held, definition, thread}
 use Rattle.table.specs.Causes.{scopeRight, nodeScoped, branchScoped, usable, callsRight, entryRight, callRightIn, callRight}
 use Rattle.table.proofs.Inside
 use Rattle.table.proofs.Owned.{BranchOf, in-branches}

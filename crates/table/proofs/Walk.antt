@@ -8,10 +8,10 @@ use Rattle.lists.specs.Lists.{pick, same, word, from, every, member}
 use Rattle.lists.proofs.Tests.{same-yes, same-no}
 use Rattle.lists.proofs.Ranges.{member-from, every-map}
 use Rattle.lists.proofs.Members.{member-map}
-use Rattle.table.specs.Words.{nodes, branches, names, formalCount, nodeKind, nodeFirst, nodeSecond, isNew, isCall, isChoice, branchesOf, branchKind, channel, branchName, next, isSilent, isReceive, argument, argumentsOf}
-use Rattle.table.specs.Owners.{held, bindsOf}
+use Rattle.scheme.specs.Words.{nodes, branches, names, formalCount, nodeKind, nodeFirst, nodeSecond, isNew, isCall, isChoice, branchesOf, branchKind, channel, branchName, next, isSilent, isReceive, argument, argumentsOf}
+use Rattle.scheme.specs.Owners.{held, bindsOf}
 use Rattle.table.specs.Causes.{usable, branchScoped}
-use Rattle.table.specs.Inner.Spans.{tallied}
+use Rattle.scheme.specs.Inner.Spans.{tallied}
 use Rattle.table.specs.Inner.Shaped.{Shaped, BranchOf}
 use Rattle.table.specs.Inner.Scope.{heldTally, bodyScoped, branchBodyScoped}
 use Rattle.table.proofs.Parts.{from-to}

@@ -7,9 +7,9 @@ use mathlib.Core.List.{List, [], _∷_, _++_}
 use Prim.Native.Nat.{ℕ, _+_, _*_, _≤_, _<_}
 use lib.ListN.{length}
 use Rattle.lists.specs.Lists.{range, keep, member, Distinct}
-use Rattle.table.specs.Owners.{Owner, rootOf, childOf, nextOf, nobody}
-use Rattle.table.specs.Scheme.{Node, stop, choice, new, call, Branch, absent, silent, send, receive, present, nextNode, binds, Binder, byNew, byReceive, byFormal, unbound, Scheme}
-use Rattle.table.specs.Kinds.{isReceive}
+use Rattle.scheme.specs.Owners.{Owner, rootOf, childOf, nextOf, nobody}
+use Rattle.scheme.specs.Scheme.{Node, stop, choice, new, call, Branch, absent, silent, send, receive, present, nextNode, binds, Binder, byNew, byReceive, byFormal, unbound, Scheme}
+use Rattle.scheme.specs.Kinds.{isReceive}
 
 -- x is a bound name of thread t
 pub record NameOf (S : Scheme) (t x : ℕ) : Type 0 where

@@ -5,8 +5,8 @@ use Prim.Native.Nat.{ℕ, _+_, _*_}
 use lib.Dec.{ltb, leb}
 use lib.ListN.{length}
 use Rattle.lists.specs.Lists.{pick, bit, same, word, from, range, every, flat, member, times}
-use Rattle.table.specs.Words.{publics, bounds, definitions, threads, nodes, branches, arguments, names, isPublic, isBound, nameKind, definitionThread, root, firstFormal, formalCount, formals, entry, nodeKind, nodeFirst, nodeSecond, isStop, isChoice, isNew, isCall, branchesOf, branchKind, channel, branchName, next, isSilent, isSend, isReceive, argument, argumentsOf}
-use Rattle.table.specs.Owners.{held, definition}
+use Rattle.scheme.specs.Words.{publics, bounds, definitions, threads, nodes, branches, arguments, names, isPublic, isBound, nameKind, definitionThread, root, firstFormal, formalCount, formals, entry, nodeKind, nodeFirst, nodeSecond, isStop, isChoice, isNew, isCall, branchesOf, branchKind, channel, branchName, next, isSilent, isSend, isReceive, argument, argumentsOf, branchCount, argumentCount}
+use Rattle.scheme.specs.Owners.{held, definition}
 
 -- the number of the first test that does not hold, 0 if all hold
 unfoldable pub firstFailed : List (ℕ × Bool) → ℕ
@@ -111,17 +111,10 @@ module _ (w : List ℕ) where
   consecutive first size end a (n ∷ ns) =
       pick (same (size n) 0) (consecutive first size end a ns) (same (first n) a && consecutive first size end (a + size n) ns)
 
-  -- how many branches, or arguments, a node has
-  abbrev pub branchCount : ℕ → ℕ
-  branchCount n = pick (isChoice w n) (nodeSecond w n) 0
-
-  abbrev pub argumentCount : ℕ → ℕ
-  argumentCount n = pick (isCall w n) (formalCount w (nodeFirst w n)) 0
-
   unfoldable pub shapeRight : Bool
   shapeRight =
-      consecutive (nodeFirst w) branchCount (branches w) 0 (range (nodes w)) &&
-      (consecutive (nodeSecond w) argumentCount (arguments w) 0 (range (nodes w)) &&
+      consecutive (nodeFirst w) (branchCount w) (branches w) 0 (range (nodes w)) &&
+      (consecutive (nodeSecond w) (argumentCount w) (arguments w) 0 (range (nodes w)) &&
       (every ownedOnce (range (nodes w)) && every childrenAbove (range (nodes w))))
 
   -- 7: "a bound name not bound exactly once, by its own kind": binders of its kind 1, of the other kinds 0

@@ -1,5 +1,4 @@
 -- Definitions and facts that only promises of private functions cite.
 pub mod Items
-pub mod Spans
 pub mod Scope
 pub mod Shaped

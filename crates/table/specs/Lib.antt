@@ -1,9 +1,4 @@
-pub mod Words
-pub mod Owners
 pub mod Causes
-pub mod Scheme
-pub mod Kinds
 pub mod Accepted
 pub mod Answer
-pub mod Index
 pub mod Inner

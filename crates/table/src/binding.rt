@@ -2,14 +2,14 @@
 ghost use mathlib.Core.Path.{_≡_};
 ghost use Prim.Native.Nat.{_-_, _≤_, _<_};
 ghost use Rattle.lists.specs.Lists.{same, word, bit, from, range, every, flat};
-ghost use Rattle.table.specs.Words.{publics, bounds, names, nameKind};
+ghost use Rattle.scheme.specs.Words.{publics, bounds, names, nameKind};
 ghost use Rattle.table.specs.Causes.{boundRight, bindingRight};
-ghost use Rattle.table.specs.Inner.Spans.{spanOf};
-use crate::fields::name_kind;
-use crate::spans::Source;
-use crate::spans::tally_source;
+ghost use Rattle.scheme.specs.Inner.Spans.{spanOf};
 use lists::word8;
 use lists::word16;
+use scheme::fields::name_kind;
+use scheme::spans::Source;
+use scheme::spans::tally_source;
 
 // Whether a name's count is 1 if the name is of the kind, and 0 if not.
 fn count_right(table: &[u16], counts: &[u8], kind: usize, name: usize) -> bool

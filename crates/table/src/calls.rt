@@ -1,18 +1,18 @@
 // Cause 9: entries of their own thread without formals, calls that stay in the thread and leave the definition.
 ghost use mathlib.Core.Path.{_≡_};
 ghost use Prim.Native.Nat.{_≤_};
-ghost use Rattle.table.specs.Words.{definitions, nodes, branches};
+ghost use Rattle.scheme.specs.Words.{definitions, nodes, branches};
 ghost use Rattle.lists.specs.Lists.{word, range, every};
 ghost use Rattle.table.specs.Causes.{entryRight, callRightIn, callsRight};
-use crate::fields::field1;
-use crate::fields::field3;
-use crate::fields::field4;
-use crate::index::first_definitions;
-use crate::index::homes;
-use crate::index::owners;
 use crate::tests::Item;
 use crate::tests::all_pass;
 use lists::word16;
+use scheme::fields::field1;
+use scheme::fields::field3;
+use scheme::fields::field4;
+use scheme::index::first_definitions;
+use scheme::index::homes;
+use scheme::index::owners;
 
 pub(crate) fn entry_right(table: &[u16], thread: usize) -> bool
     ensures { λ r. ⌜ r ≡ entryRight (now (table .entry)) thread ⌝ }

@@ -2,12 +2,12 @@
 ghost use mathlib.Core.Path.{_≡_};
 ghost use Rattle.table.specs.Causes.{nameKindRight, formalsZero, callZero, nodeKindRight, branchKindRight};
 ghost use Rattle.table.specs.Causes.{kindsRight};
-use crate::fields::field3;
-use crate::fields::field4;
-use crate::fields::name_kind;
 use crate::tests::Item;
 use crate::tests::all_pass;
 use lists::word16;
+use scheme::fields::field3;
+use scheme::fields::field4;
+use scheme::fields::name_kind;
 
 pub(crate) fn name_kind_right(table: &[u16], name: usize) -> bool
     ensures { λ r. ⌜ r ≡ nameKindRight (now (table .entry)) name ⌝ }

@@ -1,16 +1,10 @@
-// The process table: causes 1 to 9 of a list of words, and what its nodes hold.
-//
-// `check` refuses or accepts a table. `fields` reads one, and `index` finds owners, definitions and held names; both
-// are total, so that code above needs no index of its own.
+// The process table: causes 1 to 9 of a list of words. `check` refuses or accepts it.
 mod binding;
 mod calls;
-pub mod fields;
-pub mod index;
 mod kinds;
 mod ranges;
 mod scope;
 mod shape;
-mod spans;
 mod tests;
 
 ghost use mathlib.Core.Path.{_≡_};

@@ -1,14 +1,14 @@
 // Cause 5: numbers and ranges inside their sections, and binders that name bound names.
 ghost use mathlib.Core.Path.{_≡_};
-ghost use Rattle.table.specs.Words.{isBound};
+ghost use Rattle.scheme.specs.Words.{isBound};
 ghost use Rattle.table.specs.Causes.{formalsInside, definitionInside, entryInside, nodeInside, branchInside};
 ghost use Rattle.table.specs.Causes.{argumentInside, rangesRight};
-use crate::fields::field1;
-use crate::fields::field3;
-use crate::fields::field4;
 use crate::tests::Item;
 use crate::tests::all_pass;
 use lists::word16;
+use scheme::fields::field1;
+use scheme::fields::field3;
+use scheme::fields::field4;
 
 // Whether a number is that of a bound name.
 fn is_bound(table: &[u16], name: usize) -> bool

@@ -3,17 +3,17 @@
 ghost use mathlib.Core.Path.{_≡_};
 ghost use Prim.Native.Nat.{ℕ, _+_, _-_, _≤_, _<_};
 ghost use Rattle.lists.specs.Lists.{from, every};
-ghost use Rattle.table.specs.Words.{definitions, nodes, root, argument};
+ghost use Rattle.scheme.specs.Words.{definitions, nodes, root, argument};
 ghost use Rattle.table.specs.Causes.{usable, scopeRight};
 ghost use Rattle.table.specs.Inner.Shaped.{Shaped, BranchOf};
 ghost use Rattle.table.specs.Inner.Scope.{heldTally, bodyScoped, branchBodyScoped};
-use crate::fields::field1;
-use crate::fields::field3;
-use crate::fields::field4;
-use crate::spans::tally;
-use crate::spans::tally_span;
 use lists::word8;
 use lists::word16;
+use scheme::fields::field1;
+use scheme::fields::field3;
+use scheme::fields::field4;
+use scheme::spans::tally;
+use scheme::spans::tally_span;
 
 // Whether the arguments from `first` up to `end` are all held.
 fn arguments_held(table: &[u16], node: usize, first: usize, end: usize, held: &[u8]) -> bool

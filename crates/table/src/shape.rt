@@ -3,19 +3,19 @@ ghost use mathlib.Core.Path.{_≡_};
 ghost use Prim.Native.Nat.{_-_, _≤_, _<_};
 ghost use lib.Dec.{ltb};
 ghost use Rattle.lists.specs.Lists.{same, word, from, range, every};
-ghost use Rattle.table.specs.Words.{nodes, next};
+ghost use Rattle.scheme.specs.Words.{nodes, next};
 ghost use Rattle.table.specs.Causes.{consecutive, ownedOnce, childrenAbove, shapeRight};
-ghost use Rattle.table.specs.Inner.Spans.{spanFirst, spanCount};
-use crate::fields::field3;
-use crate::fields::field4;
-use crate::spans::Source;
-use crate::spans::span_count;
-use crate::spans::span_first;
-use crate::spans::tally_source;
+ghost use Rattle.scheme.specs.Inner.Spans.{spanFirst, spanCount};
 use crate::tests::Item;
 use crate::tests::all_pass;
 use lists::word8;
 use lists::word16;
+use scheme::fields::field3;
+use scheme::fields::field4;
+use scheme::spans::Source;
+use scheme::spans::span_count;
+use scheme::spans::span_first;
+use scheme::spans::tally_source;
 
 // Whether the next nodes of the branches from `first` up to `end` lie above a node.
 fn nexts_above(table: &[u16], node: usize, first: usize, end: usize) -> bool

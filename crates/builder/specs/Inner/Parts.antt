@@ -6,9 +6,9 @@ use Prim.Native.Nat.{ℕ, _+_, _≤_, _<_}
 use lib.Dec.{ltb}
 use lib.ListN.{length, take}
 use Rattle.lists.specs.Lists.{pick, from, range, flat, member, ascends}
-use Rattle.table.specs.Words.{publics, bounds, nodes, branches, channel, branchName, next, nodeFirst, nodeSecond, isSend, isReceive}
-use Rattle.table.specs.Owners.{home, branchThread}
-use Rattle.table.specs.Scheme.{scheme}
+use Rattle.scheme.specs.Words.{publics, bounds, nodes, branches, channel, branchName, next, nodeFirst, nodeSecond, isSend, isReceive}
+use Rattle.scheme.specs.Owners.{home, branchThread}
+use Rattle.scheme.specs.Scheme.{scheme}
 use Rattle.net.specs.Image.{labelOf}
 use Rattle.net.specs.Net.{Transition}
 use Rattle.places.specs.Values.{privateValuesOf}

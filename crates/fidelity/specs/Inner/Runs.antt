@@ -4,7 +4,7 @@ use mathlib.Core.Path.{_≡_}
 use mathlib.Core.Bool.{Bool, true, false}
 use mathlib.Core.Option.{Option, none, some}
 use mathlib.Core.List.{List, [], _∷_}
-use Rattle.table.specs.Scheme.{Scheme, new, call, silent, send, receive}
+use Rattle.scheme.specs.Scheme.{Scheme, new, call, silent, send, receive}
 use Rattle.process.specs.States.{State}
 use Rattle.process.specs.Steps.{Step, newStep, silentStep, communication, callStep}
 use Rattle.process.specs.Labels.{isBookkeeping, stepOf}

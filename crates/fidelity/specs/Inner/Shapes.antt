@@ -7,7 +7,7 @@ use mathlib.Core.List.{List, [], _∷_}
 use lib.Dec.{ltb}
 use lib.ListN.{length, getD}
 use Rattle.lists.specs.Lists.{pick, bit, same}
-use Rattle.table.specs.Scheme.{Scheme, stop, new, call, silent, send, receive}
+use Rattle.scheme.specs.Scheme.{Scheme, stop, new, call, silent, send, receive}
 use Rattle.net.specs.Image.{labelOf}
 use Rattle.places.specs.Values.{Values}
 use Rattle.places.specs.Transitions.{Move, move, test, skip, take, release, Description, making, going, communicating}

@@ -5,7 +5,7 @@ use mathlib.Core.Bool.{Bool, true, false}
 use mathlib.Core.Option.{Option, none, some}
 use mathlib.Core.List.{List, [], _∷_, map}
 use Rattle.lists.specs.Lists.{pick, bit}
-use Rattle.table.specs.Scheme.{Scheme}
+use Rattle.scheme.specs.Scheme.{Scheme}
 use Rattle.process.specs.States.{State, valueOf}
 use Rattle.process.specs.Steps as Steps
 use Rattle.process.specs.Labels.{isBookkeeping, stepOf}

@@ -1,5 +1,5 @@
 -- The configuration of the initial marking: each thread at the first place of its entry's root, and no bound name with a value.
-use Rattle.table.specs.Scheme.{Scheme}
+use Rattle.scheme.specs.Scheme.{Scheme}
 use Rattle.process.specs.States.{start}
 use Rattle.readback.specs.Configurations.{spot, Configuration}
 

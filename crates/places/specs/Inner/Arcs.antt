@@ -5,7 +5,7 @@ use Prim.Native.Nat.{ℕ, _+_}
 use lib.Dec.{ltb, leb}
 use lib.ListN.{length}
 use Rattle.lists.specs.Lists.{pick, same, from, range, keep, flat, some}
-use Rattle.table.specs.Scheme.{Scheme}
+use Rattle.scheme.specs.Scheme.{Scheme}
 use Rattle.places.specs.Values.{Values, valuesOf, privateValuesOf}
 use Rattle.places.specs.Places.{Place, equals, differs, free, control, controls}
 use Rattle.places.specs.Rows.{rowStart, freeStart, controlStart, numberOf}

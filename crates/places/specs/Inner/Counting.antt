@@ -5,9 +5,9 @@ use Prim.Native.Nat.{ℕ, _+_, _*_, _<_}
 use lib.Dec.{ltb, leb}
 use lib.ListN.{length}
 use Rattle.lists.specs.Lists.{pick, bit, same, range, from, keep, flat}
-use Rattle.table.specs.Words.{publics, bounds, nodes, branches, isStop, isChoice, isNew, isSilent, isSend, isReceive, nodeFirst, nodeSecond, channel, branchName, argumentsOf}
-use Rattle.table.specs.Owners.{held, branchThread}
-use Rattle.table.specs.Scheme.{scheme}
+use Rattle.scheme.specs.Words.{publics, bounds, nodes, branches, isStop, isChoice, isNew, isSilent, isSend, isReceive, nodeFirst, nodeSecond, channel, branchName, argumentsOf}
+use Rattle.scheme.specs.Owners.{held, branchThread}
+use Rattle.scheme.specs.Scheme.{scheme}
 use Rattle.net.specs.Net.{Transition}
 use Rattle.places.specs.Transitions.{common}
 use Rattle.places.specs.Inner.Plan.{today, values, freeNames}

@@ -5,10 +5,10 @@ use mathlib.Core.List.{List, [], _∷_, _++_, map}
 use Prim.Native.Nat.{ℕ, _+_, _-_, _*_, _≤_, _<_}
 use lib.ListN.{length}
 use Rattle.lists.specs.Lists.{pick, word, from, range, keep, member}
-use Rattle.table.specs.Words.{publics, bounds, names, nodes, branches, argument}
-use Rattle.table.specs.Owners.{owner, home, definition}
-use Rattle.table.specs.Index.{ownerNumber}
-use Rattle.table.specs.Scheme.{scheme}
+use Rattle.scheme.specs.Words.{publics, bounds, names, nodes, branches, argument}
+use Rattle.scheme.specs.Owners.{owner, home, definition}
+use Rattle.scheme.specs.Index.{ownerNumber}
+use Rattle.scheme.specs.Scheme.{scheme}
 use Rattle.table.specs.Causes.{cause}
 use Rattle.places.specs.Values.{Values, allValues, valuesOf}
 use Rattle.places.specs.Rows.{rowStart, freeStart, controlStart}

@@ -2,7 +2,7 @@
 use Prim.Native.Nat.{ℕ, _+_}
 use lib.Dec.{ltb}
 use Rattle.lists.specs.Lists.{pick}
-use Rattle.table.specs.Scheme.{Scheme}
+use Rattle.scheme.specs.Scheme.{Scheme}
 
 module _ (S : Scheme) where
   -- "A bound input or formal ranges over all values, a restricted name over the private ones, a public over itself."

@@ -7,7 +7,7 @@ use native.Mathlib.Nat.{sub-zero}
 use lib.ListN.{length, length-set}
 use lib.Seq.{sets}
 use Rattle.lists.specs.Lists.{from, range}
-use Rattle.table.specs.Words.{threads as threadCount, root, entry}
+use Rattle.scheme.specs.Words.{threads as threadCount, root, entry}
 use Rattle.process.proofs.Sets.{sets-map-more, sets-map-done}
 use borrow.Author.Needs.{needs}
 use Rattle.process.proofs.write_roots.Statement.{statement}

@@ -5,7 +5,7 @@ use native.Mathlib.Omega.{arith}
 use native.Mathlib.Nat.{sub-zero, add-zero, add-assoc}
 use lib.ListN.{length, replicate, length-set}
 use lib.Seq.{sets}
-use Rattle.table.specs.Words.{threads as threadCount, bounds as boundCount}
+use Rattle.scheme.specs.Words.{threads as threadCount, bounds as boundCount}
 use Rattle.process.proofs.Sets.{sets-fill-more, sets-fill-done}
 use borrow.Author.Needs.{needs}
 use Rattle.process.proofs.write_unheld.Statement.{statement}

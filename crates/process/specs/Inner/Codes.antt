@@ -4,7 +4,7 @@ use Prim.Native.Nat.{ℕ}
 use mathlib.Core.Path.{_≡_}
 use mathlib.Core.List.{List}
 use Rattle.lists.specs.Lists.{pick}
-use Rattle.table.specs.Scheme.{Scheme, scheme}
+use Rattle.scheme.specs.Scheme.{Scheme, scheme}
 use Rattle.process.specs.States.{State}
 use Rattle.process.specs.Steps
 use Rattle.process.specs.Steps.{newStep, silentStep, communication, callStep, noStep, isOpen}

@@ -4,10 +4,10 @@ use mathlib.Core.List.{List, map}
 use Prim.Native.Nat.{ℕ, _+_, _≤_, _<_}
 use lib.ListN.{length, replicate}
 use Rattle.lists.specs.Lists.{word, range}
-use Rattle.table.specs.Words.{publics, bounds, threads}
-use Rattle.table.specs.Owners.{owner, home, definition}
-use Rattle.table.specs.Scheme.{binderOf}
-use Rattle.table.specs.Index.{ownerNumber, binderNumber}
+use Rattle.scheme.specs.Words.{publics, bounds, threads}
+use Rattle.scheme.specs.Owners.{owner, home, definition}
+use Rattle.scheme.specs.Scheme.{binderOf}
+use Rattle.scheme.specs.Index.{ownerNumber, binderNumber}
 use Rattle.table.specs.Causes.{cause}
 
 -- the table is accepted, and the words have the node of each branch and the definition of each node

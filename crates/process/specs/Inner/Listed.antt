@@ -7,9 +7,9 @@ use lib.Dec.{ltb}
 use lib.ListN.{length, drop}
 use lib.Seq.{sets}
 use Rattle.lists.specs.Lists.{pick, same, range, flat}
-use Rattle.table.specs.Words.{branches, branchKind}
-use Rattle.table.specs.Scheme.{Scheme, scheme}
-use Rattle.table.specs.Kinds.{isSilent}
+use Rattle.scheme.specs.Words.{branches, branchKind}
+use Rattle.scheme.specs.Scheme.{Scheme, scheme}
+use Rattle.scheme.specs.Kinds.{isSilent}
 use Rattle.process.specs.States.{State}
 use Rattle.process.specs.Steps.{communication, isOpen, standsAt}
 use Rattle.process.specs.Labels.{labelOf, stepsOfNode}

@@ -4,8 +4,8 @@ use mathlib.Core.List.{List}
 use Prim.Native.Nat.{ℕ, _≤_, _<_}
 use lib.ListN.{set}
 use Rattle.lists.specs.Lists.{word, range, flat}
-use Rattle.table.specs.Words.{publics, names, threads}
-use Rattle.table.specs.Scheme.{scheme}
+use Rattle.scheme.specs.Words.{publics, names, threads}
+use Rattle.scheme.specs.Scheme.{scheme}
 use Rattle.process.specs.Inner.Values.{valueAt}
 use Rattle.readback.specs.Configurations.{heldHere}
 use Rattle.readback.specs.Inner.Showing.{spotAt}

@@ -4,9 +4,9 @@ use mathlib.Core.List.{List}
 use Prim.Native.Nat.{ℕ, _≤_, _<_}
 use lib.ListN.{length}
 use Rattle.lists.specs.Lists.{word}
-use Rattle.table.specs.Words.{nodes, threads}
-use Rattle.table.specs.Owners.{definition}
-use Rattle.table.specs.Scheme.{scheme}
+use Rattle.scheme.specs.Words.{nodes, threads}
+use Rattle.scheme.specs.Owners.{definition}
+use Rattle.scheme.specs.Scheme.{scheme}
 use Rattle.places.specs.Inner.Plan.{Spotted, controlOf}
 use Rattle.places.specs.declared.layout.Layout.{Layout}
 use Rattle.readback.specs.Configurations.{spot}

@@ -4,8 +4,8 @@ use mathlib.Core.Bool.{Bool, true}
 use mathlib.Core.List.{List}
 use Prim.Native.Nat.{ℕ, _≤_}
 use lib.ListN.{length, replicate}
-use Rattle.table.specs.Words.{names}
-use Rattle.table.specs.Scheme.{scheme}
+use Rattle.scheme.specs.Words.{names}
+use Rattle.scheme.specs.Scheme.{scheme}
 use Rattle.net.specs.Firing.{isMarking}
 use Rattle.places.specs.Places
 use Rattle.places.specs.Inner.Plan.{today, Known, Defined, Laid}

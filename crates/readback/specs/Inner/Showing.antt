@@ -5,11 +5,11 @@ use mathlib.Core.List.{List}
 use Prim.Native.Nat.{ℕ, _≤_, _<_}
 use lib.Dec.{ltb}
 use Rattle.lists.specs.Lists.{pick, word}
-use Rattle.table.specs.Words
-use Rattle.table.specs.Words.{publics, names, threads}
+use Rattle.scheme.specs.Words
+use Rattle.scheme.specs.Words.{publics, names, threads}
 use Rattle.table.specs.Causes.{cause}
-use Rattle.table.specs.Scheme.{binderOf}
-use Rattle.table.specs.Index.{binderNumber}
+use Rattle.scheme.specs.Scheme.{binderOf}
+use Rattle.scheme.specs.Index.{binderNumber}
 use Rattle.process.specs.Inner.Values.{valueAt}
 use Rattle.places.specs.Inner.Plan.{Defined}
 use Rattle.readback.specs.Configurations.{Spot, spot}

@@ -5,7 +5,7 @@ use mathlib.Core.List.{List, [], _∷_, map}
 use Prim.Native.Nat.{ℕ, _+_, _-_}
 use lib.ListN.{length}
 use Rattle.lists.specs.Lists.{pick, bit, same, from, range, every, keep, flat, member}
-use Rattle.table.specs.Scheme.{Scheme}
+use Rattle.scheme.specs.Scheme.{Scheme}
 use Rattle.places.specs.Values.{Values, allValues}
 use Rattle.places.specs.Places.{controls}
 use Rattle.places.specs.Rows.{rowStart, freeStart, controlStart}

@@ -4,10 +4,10 @@ use mathlib.Core.List.{List, [], _∷_, _++_}
 use Prim.Native.Nat.{ℕ, zero, suc, _-_}
 use lib.ListN.{replicate}
 use Rattle.lists.specs.Lists.{pick, range, every}
-use Rattle.table.specs.Words.{publics, nodes, nodeSecond, isNew, isCall, branchesOf, next, argumentsOf}
-use Rattle.table.specs.Owners.{held}
+use Rattle.scheme.specs.Words.{publics, nodes, nodeSecond, isNew, isCall, branchesOf, next, argumentsOf}
+use Rattle.scheme.specs.Owners.{held}
 use Rattle.table.specs.Causes.{usable, branchScoped}
-use Rattle.table.specs.Inner.Spans.{tallyAll}
+use Rattle.scheme.specs.Inner.Spans.{tallyAll}
 
 module _ (w : List ℕ) where
   -- the names that may be used at a node, tallied

@@ -4,8 +4,8 @@ use mathlib.Core.Bool.{Bool, true, false}
 use mathlib.Core.List.{List, [], _∷_, _++_}
 use Prim.Native.Nat.{ℕ, _+_, _≤_, _<_}
 use Rattle.lists.specs.Lists.{member}
-use Rattle.table.specs.Words.{publics, bounds, definitions, threads, nodes, branches, arguments, names, root, formals, formalCount, nodeFirst, nodeSecond, isChoice, isNew, isCall, branchName, channel, next, isSilent, isReceive, argumentsOf}
-use Rattle.table.specs.Owners.{Owner, rootOf, childOf, nextOf, nobody, owner, home, held, definition, bindsOf}
+use Rattle.scheme.specs.Words.{publics, bounds, definitions, threads, nodes, branches, arguments, names, root, formals, formalCount, nodeFirst, nodeSecond, isChoice, isNew, isCall, branchName, channel, next, isSilent, isReceive, argumentsOf}
+use Rattle.scheme.specs.Owners.{Owner, rootOf, childOf, nextOf, nobody, owner, home, held, definition, bindsOf}
 
 -- why node k is there, with what leads to it
 pub data Reached (w : List ℕ) (k : ℕ) : Type 0 where

@@ -6,7 +6,7 @@ use native.Mathlib.Omega.{arith}
 use lib.ListN.{length}
 use Rattle.lists.specs.Lists.{from}
 use Rattle.lists.proofs.Ranges.{member-from}
-use Rattle.table.specs.Scheme.{scheme}
+use Rattle.scheme.specs.Scheme.{scheme}
 use Rattle.places.specs.Transitions.{copies}
 use Rattle.places.specs.Inner.Plan.{today, argumentName}
 use Rattle.builder.specs.Inner.Parts.{put, state, ofTable}
@@ -17,7 +17,7 @@ use borrow.Author.Needs.{needs}
 use Rattle.builder.proofs.chain.copy_all.Statement.{statement}
 use Rattle.builder.proofs.chain.copy_all.Tie as tie
 use Rattle.builder.proofs.chain.copy_formal.Reads as copy-formal-reads
-use Rattle.table.proofs.fields.field1.Reads as field1-reads
+use Rattle.scheme.proofs.fields.field1.Reads as field1-reads
 
 abbrev Inv-loop : tie.InvT-loop
 Inv-loop table rows plan out₀ c formal argument count q₀ i₀ out q i =

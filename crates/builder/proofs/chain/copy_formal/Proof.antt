@@ -4,7 +4,7 @@ use mathlib.Core.List.{map}
 use Prim.Native.Nat.{_-_, _≤_, _<_}
 use native.Mathlib.Omega.{arith}
 use lib.ListN.{length, drop}
-use Rattle.table.specs.Scheme.{scheme}
+use Rattle.scheme.specs.Scheme.{scheme}
 use Rattle.places.specs.Transitions.{copying}
 use Rattle.places.specs.Inner.Plan.{today, values}
 use Rattle.builder.specs.Inner.Parts.{put, state, ofTable}

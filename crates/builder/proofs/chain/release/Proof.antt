@@ -5,7 +5,7 @@ use mathlib.Core.Logic.{⊎-elim}
 use Prim.Native.Nat.{_+_, _≤_}
 use native.Mathlib.Omega.{arith}
 use lib.ListN.{length, take}
-use Rattle.table.specs.Scheme.{scheme}
+use Rattle.scheme.specs.Scheme.{scheme}
 use Rattle.places.specs.Transitions.{releasing}
 use Rattle.places.specs.Inner.Plan.{today}
 use Rattle.builder.specs.Inner.Parts.{ofTable, arrow}

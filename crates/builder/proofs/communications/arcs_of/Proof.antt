@@ -6,8 +6,8 @@ use mathlib.Core.List.{List, [], _∷_}
 use Prim.Native.Nat.{ℕ, _≤_}
 use native.Mathlib.Omega.{arith}
 use lib.ListN.{length}
-use Rattle.table.specs.Words.{next}
-use Rattle.table.specs.Owners.{home}
+use Rattle.scheme.specs.Words.{next}
+use Rattle.scheme.specs.Owners.{home}
 use Rattle.places.specs.Places.{Place, equals, differs, control}
 use Rattle.builder.specs.Inner.Parts.{Rising}
 use Rattle.builder.proofs.Pairs.{Filled, Speaks, fill-none, fill-rising, speaks, takesOf, givesOf, put-in}

@@ -8,7 +8,7 @@ use borrow.Author.Needs.{needs}
 use lib.ListN.{length}
 use Rattle.lists.specs.Lists.{from, range, flat}
 use Rattle.lists.proofs.Tests.{same-yes}
-use Rattle.table.specs.Words.{branches, branchKind}
+use Rattle.scheme.specs.Words.{branches, branchKind}
 use Rattle.builder.specs.Inner.Writing.{Inside}
 use Rattle.builder.specs.Inner.Parts.{ofTable, state, put, withAll}
 use Rattle.builder.proofs.Partners.{flat-done, flat-inside, flat-more, flat-skip, same-state, no-send}

@@ -9,8 +9,8 @@ use borrow.Author.Needs.{needs}
 use lib.ListN.{length}
 use Rattle.lists.specs.Lists.{from, flat}
 use Rattle.lists.proofs.Tests.{same-true}
-use Rattle.table.specs.Words.{branches, branchKind}
-use Rattle.table.specs.Owners.{branchThread}
+use Rattle.scheme.specs.Words.{branches, branchKind}
+use Rattle.scheme.specs.Owners.{branchThread}
 use Rattle.places.specs.Transitions.{Description}
 use Rattle.builder.specs.Inner.Writing.{Inside}
 use Rattle.builder.specs.Inner.Parts.{ofTable, state, put, withBranch, withAll}

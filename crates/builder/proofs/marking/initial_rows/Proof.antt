@@ -4,7 +4,7 @@ use mathlib.Core.Path.{_∙_}
 use Prim.Native.Nat.{_+_, _-_, _≤_, _<_}
 use native.Mathlib.Omega.{arith}
 use borrow.Author.Needs.{needs}
-use Rattle.table.specs.Words.{names}
+use Rattle.scheme.specs.Words.{names}
 use Rattle.places.proofs.Names.{kind-restricted, kind-free}
 use Rattle.builder.proofs.Marked.{RowsTurn, rows-begin, rows-skip, rows-put, rows-room, rows-close}
 use Rattle.builder.proofs.marking.initial_rows.Statement.{statement}

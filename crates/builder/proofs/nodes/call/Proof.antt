@@ -5,10 +5,10 @@ use Prim.Native.Nat.{_+_, _≤_}
 use native.Mathlib.Omega.{arith}
 use lib.ListN.{take}
 use Rattle.lists.specs.Lists.{from}
-use Rattle.table.specs.Words.{firstFormal, nodeFirst, nodeSecond}
-use Rattle.table.specs.Owners.{held}
-use Rattle.table.specs.Scheme
-use Rattle.table.specs.Scheme.{scheme}
+use Rattle.scheme.specs.Words.{firstFormal, nodeFirst, nodeSecond}
+use Rattle.scheme.specs.Owners.{held}
+use Rattle.scheme.specs.Scheme
+use Rattle.scheme.specs.Scheme.{scheme}
 use Rattle.places.specs.Transitions.{releases, copies, calling, ofNode}
 use Rattle.builder.specs.Inner.Writing.{Inside}
 use Rattle.places.specs.Inner.Plan.{today, argumentName}
@@ -26,9 +26,9 @@ use Rattle.builder.proofs.chain.on.Reads as on-reads
 use Rattle.builder.proofs.chain.release_all.Reads as release-all-reads
 use Rattle.builder.proofs.write.go.Reads as go-reads
 use Rattle.lists.proofs.word32.Reads as word32-reads
-use Rattle.table.proofs.fields.field3.Reads as field3-reads
-use Rattle.table.proofs.fields.field4.Reads as field4-reads
-use Rattle.table.proofs.index.held_names.Reads as held-names-reads
+use Rattle.scheme.proofs.fields.field3.Reads as field3-reads
+use Rattle.scheme.proofs.fields.field4.Reads as field4-reads
+use Rattle.scheme.proofs.index.held_names.Reads as held-names-reads
 
 -- the words of the Call, before its formals and arguments are read
 called : (c : tie.After-field42)

@@ -4,8 +4,8 @@ use mathlib.Core.Logic.{⊎-elim}
 use Prim.Native.Nat.{_+_, _-_, _≤_, _<_}
 use native.Mathlib.Omega.{arith}
 use lib.ListN.{length}
-use Rattle.table.specs.Words.{publics, names}
-use Rattle.table.specs.Scheme.{scheme}
+use Rattle.scheme.specs.Words.{publics, names}
+use Rattle.scheme.specs.Scheme.{scheme}
 use Rattle.places.specs.Inner.Arcs.{numbersOf}
 use Rattle.places.specs.Inner.Plan.{today, Differs}
 use Rattle.builder.specs.Inner.Parts.{Filled}
@@ -17,7 +17,7 @@ use Rattle.builder.proofs.nodes.differences.Statement.{statement}
 use Rattle.builder.proofs.nodes.differences.Tie as tie
 use Rattle.builder.proofs.insertion.insert.Reads as insert-reads
 use Rattle.builder.proofs.layout.differs.Reads as differs-reads
-use Rattle.table.proofs.fields.name_kind.Reads as name-kind-reads
+use Rattle.scheme.proofs.fields.name_kind.Reads as name-kind-reads
 
 abbrev Inv-loop : tie.InvT-loop
 Inv-loop table rows plan list₀ v end count₀ x₀ list count x =

@@ -4,8 +4,8 @@ use mathlib.Core.List.{List, _∷_}
 use Prim.Native.Nat.{ℕ}
 use native.Mathlib.Omega.{arith}
 use lib.ListN.{take}
-use Rattle.table.specs.Words.{nodeFirst, nodeSecond}
-use Rattle.table.specs.Scheme.{scheme}
+use Rattle.scheme.specs.Words.{nodeFirst, nodeSecond}
+use Rattle.scheme.specs.Scheme.{scheme}
 use Rattle.places.specs.Places.{Place, equals, free, control}
 use Rattle.places.specs.Inner.Arcs.{allDiffer}
 use Rattle.places.specs.Inner.Plan.{Holds}

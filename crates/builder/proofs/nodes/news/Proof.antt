@@ -7,7 +7,7 @@ use lib.ListN.{length, drop}
 use Rattle.lists.specs.Lists
 use Rattle.lists.specs.Lists.{word}
 use Rattle.lists.proofs.Ranges.{from-length, from-getD}
-use Rattle.table.specs.Words.{publics, bounds, nodeSecond}
+use Rattle.scheme.specs.Words.{publics, bounds, nodeSecond}
 use Rattle.builder.specs.Inner.Parts.{put, state, ofTable, made}
 use Rattle.builder.proofs.Chains.{state-length}
 use Rattle.builder.proofs.ValueLoops.{map-done, map-inside, map-more}
@@ -17,7 +17,7 @@ use Rattle.builder.proofs.nodes.news.Statement.{statement}
 use Rattle.builder.proofs.nodes.news.Tie as tie
 use Rattle.builder.proofs.nodes.make.Reads as make-reads
 use Rattle.lists.proofs.word32.Reads as word32-reads
-use Rattle.table.proofs.fields.field3.Reads as field3-reads
+use Rattle.scheme.proofs.fields.field3.Reads as field3-reads
 
 abbrev Inv-loop : tie.InvT-loop
 Inv-loop table rows spots plan out₀ n from to q₀ k₀ out q k =

@@ -2,7 +2,7 @@
 use mathlib.Core.Path.{sym, ap, subst, _∙_}
 use native.Mathlib.Omega.{arith}
 use Rattle.lists.proofs.Tests.{same-yes}
-use Rattle.table.specs.Words.{nodeKind}
+use Rattle.scheme.specs.Words.{nodeKind}
 use Rattle.builder.specs.Inner.Writing.{Inside}
 use Rattle.builder.specs.Inner.Parts.{put}
 use Rattle.places.proofs.ByWords.{other-call, choice-inside}
@@ -14,7 +14,7 @@ use Rattle.builder.proofs.nodes.call.Reads as call-reads
 use Rattle.builder.proofs.nodes.news.Reads as news-reads
 use Rattle.builder.proofs.nodes.silents.Reads as silents-reads
 use Rattle.builder.proofs.nodes.stop.Reads as stop-reads
-use Rattle.table.proofs.fields.field3.Reads as field3-reads
+use Rattle.scheme.proofs.fields.field3.Reads as field3-reads
 
 field3-requires : tie.Need-field3-requires
 field3-requires c κs = search needs

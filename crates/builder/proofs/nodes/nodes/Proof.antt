@@ -5,7 +5,7 @@ use native.Mathlib.Omega.{arith}
 use lib.ListN.{length}
 use Rattle.lists.specs.Lists.{from, range, flat}
 use Rattle.lists.proofs.Ranges.{flat-start, flat-more, flat-done}
-use Rattle.table.specs.Words
+use Rattle.scheme.specs.Words
 use Rattle.builder.specs.Inner.Parts.{put, state, ofTable}
 use Rattle.builder.proofs.Writing.{put-none}
 use Rattle.builder.proofs.Chains.{state-length}

@@ -8,8 +8,8 @@ use lib.ListN.{length}
 use Rattle.lists.specs.Lists
 use Rattle.lists.specs.Lists.{flat}
 use Rattle.lists.proofs.Ranges.{flat-more, flat-done}
-use Rattle.table.specs.Words.{branches, next}
-use Rattle.table.specs.Scheme.{scheme}
+use Rattle.scheme.specs.Words.{branches, next}
+use Rattle.scheme.specs.Scheme.{scheme}
 use Rattle.places.specs.Transitions.{silents, going}
 use Rattle.builder.specs.Inner.Writing.{Inside}
 use Rattle.places.specs.Inner.Plan.{today}
@@ -24,7 +24,7 @@ use Rattle.builder.proofs.nodes.silents.Statement.{statement}
 use Rattle.builder.proofs.nodes.silents.Tie as tie
 use Rattle.builder.proofs.write.go.Reads as go-reads
 use Rattle.lists.proofs.word32.Reads as word32-reads
-use Rattle.table.proofs.fields.field4.Reads as field4-reads
+use Rattle.scheme.proofs.fields.field4.Reads as field4-reads
 
 abbrev Inv-loop : tie.InvT-loop
 Inv-loop table spots out₀ n first end from q₀ b₀ out q b =

@@ -3,7 +3,7 @@ use mathlib.Core.Path.{sym, ap, subst, _∙_}
 use mathlib.Core.List.{List}
 use Prim.Native.Nat.{ℕ}
 use native.Mathlib.Omega.{arith}
-use Rattle.table.specs.Scheme.{scheme}
+use Rattle.scheme.specs.Scheme.{scheme}
 use Rattle.places.specs.Transitions.{releases}
 use Rattle.builder.specs.Inner.Writing.{Inside}
 use Rattle.places.specs.Inner.Plan.{today}
@@ -15,7 +15,7 @@ use Rattle.builder.proofs.nodes.stop.Statement.{statement}
 use Rattle.builder.proofs.nodes.stop.Tie as tie
 use Rattle.builder.proofs.chain.release_all.Reads as release-all-reads
 use Rattle.lists.proofs.word32.Reads as word32-reads
-use Rattle.table.proofs.index.held_names.Reads as held-names-reads
+use Rattle.scheme.proofs.index.held_names.Reads as held-names-reads
 
 cast-held-names : tie.Need-cast-held-names
 cast-held-names c = omega (

@@ -5,13 +5,13 @@ use Prim.Native.Nat.{_-_, _≤_}
 use native.Mathlib.Omega.{arith}
 use borrow.Author.Needs.{needs}
 use Rattle.lists.specs.Lists.{from}
-use Rattle.table.specs.Words.{argument}
+use Rattle.scheme.specs.Words.{argument}
 use Rattle.places.specs.Inner.Counting.{sumsOf, over, copySums}
 use Rattle.places.proofs.Adding.{copy-grows, map-few, map-on, map-done, mapped-member}
 use Rattle.places.proofs.count.all_copies.Statement.{statement}
 use Rattle.places.proofs.count.all_copies.Tie as tie
 use Rattle.places.proofs.count.copies.Reads as copies-reads
-use Rattle.table.proofs.fields.field1.Reads as field1-reads
+use Rattle.scheme.proofs.fields.field1.Reads as field1-reads
 
 abbrev Inv-loop : tie.InvT-loop
 Inv-loop table plan first end r₀ i₀ r i =

@@ -2,7 +2,7 @@
 use mathlib.Core.Path.{_≡_, refl, sym, ap, subst, _∙_}
 use Prim.Native.Nat.{ℕ, _+_, _*_}
 use native.Mathlib.Omega.{arith}
-use Rattle.table.specs.Words.{publics, bounds}
+use Rattle.scheme.specs.Words.{publics, bounds}
 use Rattle.places.specs.Inner.Counting.{Sums, Few, sumsOf, addTimes}
 use Rattle.places.proofs.Counts.{copy-public, copy-restricted, copy-free}
 use borrow.Author.Needs.{needs}

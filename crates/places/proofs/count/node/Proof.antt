@@ -6,8 +6,8 @@ use Prim.Native.Nat.{ℕ, _+_, _-_}
 use native.Mathlib.Omega.{arith}
 use borrow.Author.Needs.{needs}
 use Rattle.lists.specs.Lists.{from}
-use Rattle.table.specs.Words.{nodeKind, argumentsOf}
-use Rattle.table.specs.Owners.{held}
+use Rattle.scheme.specs.Words.{nodeKind, argumentsOf}
+use Rattle.scheme.specs.Owners.{held}
 use Rattle.places.specs.Inner.Plan.{Named}
 use Rattle.places.specs.Inner.Counting.{Few, Sums, sumsOf, addTimes, over, releaseSums, copySums, silentSums, nodeSums}
 use Rattle.places.proofs.Controls.{few-nodes}

@@ -4,7 +4,7 @@ use Prim.Native.Nat.{_-_, _<_}
 use native.Mathlib.Omega.{arith}
 use borrow.Author.Needs.{needs}
 use Rattle.lists.specs.Lists.{from, range}
-use Rattle.table.specs.Words.{nodes}
+use Rattle.scheme.specs.Words.{nodes}
 use Rattle.places.specs.Inner.Counting.{sumsOf, over, nodeSums}
 use Rattle.places.proofs.Adding.{node-grows, range-whole, range-few, range-on, range-done}
 use Rattle.places.proofs.count.of_nodes.Statement.{statement}

@@ -6,7 +6,7 @@ use native.Mathlib.Omega.{arith}
 use borrow.Author.Needs.{needs}
 use Rattle.lists.specs.Lists.{from, range}
 use Rattle.lists.proofs.Tests.{same-yes}
-use Rattle.table.specs.Words.{branches, branchKind}
+use Rattle.scheme.specs.Words.{branches, branchKind}
 use Rattle.places.specs.Inner.Counting.{Few, sumsOf, over, sendSums}
 use Rattle.places.proofs.Adding.{send-grows, range-whole, range-few, range-on, range-done}
 use Rattle.places.proofs.NodeCounts.{send-yes, send-no}
@@ -14,7 +14,7 @@ use Rattle.places.proofs.count.of_sends.Statement.{statement}
 use Rattle.places.proofs.count.of_sends.Tie as tie
 use Rattle.places.proofs.count.partners.Reads as partners-reads
 use Rattle.lists.proofs.word16.Reads as word16-reads
-use Rattle.table.proofs.fields.field4.Reads as field4-reads
+use Rattle.scheme.proofs.fields.field4.Reads as field4-reads
 
 abbrev Inv-loop : tie.InvT-loop
 Inv-loop table homes definitions plan count q₀ s₀ q s =

@@ -7,7 +7,7 @@ use native.Mathlib.Omega.{arith}
 use lib.Dec.{ltb}
 use borrow.Author.Needs.{needs}
 use Rattle.lists.specs.Lists.{pick, bit}
-use Rattle.table.specs.Words.{publics, bounds}
+use Rattle.scheme.specs.Words.{publics, bounds}
 use Rattle.places.specs.Inner.Plan.{values}
 use Rattle.places.specs.Inner.Counting.{Sums, Few, sumsOf, pairSums}
 use Rattle.places.specs.declared.layout.Layout.{Layout}
@@ -21,7 +21,7 @@ use Rattle.places.proofs.count.common.Reads as common-reads
 use Rattle.places.proofs.count.more.Reads as more-reads
 use Rattle.places.proofs.count.private_count.Reads as private-count-reads
 use Rattle.places.proofs.layout.reach_of.Reads as reach-of-reads
-use Rattle.table.proofs.fields.field4.Reads as field4-reads
+use Rattle.scheme.proofs.fields.field4.Reads as field4-reads
 
 -- ---- what is read of the send and the receive
 

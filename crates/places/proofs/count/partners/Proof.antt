@@ -5,8 +5,8 @@ use Prim.Native.Nat.{_-_, _<_}
 use native.Mathlib.Omega.{arith}
 use borrow.Author.Needs.{needs}
 use Rattle.lists.specs.Lists.{from, range}
-use Rattle.table.specs.Words.{branches}
-use Rattle.table.specs.Owners.{branchThread}
+use Rattle.scheme.specs.Words.{branches}
+use Rattle.scheme.specs.Owners.{branchThread}
 use Rattle.places.specs.Inner.Counting.{Few, sumsOf, over, partnerSums}
 use Rattle.places.proofs.Adding.{partner-grows, range-whole, range-few, range-on, range-done}
 use Rattle.places.proofs.NodeCounts.{partner-yes, partner-own, partner-no, pair-names}
@@ -15,7 +15,7 @@ use Rattle.places.proofs.count.partners.Tie as tie
 use Rattle.places.proofs.count.pair.Reads as pair-reads
 use Rattle.places.proofs.count.thread_of.Reads as thread-of-reads
 use Rattle.lists.proofs.word16.Reads as word16-reads
-use Rattle.table.proofs.fields.field4.Reads as field4-reads
+use Rattle.scheme.proofs.fields.field4.Reads as field4-reads
 
 abbrev Inv-loop : tie.InvT-loop
 Inv-loop table homes definitions plan send count own q₀ r₀ q r =

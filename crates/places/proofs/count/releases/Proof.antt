@@ -3,7 +3,7 @@ use mathlib.Core.Path.{_≡_, refl, sym, ap, subst, _∙_}
 use Prim.Native.Nat.{ℕ, _+_, _*_}
 use native.Mathlib.Omega.{arith}
 use Rattle.places.specs.Inner.Counting.{Sums, Few, sumsOf, addTimes}
-use Rattle.table.specs.Words.{publics, bounds}
+use Rattle.scheme.specs.Words.{publics, bounds}
 use Rattle.places.proofs.Counts.{release-restricted, release-free}
 use borrow.Author.Needs.{needs}
 use Rattle.places.proofs.count.releases.Statement.{statement}

@@ -10,7 +10,7 @@ use Rattle.places.proofs.Adding.{silent-grows, silent-yes, silent-no, r
 use Rattle.places.proofs.count.silents.Statement.{statement}
 use Rattle.places.proofs.count.silents.Tie as tie
 use Rattle.places.proofs.count.more.Reads as more-reads
-use Rattle.table.proofs.fields.field4.Reads as field4-reads
+use Rattle.scheme.proofs.fields.field4.Reads as field4-reads
 
 abbrev Inv-loop : tie.InvT-loop
 Inv-loop table first end r₀ b₀ r b =

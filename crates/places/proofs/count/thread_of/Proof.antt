@@ -6,7 +6,7 @@ use Rattle.places.proofs.count.thread_of.Statement.{statement}
 use Rattle.places.proofs.count.thread_of.Tie as tie
 use Rattle.lists.proofs.word16.Reads as word16-reads
 use Rattle.lists.proofs.word32.Reads as word32-reads
-use Rattle.table.proofs.fields.field4.Reads as field4-reads
+use Rattle.scheme.proofs.fields.field4.Reads as field4-reads
 
 word32-requires : tie.Need-word32-requires
 word32-requires c κs = search needs

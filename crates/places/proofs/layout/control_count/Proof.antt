@@ -2,14 +2,14 @@
 use mathlib.Core.Path.{sym, ap, _∙_}
 use native.Mathlib.Omega.{arith}
 use borrow.Author.Needs.{needs}
-use Rattle.table.specs.Words.{formalCount}
+use Rattle.scheme.specs.Words.{formalCount}
 use Rattle.places.proofs.Controls.{few-nodes}
 use Rattle.places.proofs.ByWords.{count-stop, count-call, count-one}
 use Rattle.places.proofs.layout.control_count.Statement.{statement}
 use Rattle.places.proofs.layout.control_count.Tie as tie
-use Rattle.table.proofs.fields.field3.Reads as field3-reads
-use Rattle.table.proofs.fields.field4.Reads as field4-reads
-use Rattle.table.proofs.index.held_names.Reads as held-names-reads
+use Rattle.scheme.proofs.fields.field3.Reads as field3-reads
+use Rattle.scheme.proofs.fields.field4.Reads as field4-reads
+use Rattle.scheme.proofs.index.held_names.Reads as held-names-reads
 
 field3-requires : tie.Need-field3-requires
 field3-requires c κs = search needs

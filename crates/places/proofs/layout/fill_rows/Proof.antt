@@ -4,7 +4,7 @@ use Prim.Native.Nat.{ℕ, _+_, _-_, _*_, _≤_, _<_}
 use native.Mathlib.Omega.{arith}
 use borrow.Author.Needs.{needs}
 use lib.ListN.{length, length-set}
-use Rattle.table.specs.Words.{names}
+use Rattle.scheme.specs.Words.{names}
 use Rattle.places.specs.Inner.Plan.{rowOf, RowsBelow}
 use Rattle.places.proofs.Names.{row-begins, row-goes-on, rows-end, rows-more}
 use Rattle.places.proofs.layout.fill_rows.Statement.{statement}

@@ -4,7 +4,7 @@ use Prim.Native.Nat.{_-_, _≤_}
 use native.Mathlib.Omega.{arith}
 use borrow.Author.Needs.{needs}
 use lib.ListN.{length, length-set}
-use Rattle.table.specs.Words.{nodes}
+use Rattle.scheme.specs.Words.{nodes}
 use Rattle.places.specs.Inner.Plan.{controlOf, SpotsBelow}
 use Rattle.places.proofs.Controls.{few-nodes, control-few, control-last, control-goes-on, spots-more}
 use Rattle.places.proofs.layout.fill_spots.Statement.{statement}

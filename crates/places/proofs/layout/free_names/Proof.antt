@@ -7,13 +7,13 @@ use native.Mathlib.Omega.{arith}
 use borrow.Author.Needs.{needs}
 use lib.ListN.{length}
 use Rattle.lists.specs.Lists.{from, keep}
-use Rattle.table.specs.Scheme.{scheme}
+use Rattle.scheme.specs.Scheme.{scheme}
 use Rattle.places.specs.Inner.Plan.{freeNames}
 use Rattle.places.proofs.Names.{kind-restricted, kind-free, free-start, free-more, free-skip, free-done}
 use Rattle.places.proofs.layout.free_names.Statement.{statement}
 use Rattle.places.proofs.layout.free_names.Tie as tie
 use Rattle.lists.proofs.word16.Reads as word16-reads
-use Rattle.table.proofs.fields.name_kind.Reads as name-kind-reads
+use Rattle.scheme.proofs.fields.name_kind.Reads as name-kind-reads
 
 abbrev Inv-loop : tie.InvT-loop
 Inv-loop table publics end count₀ x₀ count x = (freeNames table ≡ count + length (keep (λ y. not (scheme table .restricted y)) (from x (end - x)))) × (count + publics ≤ x) × (x ≤ end)

@@ -6,7 +6,7 @@ use borrow.Author.Needs.{needs}
 use Rattle.places.proofs.layout.is_restricted.Statement.{statement}
 use Rattle.places.proofs.layout.is_restricted.Tie as tie
 use Rattle.lists.proofs.word16.Reads as word16-reads
-use Rattle.table.proofs.fields.name_kind.Reads as name-kind-reads
+use Rattle.scheme.proofs.fields.name_kind.Reads as name-kind-reads
 
 word16-requires : tie.Need-word16-requires
 word16-requires c κs = search needs

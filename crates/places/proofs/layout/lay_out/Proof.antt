@@ -3,7 +3,7 @@ use mathlib.Core.Path.{_≡_}
 use Prim.Native.Nat.{ℕ, _*_, _≤_}
 use native.Mathlib.Omega.{arith}
 use borrow.Author.Needs.{needs}
-use Rattle.table.specs.Words.{bounds}
+use Rattle.scheme.specs.Words.{bounds}
 use Rattle.places.specs.Inner.Plan.{freeNames}
 use Rattle.places.proofs.Controls.{few-publics, few-bounds, control-begins}
 use Rattle.places.proofs.Tokens.{tokens-are, few-threads, product-few}

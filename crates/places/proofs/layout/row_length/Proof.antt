@@ -8,7 +8,7 @@ use borrow.Author.Needs.{needs}
 use Rattle.places.proofs.layout.row_length.Statement.{statement}
 use Rattle.places.proofs.layout.row_length.Tie as tie
 use Rattle.lists.proofs.word16.Reads as word16-reads
-use Rattle.table.proofs.fields.name_kind.Reads as name-kind-reads
+use Rattle.scheme.proofs.fields.name_kind.Reads as name-kind-reads
 
 name-kind-requires : tie.Need-name-kind-requires
 name-kind-requires c κs = search needs

@@ -5,7 +5,7 @@ use native.Mathlib.Omega.{arith}
 use native.Mathlib.Nat.{sub-zero}
 use Rattle.lists.specs.Lists.{same}
 use Rattle.lists.proofs.Tests.{same-yes, same-no}
-use Rattle.table.specs.Scheme.{scheme}
+use Rattle.scheme.specs.Scheme.{scheme}
 use Rattle.process.specs.StateWords.{stateOf, stateWords, sameList}
 use Rattle.process.proofs.Numbering.{numberedFrom, numbered-start, numbered-more, numbered-end, seen-grows}
 use borrow.Author.Needs.{needs}

@@ -8,8 +8,8 @@ use Rattle.lists.specs.Lists.{same, from, range, every}
 use Rattle.lists.proofs.Ranges.{every-more, every-stop, every-done}
 use Rattle.table.proofs.Parts.{from-to}
 use native.Mathlib.Nat.{sub-zero}
-use Rattle.table.specs.Scheme.{scheme}
-use Rattle.table.specs.Words.{publics, bounds, threads as threadCount}
+use Rattle.scheme.specs.Scheme.{scheme}
+use Rattle.scheme.specs.Words.{publics, bounds, threads as threadCount}
 use Rattle.process.specs.StateWords.{stateOf, nameRight}
 use borrow.Author.Needs.{needs}
 use Rattle.process.proofs.formed.names_right.Statement.{statement}

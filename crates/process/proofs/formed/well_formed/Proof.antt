@@ -7,7 +7,7 @@ use lib.ListN.{length}
 use Prim.Native.Nat.{_+_}
 use Rattle.lists.specs.Lists.{word}
 use Rattle.process.specs.StateWords.{wellFormed}
-use Rattle.table.specs.Scheme.{scheme}
+use Rattle.scheme.specs.Scheme.{scheme}
 use Rattle.lists.proofs.Tests.{same-yes, same-no}
 use Rattle.table.proofs.Accepted.{accepted}
 use borrow.Author.Needs.{needs}

@@ -3,7 +3,7 @@ use mathlib.Core.Path.{_≡_, refl, sym, ap, _∙_}
 use native.Mathlib.Omega.{arith}
 use borrow.Author.Tests.{lt-ltb, le-ltb, lt-leb, le-leb, eq-eqb, ne-eqb, not-true, not-false}
 use Rattle.lists.proofs.Tests.{same-yes, same-no}
-use Rattle.table.specs.Scheme.{scheme}
+use Rattle.scheme.specs.Scheme.{scheme}
 use Rattle.process.proofs.Decoding.{silent-there, silent-at}
 use Rattle.process.proofs.Labelling.{no-silent}
 use borrow.Author.Needs.{needs}

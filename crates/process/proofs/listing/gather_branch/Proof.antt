@@ -2,7 +2,7 @@
 -- `cN` is the place N steps before `c`.
 use mathlib.Core.Path.{sym, _∙_}
 use borrow.Author.Tests.{not-true, not-false}
-use Rattle.table.specs.Scheme.{scheme}
+use Rattle.scheme.specs.Scheme.{scheme}
 use Rattle.process.specs.StateWords.{stateOf}
 use Rattle.process.proofs.Decoding.{home-same}
 use Rattle.process.proofs.Labelling.{stand-there}

@@ -2,7 +2,7 @@
 -- `cN` is the place N steps before `c`.
 use native.Mathlib.Omega.{arith}
 use lib.Seq.{slice}
-use Rattle.table.specs.Scheme.{scheme}
+use Rattle.scheme.specs.Scheme.{scheme}
 use Rattle.process.specs.StateWords.{stateOf}
 use Rattle.process.proofs.Listed.{listed-append, all-are}
 use borrow.Author.Needs.{needs}

@@ -1,7 +1,7 @@
 -- `process::listing::list_branch` meets its contract.
 -- `cN` is the place N steps before `c`.
 use mathlib.Core.Path.{sym, _∙_}
-use Rattle.table.specs.Scheme.{scheme}
+use Rattle.scheme.specs.Scheme.{scheme}
 use Rattle.process.proofs.Decoding.{silent-there}
 use Rattle.process.proofs.Listed.{none-listed, silent-yes, silent-no}
 use borrow.Author.Needs.{needs}

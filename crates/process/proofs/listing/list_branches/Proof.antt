@@ -5,7 +5,7 @@ use Prim.Native.Nat.{_+_, _-_, _*_, _≤_}
 use native.Mathlib.Omega.{arith}
 use Rattle.lists.specs.Lists.{from, flat}
 use Rattle.lists.proofs.Ranges.{flat-more, flat-done}
-use Rattle.table.specs.Scheme.{scheme}
+use Rattle.scheme.specs.Scheme.{scheme}
 use Rattle.process.specs.Inner.Listed.{silentWords}
 use Rattle.process.proofs.Listed.{Left, left-start, left-more, left-end}
 use Rattle.process.proofs.listing.list_branches.Statement.{statement}

@@ -4,7 +4,7 @@ use Prim.Native.Nat.{_+_, _-_, _*_, _≤_}
 use native.Mathlib.Omega.{arith}
 use lib.Seq.{slice}
 use Rattle.lists.specs.Lists.{flat}
-use Rattle.table.specs.Scheme.{scheme}
+use Rattle.scheme.specs.Scheme.{scheme}
 use Rattle.process.specs.StateWords.{stateOf}
 use Rattle.process.specs.Inner.Listed.{pairsWords, meetingWords}
 use Rattle.process.proofs.Listed.{Left, left-start, left-more, left-end, slice-more, slice-done, meetings-are}

@@ -1,7 +1,7 @@
 -- `process::listing::list_node` meets its contract.
 -- `cN` is the place N steps before `c`.
 use mathlib.Core.Path.{sym, _∙_}
-use Rattle.table.specs.Scheme.{scheme}
+use Rattle.scheme.specs.Scheme.{scheme}
 use Rattle.process.specs.StateWords.{stateOf}
 use Rattle.process.proofs.Listed.{none-listed, node-yes, node-no}
 use borrow.Author.Needs.{needs}

@@ -5,8 +5,8 @@ use native.Mathlib.Omega.{arith}
 use native.Mathlib.Nat.{sub-zero}
 use Rattle.lists.specs.Lists.{from, range, flat}
 use Rattle.lists.proofs.Ranges.{flat-more, flat-done}
-use Rattle.table.specs.Words.{nodes as nodeCount}
-use Rattle.table.specs.Scheme.{scheme}
+use Rattle.scheme.specs.Words.{nodes as nodeCount}
+use Rattle.scheme.specs.Scheme.{scheme}
 use Rattle.process.specs.StateWords.{stateOf}
 use Rattle.process.specs.Inner.Listed.{nodeWords}
 use Rattle.process.proofs.Listed.{Left, left-start, left-more, left-end}

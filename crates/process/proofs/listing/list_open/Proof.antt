@@ -1,7 +1,7 @@
 -- `process::listing::list_open` meets its contract: what is gathered and listed is what is open.
 -- `cN` is the place N steps before `c`.
 use mathlib.Core.Path.{refl}
-use Rattle.table.specs.Scheme.{scheme}
+use Rattle.scheme.specs.Scheme.{scheme}
 use Rattle.process.specs.StateWords.{stateOf}
 use Rattle.process.proofs.Fitted.{gathered-there, opened-words, fitted-short, fitted-full}
 use borrow.Author.Needs.{needs}

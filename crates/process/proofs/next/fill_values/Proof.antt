@@ -6,8 +6,8 @@ use mathlib.Core.List.{List, [], map}
 use lib.ListN.{length, length-set}
 use lib.Seq.{slice}
 use Rattle.lists.specs.Lists.{from}
-use Rattle.table.specs.Words.{bounds as boundCount}
-use Rattle.table.specs.Scheme.{scheme}
+use Rattle.scheme.specs.Words.{bounds as boundCount}
+use Rattle.scheme.specs.Scheme.{scheme}
 use Rattle.process.specs.Steps.{take}
 use Rattle.process.specs.StateWords.{stateOf}
 use Rattle.process.specs.Inner.Codes.{meant}

@@ -7,8 +7,8 @@ use native.Mathlib.Nat.{sub-zero}
 use lib.ListN.{length, length-set}
 use lib.Seq.{sets}
 use Rattle.lists.specs.Lists.{from, range}
-use Rattle.table.specs.Words.{threads as threadCount}
-use Rattle.table.specs.Scheme.{scheme}
+use Rattle.scheme.specs.Words.{threads as threadCount}
+use Rattle.scheme.specs.Scheme.{scheme}
 use Rattle.process.specs.Steps.{take}
 use Rattle.process.specs.StateWords.{stateOf}
 use Rattle.process.specs.Inner.Codes.{meant}

@@ -4,7 +4,7 @@ use Prim.Native.Nat.{ℕ, _+_, _-_, _≤_, _<_}
 use native.Mathlib.Omega.{arith}
 use lib.ListN.{length}
 use Rattle.lists.specs.Lists.{from, flat}
-use Rattle.table.specs.Scheme.{scheme}
+use Rattle.scheme.specs.Scheme.{scheme}
 use Rattle.net.specs.Firing.{put}
 use Rattle.readback.specs.Configurations.{heldHere}
 use Rattle.readback.specs.Inner.Showing.{spotAt}

@@ -7,8 +7,8 @@ use borrow.Author.Tests.{not-true, not-false}
 use lib.ListN.{length}
 use Rattle.lists.specs.Lists.{pick, bit, same, word, from, range, every, keep}
 use Rattle.lists.proofs.Ranges.{every-more, every-stop, every-done}
-use Rattle.table.specs.Words.{names}
-use Rattle.table.specs.Scheme.{scheme}
+use Rattle.scheme.specs.Words.{names}
+use Rattle.scheme.specs.Scheme.{scheme}
 use Rattle.readback.specs.Inner.Standing.{opposedFor, opposedAll}
 use Rattle.readback.proofs.Valuing.{opposed-start, is-name, end-few}
 use borrow.Author.Needs.{needs}

@@ -6,7 +6,7 @@ use native.Mathlib.Omega.{arith}
 use lib.ListN.{length, length-set}
 use lib.Seq.{slice}
 use Rattle.lists.specs.Lists.{from}
-use Rattle.table.specs.Words.{bounds as boundCount}
+use Rattle.scheme.specs.Words.{bounds as boundCount}
 use Rattle.process.specs.Inner.Values.{valueAt}
 use Rattle.process.proofs.Numbering.{fill-none, fill-more}
 use Rattle.readback.proofs.Showing.{shownValue, few-bounds}

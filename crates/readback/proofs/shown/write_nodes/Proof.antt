@@ -7,7 +7,7 @@ use native.Mathlib.Omega.{arith}
 use lib.ListN.{length, length-set}
 use lib.Seq.{sets}
 use Rattle.lists.specs.Lists.{from, range}
-use Rattle.table.specs.Words.{threads as threadCount}
+use Rattle.scheme.specs.Words.{threads as threadCount}
 use Rattle.process.proofs.Sets.{sets-map-more, sets-map-done}
 use Rattle.readback.proofs.Showing.{shownNode}
 use borrow.Author.Needs.{needs}

@@ -5,7 +5,7 @@ use native.Mathlib.Omega.{arith}
 use borrow.Author.Tests.{not-true, not-false}
 use Rattle.lists.specs.Lists.{same, word, bit, from, every}
 use Rattle.lists.proofs.Ranges.{every-more, every-stop, every-done}
-use Rattle.table.specs.Words.{nameKind}
+use Rattle.scheme.specs.Words.{nameKind}
 use borrow.Author.Needs.{needs}
 use Rattle.table.proofs.binding.all_counts_right.Statement.{statement}
 use Rattle.table.proofs.binding.all_counts_right.Tie as tie

@@ -2,7 +2,7 @@
 use mathlib.Core.Path.{refl, sym}
 use borrow.Author.Tests.{not-true, not-false}
 use Rattle.table.specs.Causes.{bindingRight}
-use Rattle.table.specs.declared.spans.Source.the-variants.{NewNames, ReceivedNames, Formals}
+use Rattle.scheme.specs.declared.spans.Source.the-variants.{NewNames, ReceivedNames, Formals}
 use Rattle.table.proofs.SpanLists.{new-names-spans, received-spans, formals-spans}
 use Rattle.table.proofs.Parts.{bound-part}
 use borrow.Author.Needs.{needs}

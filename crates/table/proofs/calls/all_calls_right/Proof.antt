@@ -5,7 +5,7 @@ use native.Mathlib.Omega.{arith}
 use borrow.Author.Tests.{not-true, not-false}
 use Rattle.lists.specs.Lists.{word, from, range, every}
 use Rattle.lists.proofs.Ranges.{every-start, every-more, every-stop, every-done}
-use Rattle.table.specs.Words.{nodes}
+use Rattle.scheme.specs.Words.{nodes}
 use Rattle.table.specs.Causes.{callRightIn}
 use borrow.Author.Needs.{needs}
 use Rattle.table.proofs.calls.all_calls_right.Statement.{statement}

@@ -8,12 +8,12 @@ use lib.ListN.{length, length-map}
 use borrow.Author.Tests.{not-true, not-false}
 use Rattle.lists.specs.Lists.{word, range, every, member}
 use Rattle.lists.proofs.Ranges.{every-same, from-member, from-length}
-use Rattle.table.specs.Words.{definitions, nodes, branches}
-use Rattle.table.specs.Owners.{owner, home, definition}
+use Rattle.scheme.specs.Words.{definitions, nodes, branches}
+use Rattle.scheme.specs.Owners.{owner, home, definition}
 use Rattle.table.specs.Causes.{callRightIn, callRight, callsRight}
-use Rattle.table.specs.Index.{ownerNumber, FirstDefinitions}
+use Rattle.scheme.specs.Index.{ownerNumber, FirstDefinitions}
 use Rattle.table.specs.declared.tests.Item.the-variants.{EntryRight}
-use Rattle.table.proofs.Indexed.{definition-indexed}
+use Rattle.scheme.proofs.Indexed.{definition-indexed}
 use Rattle.table.proofs.Parts.{part}
 use borrow.Author.Needs.{needs}
 use Rattle.table.proofs.calls.calls_right.Statement.{statement}

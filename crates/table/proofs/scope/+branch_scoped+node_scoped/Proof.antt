@@ -8,7 +8,7 @@ use borrow.Author.Needs.{needs}
 use borrow.Author.Tests.{not-true, not-false}
 use Rattle.lists.specs.Lists.{from, every}
 use Rattle.lists.proofs.Ranges.{every-more, every-stop, every-done}
-use Rattle.table.specs.Words.{nodes}
+use Rattle.scheme.specs.Words.{nodes}
 use Rattle.table.specs.Inner.Scope.{branchBodyScoped}
 use Rattle.table.proofs.Walk.{next-inside, same-held, more-held, silent-body, unheard-body, receive-body, unsent-body, send-body, child-inside, child-held, child-body, arguments-small, call-body, stop-body, choice-body, branch-of}
 use Prim.Native.Nat.{ℕ, _<_}
@@ -21,10 +21,10 @@ use Rattle.table.proofs.scope.node_scoped.Reads as node-scoped
 use Rattle.table.proofs.scope.node_scoped.Kinds as node-scoped-kinds
 use Rattle.table.proofs.scope.+branch_scoped+node_scoped.Lts-node_scoped as node-scoped-lts
 use Rattle.lists.proofs.word8.Reads as word8-reads
-use Rattle.table.proofs.fields.field3.Reads as field3-reads
-use Rattle.table.proofs.fields.field4.Reads as field4-reads
+use Rattle.scheme.proofs.fields.field3.Reads as field3-reads
+use Rattle.scheme.proofs.fields.field4.Reads as field4-reads
 use Rattle.table.proofs.scope.arguments_held.Reads as arguments-held-reads
-use Rattle.table.proofs.spans.tally.Reads as tally-reads
+use Rattle.scheme.proofs.spans.tally.Reads as tally-reads
 use Rattle.table.proofs.scope.+branch_scoped+node_scoped.{statement}
 use Rattle.table.proofs.scope.+branch_scoped+node_scoped.Tie.{close}
 

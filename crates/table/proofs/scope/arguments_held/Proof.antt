@@ -4,7 +4,7 @@ use Prim.Native.Nat.{ℕ, _+_, _-_, _*_, _≤_, _<_}
 use native.Mathlib.Omega.{arith}
 use Rattle.lists.specs.Lists.{from, every}
 use Rattle.lists.proofs.Ranges.{every-more, every-stop, every-done}
-use Rattle.table.specs.Words.{argument}
+use Rattle.scheme.specs.Words.{argument}
 use Rattle.table.specs.Causes.{usable}
 use Rattle.table.proofs.Walk.{unheld, holds}
 use borrow.Author.Needs.{needs}

@@ -5,7 +5,7 @@ use native.Mathlib.Omega.{arith}
 use borrow.Author.Tests.{not-true, not-false}
 use Rattle.lists.specs.Lists.{from, range, every}
 use Rattle.lists.proofs.Ranges.{every-start, every-more, every-stop, every-done}
-use Rattle.table.specs.Words.{definitions, root}
+use Rattle.scheme.specs.Words.{definitions, root}
 use Rattle.table.specs.Inner.Scope.{bodyScoped}
 use Rattle.table.proofs.Bodies.{scope-bodies}
 use borrow.Author.Needs.{needs}

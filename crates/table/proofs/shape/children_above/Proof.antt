@@ -6,7 +6,7 @@ use native.Mathlib.Omega.{arith}
 use lib.Dec.{ltb}
 use borrow.Author.Tests.{eq-eqb, ne-eqb}
 use Rattle.lists.specs.Lists.{same, from, every}
-use Rattle.table.specs.Words.{branchesOf, next}
+use Rattle.scheme.specs.Words.{branchesOf, next}
 use Rattle.table.specs.Causes.{childrenAbove}
 use borrow.Author.Needs.{needs}
 use Rattle.table.proofs.shape.children_above.Statement.{statement}

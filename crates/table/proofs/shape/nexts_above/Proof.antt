@@ -6,7 +6,7 @@ use lib.Dec.{ltb}
 use borrow.Author.Tests.{lt-ltb, le-ltb}
 use Rattle.lists.specs.Lists.{from, every}
 use Rattle.lists.proofs.Ranges.{every-more, every-stop, every-done}
-use Rattle.table.specs.Words.{next}
+use Rattle.scheme.specs.Words.{next}
 use borrow.Author.Needs.{needs}
 use Rattle.table.proofs.shape.nexts_above.Statement.{statement}
 use Rattle.table.proofs.shape.nexts_above.Tie as tie

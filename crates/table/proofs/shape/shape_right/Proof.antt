@@ -5,8 +5,9 @@ use mathlib.Core.List.{List}
 use Prim.Native.Nat.{ℕ}
 use borrow.Author.Tests.{not-true, not-false}
 use Rattle.lists.specs.Lists.{range}
-use Rattle.table.specs.Words.{nodes, branches, arguments, nodeFirst, nodeSecond}
-use Rattle.table.specs.Causes.{consecutive, branchCount, argumentCount, shapeRight}
+use Rattle.scheme.specs.Words.{nodes, branches, arguments, nodeFirst, nodeSecond}
+use Rattle.table.specs.Causes.{consecutive, shapeRight}
+use Rattle.scheme.specs.Words.{branchCount, argumentCount}
 use Rattle.table.specs.declared.tests.Item.the-variants.{ChildrenAbove}
 use Rattle.table.proofs.Parts.{part}
 use borrow.Author.Needs.{needs}

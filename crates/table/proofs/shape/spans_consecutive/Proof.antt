@@ -4,9 +4,9 @@ use Prim.Native.Nat.{ℕ, _+_, _-_, _*_, _≤_, _<_}
 use native.Mathlib.Omega.{arith}
 use Rattle.lists.specs.Lists.{same, from, range}
 use Rattle.lists.proofs.Ranges.{from-whole}
-use Rattle.table.specs.Words.{nodes}
+use Rattle.scheme.specs.Words.{nodes}
 use Rattle.table.specs.Causes.{consecutive}
-use Rattle.table.specs.Inner.Spans.{spanFirst, spanCount}
+use Rattle.scheme.specs.Inner.Spans.{spanFirst, spanCount}
 use Rattle.table.proofs.SpanLists.{skip-empty, take-range, break-range, end-ranges}
 use borrow.Author.Needs.{needs}
 use Rattle.table.proofs.shape.spans_consecutive.Statement.{statement}

@@ -1,0 +1,5 @@
+pub mod Climb
+pub mod Tally
+pub mod SpanLists
+pub mod Scatter
+pub mod Indexed

@@ -1,0 +1,2 @@
+-- Definitions for promises of functions that a user of the library need not call.
+pub mod Spans

@@ -1,0 +1,6 @@
+pub mod Words
+pub mod Owners
+pub mod Scheme
+pub mod Kinds
+pub mod Index
+pub mod Inner
