@@ -40,5 +40,5 @@ cases =
     case tableStop 0 ∷ case (set tableStop 18 3) 9 ∷ []
 
 pub right : every (λ c. same (Causes.cause (c .table)) (c .answer)) cases ≡ true
-unfolding same from every flat member times firstFrom formals branchesOf argumentsOf home owner pickOwner heldBy definitionBy held definition Causes.cause Causes.firstFailed Causes.longEnough Causes.countsRight Causes.layoutRight Causes.nameKindRight Causes.formalsZero Causes.callZero Causes.nodeKindRight Causes.branchKindRight Causes.kindsRight Causes.formalsInside Causes.definitionInside Causes.entryInside Causes.nodeInside Causes.branchInside Causes.argumentInside Causes.rangesRight Causes.rootNodes Causes.newChildren Causes.nextNodes Causes.ownedOnce Causes.childrenAbove Causes.consecutive Causes.shapeRight Causes.newNames Causes.receivedNames Causes.formalNames Causes.boundRight Causes.bindingRight Causes.usable Causes.branchScoped Causes.nodeScoped Causes.scopeRight Causes.entryRight Causes.callRightIn Causes.callRight Causes.callsRight
+unfolding same from every flat member times firstFrom formals branchesOf argumentsOf home owner pickOwner heldBy definitionBy held definition Causes.cause Causes.causeSparing Causes.firstFailed Causes.longEnough Causes.countsRight Causes.layoutRight Causes.nameKindRight Causes.formalsZero Causes.callZero Causes.nodeKindRight Causes.branchKindRight Causes.kindsRight Causes.formalsInside Causes.definitionInside Causes.entryInside Causes.nodeInside Causes.branchInside Causes.argumentInside Causes.rangesRight Causes.rootNodes Causes.newChildren Causes.nextNodes Causes.ownedOnce Causes.childrenAbove Causes.consecutive Causes.shapeRight Causes.newNames Causes.receivedNames Causes.formalNames Causes.boundRight Causes.bindingRight Causes.usable Causes.branchScoped Causes.nodeScoped Causes.scopeRight Causes.entryRight Causes.callRightIn Causes.callRight Causes.callsRight
 right = refl

@@ -5,7 +5,7 @@ use mathlib.Core.List.{List, [], _∷_}
 use Prim.Native.Nat.{ℕ, _≤_}
 use native.Mathlib.Omega.{arith}
 use Rattle.lists.specs.Lists.{pick}
-use Rattle.table.specs.Causes.{longEnough, countsRight, layoutRight, kindsRight, rangesRight, shapeRight, bindingRight, scopeRight, callsRight, firstFailed, tests, cause}
+use Rattle.table.specs.Causes.{longEnough, countsRight, layoutRight, kindsRight, rangesRight, shapeRight, bindingRight, scopeRight, callsRight, firstFailed, tests, causeSparing, cause}
 
 pub record Passed (w : List ℕ) : Type 0 where
   pub long : longEnough w ≡ true
@@ -16,7 +16,7 @@ pub record Passed (w : List ℕ) : Type 0 where
   pub shape : shapeRight w ≡ true
   pub binding : bindingRight w ≡ true
   pub scope : scopeRight w ≡ true
-  pub calls : callsRight w ≡ true
+  pub calls : callsRight w false ≡ true
 
 -- the causes have numbers from 1 on
 abbrev Numbered : List (ℕ × Bool) → Type 0
@@ -40,11 +40,11 @@ none-failed (t ∷ ts) n h =
 
 -- in whatever order the tests stand
 pub passed : (w : List ℕ) → cause w ≡ 0 → Passed w
-unfolding cause
+unfolding cause causeSparing
 passed w h =
-    let l : Numbered (tests w) =
+    let l : Numbered (tests w false) =
     (omega arith, (omega arith, (omega arith, (omega arith, (omega arith, (omega arith, (omega arith, (omega arith, (omega arith, tt))))))))) in
-    let t = none-failed (tests w) l h in
+    let t = none-failed (tests w false) l h in
     let t1 = t .0 in
     let t2 = t .1 .0 in
     let t3 = t .1 .1 .0 in

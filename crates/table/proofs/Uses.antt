@@ -54,10 +54,10 @@ module _ (w : List ℕ) (h : scopeRight w ≡ true) where
   sent-usable n b c k =
       may-use w n (branchName w b) (rw (Inside.send-not-receive w b k) at (loud-scoped n b c (Inside.send-not-silent w b k) .1))
 
-module _ (w : List ℕ) (h : callsRight w ≡ true) where
-  parts : (every (entryRight w) (range (threads w)) ≡ true) × (every (callRight w) (range (nodes w)) ≡ true)
+module _ (w : List ℕ) (h : callsRight w false ≡ true) where
+  parts : (every (entryRight w) (range (threads w)) ≡ true) × (every (callRight w false) (range (nodes w)) ≡ true)
   unfolding callsRight
-  parts = and-both (every (entryRight w) (range (threads w))) (every (callRight w) (range (nodes w))) h
+  parts = and-both (every (entryRight w) (range (threads w))) (every (callRight w false) (range (nodes w))) h
 
   pub entry-own : (t : ℕ) → t < threads w → (definitionThread w (entry w t) ≡ t) × (formalCount w (entry w t) ≡ 0)
   unfolding entryRight
@@ -73,7 +73,7 @@ module _ (w : List ℕ) (h : callsRight w ≡ true) where
   call-own n l k =
       let e =
       and-both (same (definitionThread w (nodeFirst w n)) (thread w n)) (not (same (nodeFirst w n) (definition w n)))
-      (rw k at (every-below (callRight w) (nodes w) (parts .1) n l))
+      (rw k at (every-below (callRight w false) (nodes w) (parts .1) n l))
       in (
         same-true (definitionThread w (nodeFirst w n)) (thread w n) (e .0),
         same-false (nodeFirst w n) (definition w n) (not-true (same (nodeFirst w n) (definition w n)) (e .1)),

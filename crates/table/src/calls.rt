@@ -1,4 +1,5 @@
-// Cause 9: entries of their own thread without formals, calls that stay in the thread and leave the definition.
+// Cause 9: entries of their own thread without formals, calls that stay in the thread and leave the definition unless
+// self-calls are spared.
 ghost use mathlib.Core.Path.{_≡_};
 ghost use Prim.Native.Nat.{_≤_};
 ghost use Rattle.scheme.specs.Words.{definitions, nodes, branches};
@@ -24,9 +25,9 @@ pub(crate) fn entry_right(table: &[u16], thread: usize) -> bool
     field4(table, 8, definition, 3) == 0
 }
 
-// Whether a node that is a Call of the definition `own` stays in the thread and leaves the definition.
-fn call_right(table: &[u16], node: usize, own: usize) -> bool
-    ensures { λ r. ⌜ r ≡ callRightIn (now (table .entry)) own node ⌝ }
+// Whether a node that is a Call of the definition `own` stays in the thread, and leaves the definition or is spared.
+fn call_right(table: &[u16], node: usize, own: usize, spared: bool) -> bool
+    ensures { λ r. ⌜ r ≡ callRightIn (now (table .entry)) spared own node ⌝ }
 {
     if field3(table, 10, node, 0) != 3 {
         return true;
@@ -35,18 +36,21 @@ fn call_right(table: &[u16], node: usize, own: usize) -> bool
     if field4(table, 8, called, 0) != field4(table, 8, own, 0) {
         return false;
     }
+    if spared {
+        return true;
+    }
     called != own
 }
 
 // Whether every Call is right, with the definition of each node at hand.
-fn all_calls_right(table: &[u16], definitions: &[u16]) -> bool
-    ensures { λ r. ⌜ r ≡ every (λ n. callRightIn (now (table .entry)) (word (now (definitions .entry)) n) n)
+fn all_calls_right(table: &[u16], definitions: &[u16], spared: bool) -> bool
+    ensures { λ r. ⌜ r ≡ every (λ n. callRightIn (now (table .entry)) spared (word (now (definitions .entry)) n) n)
         (range (nodes (now (table .entry)))) ⌝ }
 {
     let count = word16(table, 4);
     let mut n = 0;
     while n < count {
-        if !call_right(table, n, word16(definitions, n)) {
+        if !call_right(table, n, word16(definitions, n), spared) {
             return false;
         }
         n += 1;
@@ -54,9 +58,9 @@ fn all_calls_right(table: &[u16], definitions: &[u16]) -> bool
     true
 }
 
-pub(crate) fn calls_right(table: &[u16]) -> bool
+pub(crate) fn calls_right(table: &[u16], spared: bool) -> bool
     requires { ⌜ (nodes (now table) ≤ 256) × (branches (now table) ≤ 256) × (definitions (now table) ≤ 32) ⌝ }
-    ensures { λ r. ⌜ r ≡ callsRight (now (table .entry)) ⌝ }
+    ensures { λ r. ⌜ r ≡ callsRight (now (table .entry)) spared ⌝ }
 {
     if !all_pass(table, Item::EntryRight, 0, word16(table, 3)) {
         return false;
@@ -67,5 +71,5 @@ pub(crate) fn calls_right(table: &[u16]) -> bool
     owners(table, &mut owner);
     homes(table, &mut home);
     first_definitions(&owner, &home, word16(table, 4), &mut definition);
-    all_calls_right(table, &definition)
+    all_calls_right(table, &definition, spared)
 }

@@ -11,7 +11,7 @@ ghost use mathlib.Core.Path.{_≡_};
 ghost use Prim.Native.Nat.{_<_};
 ghost use Rattle.lists.specs.Lists.{same};
 ghost use Rattle.table.specs.Answer.{causeOf};
-ghost use Rattle.table.specs.Causes.{cause, countsRight, layoutRight};
+ghost use Rattle.table.specs.Causes.{cause, causeSparing, countsRight, layoutRight};
 use lists::word16;
 
 // What a table is refused for, or that it is accepted.
@@ -31,6 +31,13 @@ pub enum Verdict {
 // The first cause, in number order, that applies to the words.
 pub fn check(table: &[u16]) -> Verdict
     ensures { λ r. ⌜ causeOf r ≡ cause (now (table .entry)) ⌝ }
+{
+    check_sparing(table, false)
+}
+
+// The same, with self-calls spared or not.
+pub fn check_sparing(table: &[u16], spared: bool) -> Verdict
+    ensures { λ r. ⌜ causeOf r ≡ causeSparing (now (table .entry)) spared ⌝ }
 {
     if table.len() < 13 {
         return Verdict::Short;
@@ -56,7 +63,7 @@ pub fn check(table: &[u16]) -> Verdict
     if !scope::scope_right(table) {
         return Verdict::Scope;
     }
-    if !calls::calls_right(table) {
+    if !calls::calls_right(table, spared) {
         return Verdict::Calls;
     }
     Verdict::Accepted

@@ -12,10 +12,10 @@ use Rattle.table.proofs.calls.all_calls_right.Statement.{statement}
 use Rattle.table.proofs.calls.all_calls_right.Tie as tie
 
 abbrev Inv-loop : tie.InvT-loop
-Inv-loop table definitions count n₀ n = (count ≡ nodes table) × (every (λ k. callRightIn table (word definitions k) k) (range count) ≡ every (λ k. callRightIn table (word definitions k) k) (from n (count - n)))
+Inv-loop table definitions spared count n₀ n = (count ≡ nodes table) × (every (λ k. callRightIn table spared (word definitions k) k) (range count) ≡ every (λ k. callRightIn table spared (word definitions k) k) (from n (count - n)))
 
 abbrev μ-loop : tie.MeasureT-loop
-μ-loop table definitions count n₀ n = count - n
+μ-loop table definitions spared count n₀ n = count - n
 
 word16-requires : tie.Need-word16-requires Inv-loop μ-loop
 word16-requires c κs = search needs

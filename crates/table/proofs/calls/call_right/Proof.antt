@@ -28,7 +28,11 @@ returns-2 c = rw (← c .before .before .before .before .before .field3 .ensures
 
 returns-3 : tie.Need-returns-3
 unfolding callRightIn same
-returns-3 c = rw (← c .before .before .before .before .before .field3 .ensures .is, eq-eqb _ _ (c .before .before .before .before .if1 .left), ← c .before .before .before .field32 .ensures .is, ← c .before .before .field4 .ensures .is, ← c .before .field42 .ensures .is, eq-eqb _ _ (c .if2 .left))
+returns-3 c = rw (← c .before .before .before .before .before .before .field3 .ensures .is, eq-eqb _ _ (c .before .before .before .before .before .if1 .left), ← c .before .before .before .before .field32 .ensures .is, ← c .before .before .before .field4 .ensures .is, ← c .before .before .field42 .ensures .is, eq-eqb _ _ (c .before .if2 .left), c .if3 .taken)
+
+returns-4 : tie.Need-returns-4
+unfolding callRightIn same
+returns-4 c = rw (← c .before .before .before .before .before .before .field3 .ensures .is, eq-eqb _ _ (c .before .before .before .before .before .if1 .left), ← c .before .before .before .before .field32 .ensures .is, ← c .before .before .before .field4 .ensures .is, ← c .before .before .field42 .ensures .is, eq-eqb _ _ (c .before .if2 .left), c .if3 .left)
 
 pub call-right-spec : {M : Type 1} → statement M
 call-right-spec =
@@ -40,4 +44,5 @@ call-right-spec =
     field4-requires
     field4-requires-2
     returns-2
-    returns-3)
+    returns-3
+    returns-4)

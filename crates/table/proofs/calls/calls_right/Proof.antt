@@ -21,7 +21,7 @@ use Rattle.table.proofs.calls.calls_right.Tie as tie
 
 -- the definitions that the index gives, at every node
 module _ (w owners homes defs : List ℕ) (few : (nodes w ≤ 256) × (branches w ≤ 256) × (definitions w ≤ 32)) (o : owners ≡ map (λ k. ownerNumber (owner w k)) (range 256))
-    (h : homes ≡ map (home w) (range 256)) (count : ℕ) (all : count ≡ nodes w) (lent : List ℕ) (enough : 256 ≤ length lent) (d : FirstDefinitions owners homes count lent defs) where
+    (h : homes ≡ map (home w) (range 256)) (count : ℕ) (all : count ≡ nodes w) (lent : List ℕ) (enough : 256 ≤ length lent) (d : FirstDefinitions owners homes count lent defs) (spared : Bool) where
   long : (l : List ℕ) (g : ℕ → ℕ) → l ≡ map g (range 256) → length l ≡ 256
   long l g e = rw e (length-map (range 256) g ∙ from-length 0 256)
 
@@ -32,10 +32,10 @@ module _ (w owners homes defs : List ℕ) (few : (nodes w ≤ 256) × (branches 
       d .filled n (omega (arith, all)) (omega (arith, few .0, enough)) ∙
       definition-indexed w owners homes n (o ∙ rw p) (h ∙ rw q) (omega (arith, few .0)) (omega (arith, few .1)) (omega (arith, few .2)) (omega (arith, few .0))
 
-  all-calls : (r : Bool) → r ≡ every (λ n. callRightIn w (word defs n) n) (range (nodes w)) → r ≡ every (callRight w) (range (nodes w))
+  all-calls : (r : Bool) → r ≡ every (λ n. callRightIn w spared (word defs n) n) (range (nodes w)) → r ≡ every (callRight w spared) (range (nodes w))
   unfolding callRight
   all-calls r e =
-      e ∙ every-same (λ n. callRightIn w (word defs n) n) (callRight w) (range (nodes w)) (λ n m. rw (at-node n (omega (arith, from-member n 0 (nodes w) m .1))))
+      e ∙ every-same (λ n. callRightIn w spared (word defs n) n) (callRight w spared) (range (nodes w)) (λ n m. rw (at-node n (omega (arith, from-member n 0 (nodes w) m .1))))
 
 word16-requires : tie.Need-word16-requires
 word16-requires c κs = search needs
@@ -91,7 +91,7 @@ returns-2 c =
     let start = tested .before .before .before .before in
     rw (part _ EntryRight _ _ _ _ (tested .before .before .word16 .ensures .is) (tested .before .all-pass .ensures) (not-false _ (tested .if1 .left)))
     (all-calls _ _ _ _ (start .pre) (owned .owners .ensures) (found .homes .ensures) _ (counted .word162 .ensures .is) _ (omega arith)
-    (filled .first-definitions .ensures) _ (c .all-calls-right .ensures))
+    (filled .first-definitions .ensures) _ _ (c .all-calls-right .ensures))
 
 pub calls-right-spec : {M : Type 1} → statement M
 calls-right-spec =
