@@ -1,0 +1,16 @@
+pub mod Cases
+pub mod Following
+pub mod Answering
+pub mod Copies
+pub mod Runs
+pub mod Reading
+pub mod Family
+pub mod Fields
+pub mod Insides
+pub mod Spans
+pub mod Shapes
+pub mod Bindings
+pub mod Scopes
+pub mod Origins
+pub mod Unchanged
+pub mod Theorem
