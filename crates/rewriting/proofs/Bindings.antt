@@ -16,14 +16,14 @@ use Rattle.table.proofs.Uses
 use Rattle.process.specs.StateWords.{place}
 use Rattle.rewriting.specs.Rewriting.{callsItself, copied, appended, nameCopies, nodeCopies, branchCopies, nameDefinition, branchDefinition, copyName}
 use Rattle.rewriting.specs.Rewriting.{copyNode, rewritten}
-use Rattle.rewriting.proofs.Copies.{NewNumber, old, copy, copy-one}
+use Rattle.rewriting.proofs.Appended.{NewNumber, old, copy, copy-one}
 use Rattle.rewriting.proofs.Reading
 use Rattle.rewriting.proofs.Family
 use Rattle.rewriting.proofs.Family.{Sound, copied-distinct, nodes-distinct, branches-distinct, names-distinct, name-of, copy-bound}
 use Rattle.rewriting.proofs.Fields
 use Rattle.rewriting.proofs.Insides
 use Rattle.rewriting.proofs.Spans
-use Rattle.rewriting.proofs.Copies.{flat-copies, count-group, count-keep, times-map, times-map-none}
+use Rattle.rewriting.proofs.Appended.{flat-copies, count-group, count-keep, times-map, times-map-none}
 use Rattle.lists.specs.Lists.{times}
 use Rattle.lists.proofs.Counts.{times-append, times-none}
 use Rattle.lists.proofs.Members.{member-nil, one-member, flat-member, member-keep}

@@ -16,7 +16,7 @@ use Rattle.process.specs.StateWords.{place}
 use Rattle.rewriting.specs.Rewriting.{callsItself, copied, caller, appended, definitionWords, definitionCopy, nodeWords, nodeCopy, branchWords}
 use Rattle.rewriting.specs.Rewriting.{branchCopy, namePart, definitionPart, threadPart, nodePart, branchPart, argumentPart, rewrittenHeader}
 use Rattle.rewriting.specs.Rewriting.{rewritten, nodeOrigins, branchOrigins, nameOrigins}
-use Rattle.rewriting.specs.Outcomes.{rewriteCause, rewriteOutcome, originOutcome, originalNode, originalBranch}
+use Rattle.rewriting.specs.Outcomes.{rewriteCause, rewriteOutcome, originAt, originOutcome, originalNode, originalBranch}
 
 -- one definition that is a call of itself
 abbrev pub tableLoop : List ℕ
@@ -56,7 +56,7 @@ pub loop-answers : (rewriteOutcome tableLoop (replicate 28 7) .left ≡ tableLoo
 unfolding Lists.same Lists.from Lists.some Lists.keep Lists.flat Lists.member Lists.firstFrom home owner pickOwner heldBy definitionBy definition
     pickBinder binderOf place callsItself copied caller appended definitionWords definitionCopy nodeWords nodeCopy branchWords branchCopy namePart
     definitionPart threadPart nodePart branchPart argumentPart Rewriting.headerOf rewrittenHeader rewritten branchesOf formals Lists.every Lists.times
-    argumentsOf held rewriteCause rewriteOutcome originOutcome nodeOrigins branchOrigins nameOrigins answered Causes.firstFailed Causes.longEnough
+    argumentsOf held rewriteCause rewriteOutcome originAt originOutcome nodeOrigins branchOrigins nameOrigins answered Causes.firstFailed Causes.longEnough
     Causes.countsRight Causes.layoutRight Causes.nameKindRight Causes.formalsZero Causes.callZero Causes.nodeKindRight Causes.branchKindRight
     Causes.kindsRight Causes.formalsInside Causes.definitionInside Causes.entryInside Causes.nodeInside Causes.branchInside Causes.argumentInside
     Causes.rangesRight Causes.rootNodes Causes.newChildren Causes.nextNodes Causes.ownedOnce Causes.childrenAbove Causes.consecutive Causes.shapeRight

@@ -28,7 +28,7 @@ use Rattle.table.proofs.Consecutive.{range-unique}
 use Rattle.process.specs.StateWords.{place}
 use Rattle.rewriting.specs.Rewriting.{callsItself, copied, caller, appended, nameCopies, nodeCopies, branchCopies, argumentCopies, nameDefinition}
 use Rattle.rewriting.specs.Rewriting.{binderDefinition, branchDefinition, argumentDefinition, copyName}
-use Rattle.rewriting.proofs.Copies.{groups-distinct, groups-in, in-groups}
+use Rattle.rewriting.proofs.Appended.{groups-distinct, groups-in, in-groups}
 
 -- ---- a table that no cause refuses, self-calls spared
 

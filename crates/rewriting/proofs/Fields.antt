@@ -23,7 +23,7 @@ use Rattle.table.proofs.Uses.{Usable}
 use Rattle.table.proofs.Consecutive.{In, range-covers}
 use Rattle.rewriting.specs.Rewriting.{callsItself, copied, caller, appended, nameCopies, nodeCopies, branchCopies, argumentCopies, nameDefinition}
 use Rattle.rewriting.specs.Rewriting.{branchDefinition, argumentDefinition, copyName, copyDefinition, copyNode, copyBranch, copyArgument, rewritten}
-use Rattle.rewriting.proofs.Copies.{copy-high}
+use Rattle.rewriting.proofs.Appended.{copy-high}
 use Rattle.rewriting.proofs.Runs.{Run, groups-run}
 use Rattle.rewriting.proofs.Reading
 use Rattle.rewriting.proofs.Family

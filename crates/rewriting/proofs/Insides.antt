@@ -22,7 +22,7 @@ use Rattle.table.proofs.Owned
 use Rattle.table.proofs.Uses
 use Rattle.rewriting.specs.Rewriting.{callsItself, copied, caller, nameCopies, nodeCopies, branchCopies, argumentCopies, copyName, copyDefinition}
 use Rattle.rewriting.specs.Rewriting.{copyNode, rewritten}
-use Rattle.rewriting.proofs.Copies.{NewNumber, old, copy, new-number, copy-high}
+use Rattle.rewriting.proofs.Appended.{NewNumber, old, copy, new-number, copy-high}
 use Rattle.rewriting.proofs.Runs.{run-inside}
 use Rattle.rewriting.proofs.Reading
 use Rattle.rewriting.proofs.Family

@@ -1,7 +1,7 @@
 pub mod Cases
 pub mod Following
 pub mod Answering
-pub mod Copies
+pub mod Appended
 pub mod Runs
 pub mod Reading
 pub mod Family
@@ -13,4 +13,11 @@ pub mod Bindings
 pub mod Scopes
 pub mod Origins
 pub mod Unchanged
+pub mod Stored
+pub mod Marks
+pub mod Placed
+pub mod Sections
+pub mod Belongs
+pub mod Rowed
+pub mod Preparation
 pub mod Theorem

@@ -22,7 +22,7 @@ use Rattle.table.proofs.Uses.{Usable}
 use Rattle.process.specs.StateWords.{place}
 use Rattle.rewriting.specs.Rewriting.{callsItself, copied, nameCopies, nodeCopies, branchCopies, copyName, copyDefinition, copyNode, copyBranch}
 use Rattle.rewriting.specs.Rewriting.{rewritten}
-use Rattle.rewriting.proofs.Copies.{NewNumber, old, copy, copy-high}
+use Rattle.rewriting.proofs.Appended.{NewNumber, old, copy, copy-high}
 use Rattle.rewriting.proofs.Runs.{run-next}
 use Rattle.rewriting.proofs.Reading
 use Rattle.rewriting.proofs.Family
@@ -42,7 +42,7 @@ use Rattle.table.proofs.Decoded
 use Rattle.rewriting.proofs.Scopes
 use Rattle.rewriting.proofs.Following.{Reads, readNode, readBranch}
 use Rattle.rewriting.specs.Rewriting.{nodeOrigins, branchOrigins, nameOrigins}
-use Rattle.rewriting.proofs.Copies.{origin-old, origin-copy}
+use Rattle.rewriting.proofs.Appended.{origin-old, origin-copy}
 use Rattle.scheme.specs.Scheme.{stop, choice, new, call, silent, send, receive, present, scheme, nodeAt, branchAt, argumentsAt, binderOf, binderThread}
 use Rattle.scheme.specs.Scheme.{byNew, byReceive, byFormal}
 use Rattle.table.specs.Accepted.{Chosen}

@@ -19,7 +19,7 @@ use Rattle.process.specs.StateWords.{place}
 use Rattle.rewriting.specs.Rewriting.{callsItself, copied, nameCopies, nodeCopies, branchCopies, argumentCopies, copyName, copyDefinition, copyNode}
 use Rattle.rewriting.specs.Rewriting.{copyBranch, copyArgument, definitionWords, definitionCopy, nodeWords, nodeCopy, branchWords, branchCopy}
 use Rattle.rewriting.specs.Rewriting.{namePart, definitionPart, threadPart, nodePart, branchPart, argumentPart, headerOf, rewrittenHeader, rewritten}
-use Rattle.rewriting.proofs.Copies.{place-inside, place-holds}
+use Rattle.rewriting.proofs.Appended.{place-inside, place-holds}
 use Rattle.rewriting.proofs.Runs.{flat-words, flat-word}
 
 -- ---- parts of a list

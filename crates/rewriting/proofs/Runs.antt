@@ -15,7 +15,7 @@ use Rattle.lists.proofs.Ranges.{from-length, from-append, from-member}
 use Rattle.lists.proofs.Members.{member-here, member-there, member-cases, member-nil, append-distinct, keep-append, keep-all}
 use Rattle.table.specs.Causes.{consecutive}
 use Rattle.process.specs.StateWords.{place}
-use Rattle.rewriting.proofs.Copies.{place-at, group}
+use Rattle.rewriting.proofs.Appended.{place-at, group}
 
 -- ---- consecutive ranges
 

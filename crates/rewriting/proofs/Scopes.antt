@@ -19,7 +19,7 @@ use Rattle.table.proofs.Owned
 use Rattle.table.proofs.Uses
 use Rattle.table.proofs.Uses.{Usable}
 use Rattle.rewriting.specs.Rewriting.{callsItself, copied, nodeCopies, branchCopies, copyName, copyDefinition, copyNode, copyBranch, rewritten}
-use Rattle.rewriting.proofs.Copies.{NewNumber, old, copy, copy-high}
+use Rattle.rewriting.proofs.Appended.{NewNumber, old, copy, copy-high}
 use Rattle.rewriting.proofs.Reading
 use Rattle.rewriting.proofs.Family
 use Rattle.rewriting.proofs.Family.{Sound, copied-distinct, nodes-distinct, node-of, of-node, copy-public}

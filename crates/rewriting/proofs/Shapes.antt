@@ -22,14 +22,14 @@ use Rattle.table.proofs.Uses
 use Rattle.process.specs.StateWords.{place}
 use Rattle.rewriting.specs.Rewriting.{callsItself, copied, caller, appended, nodeCopies, branchCopies, argumentCopies, branchDefinition}
 use Rattle.rewriting.specs.Rewriting.{argumentDefinition, copyNode, copyBranch, rewritten}
-use Rattle.rewriting.proofs.Copies.{NewNumber, old, copy, copy-one}
+use Rattle.rewriting.proofs.Appended.{NewNumber, old, copy, copy-one}
 use Rattle.rewriting.proofs.Reading
 use Rattle.rewriting.proofs.Family
 use Rattle.rewriting.proofs.Family.{Sound, copied-distinct, nodes-distinct, branches-distinct, arguments-distinct, node-of}
 use Rattle.rewriting.proofs.Fields
 use Rattle.rewriting.proofs.Insides
 use Rattle.rewriting.proofs.Spans
-use Rattle.rewriting.proofs.Copies.{flat-flat, flat-copies, keep-flat, group, count-group, count-keep, times-map, times-map-none}
+use Rattle.rewriting.proofs.Appended.{flat-flat, flat-copies, keep-flat, group, count-group, count-keep, times-map, times-map-none}
 use Rattle.rewriting.proofs.Runs.{spanOf, consecutive-flat, consecutive-append, consecutive-same, consecutive-copies}
 use Rattle.lists.specs.Lists.{times, keep}
 use Rattle.lists.proofs.Counts.{times-append, times-none}
@@ -75,13 +75,13 @@ module _ (w : List ℕ) (p : Sound w) where
         (λ n b k q. ap (λ (e : ℕ). same e d) (g n b (omega (arith, from-member n 0 (nodes w) k)) q)))
         ∙ sym (flat-flat (spanOf [] first size) (group (definition w) (range (nodes w))) (copied w))
 
-  branch-spans : branchCopies w ≡ flat (spanOf [] (nodeFirst w) (branchCount w)) (nodeCopies w)
+  pub branch-spans : branchCopies w ≡ flat (spanOf [] (nodeFirst w) (branchCount w)) (nodeCopies w)
   unfolding appended
   branch-spans =
       copies-by-node (nodeFirst w) (branchCount w) (branchDefinition w) (branches w) (Family.shape-tests w p .0)
       (λ n b l m. ap (definition w) (Owned.home-is w (p .shape) n b (branch-home n b l m)))
 
-  argument-spans : argumentCopies w ≡ flat (spanOf [] (nodeSecond w) (argumentCount w)) (nodeCopies w)
+  pub argument-spans : argumentCopies w ≡ flat (spanOf [] (nodeSecond w) (argumentCount w)) (nodeCopies w)
   unfolding appended
   argument-spans =
       copies-by-node (nodeSecond w) (argumentCount w) (argumentDefinition w) (arguments w) (Family.shape-tests w p .1)

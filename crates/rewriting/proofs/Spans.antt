@@ -27,7 +27,7 @@ use Rattle.rewriting.proofs.Family.{Sound, copied-inside, nodes-distinc
 
 use Rattle.rewriting.proofs.Fields
 use Rattle.rewriting.proofs.Insides
-use Rattle.rewriting.proofs.Copies.{copies-range, groups-order}
+use Rattle.rewriting.proofs.Appended.{copies-range, groups-order}
 use Rattle.lists.proofs.Ranges.{from-append}
 
 -- a map that changes nothing there

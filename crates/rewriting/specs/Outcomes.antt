@@ -18,12 +18,14 @@ rewriteCause w = pick (same (causeSparing w true) 0) (pick (countsRight (rewritt
 unfoldable pub rewriteOutcome : List ℕ → List ℕ → Outcome
 rewriteOutcome w lent = pick (same (rewriteCause w) 0) (answered (length (rewritten w)) (rewritten w) lent) (refusal (rewriteCause w) lent)
 
--- "a number the rewritten table doesn't have is refused with 5, last": no words are lent
+-- "a copy's nodes, branches and names can be read back as their originals, others as themselves; a number the rewritten table doesn't have is refused
+-- with 5, last": no words are lent
+unfoldable pub originAt : List ℕ → ℕ → Outcome
+originAt origins number =
+    pick (ltb number (length origins)) (record { number = 0; value = some (word origins number); left = [] }) (refusal 5 [])
+
 unfoldable pub originOutcome : List ℕ → List ℕ → ℕ → Outcome
-originOutcome w origins number =
-    pick (same (rewriteCause w) 0)
-    (pick (ltb number (length origins)) (record { number = 0; value = some (word origins number); left = [] }) (refusal 5 []))
-    (refusal (rewriteCause w) [])
+originOutcome w origins number = pick (same (rewriteCause w) 0) (originAt origins number) (refusal (rewriteCause w) [])
 
 abbrev pub originalNode : List ℕ → ℕ → Outcome
 originalNode w n = originOutcome w (nodeOrigins w) n

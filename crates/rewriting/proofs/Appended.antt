@@ -19,11 +19,11 @@ use Rattle.process.specs.StateWords.{place}
 
 -- ---- where a number stands
 
-place-hit : (x y : ℕ) (ys : List ℕ) → x ≡ y → place x (y ∷ ys) ≡ 0
+pub place-hit : (x y : ℕ) (ys : List ℕ) → x ≡ y → place x (y ∷ ys) ≡ 0
 unfolding place
 place-hit x y ys e = rw (same-yes x y e, place)
 
-place-miss : (x y : ℕ) (ys : List ℕ) → (x ≡ y → ⊥) → place x (y ∷ ys) ≡ suc (place x ys)
+pub place-miss : (x y : ℕ) (ys : List ℕ) → (x ≡ y → ⊥) → place x (y ∷ ys) ≡ suc (place x ys)
 unfolding place
 place-miss x y ys d = rw (same-no x y d, place)
 
@@ -38,6 +38,22 @@ place-inside x (y ∷ ys) m = go (ℕ-discrete x y) (place-inside x ys)
         tail : (x ≡ y) ⊎ (member x ys ≡ true) → member x ys ≡ true
         tail (inl e) = absurd (d e)
         tail (inr k) = k
+
+pub place-most : (x : ℕ) (xs : List ℕ) → place x xs ≤ length xs
+unfolding place
+place-most x [] = omega arith
+place-most x (y ∷ ys) = go (ℕ-discrete x y) (place-most x ys)
+  where
+    go : Dec (x ≡ y) → place x ys ≤ length ys → place x (y ∷ ys) ≤ suc (length ys)
+    go (yes e) ih = rw (place-hit x y ys e) (omega arith)
+    go (no d) ih = rw (place-miss x y ys d) (omega arith)
+
+pub place-absent : (x : ℕ) (xs : List ℕ) → member x xs ≡ false → place x xs ≡ length xs
+unfolding place
+place-absent x [] m = refl
+place-absent x (y ∷ ys) m =
+    let n = Rattle.lists.proofs.Members.not-member x y ys m in
+    place-miss x y ys (n .0) ∙ ap suc (place-absent x ys (n .1))
 
 pub place-holds : (x : ℕ) (xs : List ℕ) → member x xs ≡ true → word xs (place x xs) ≡ x
 place-holds x [] m = member-nil x m

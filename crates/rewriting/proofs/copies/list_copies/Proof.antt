@@ -1,0 +1,181 @@
+-- `rewriting::copies::list_copies` meets its contract.
+use native.Mathlib.Omega.{arith}
+use Rattle.rewriting.proofs.Rowed.{OneRow, TwoRows, ThreeRows, FourRows, one-row, two-rows, three-rows, four-rows, all-rows}
+use borrow.Author.Needs.{needs}
+use Rattle.rewriting.proofs.copies.list_copies.Statement.{statement}
+use Rattle.rewriting.proofs.copies.list_copies.Tie as tie
+
+-- what stands in the lent words after each row
+abbrev marked : tie.After-list-group → tie.After-mark-callers
+marked c = c .before .before .before .before .before .before
+
+abbrev belongs : tie.After-list-group → tie.After-belonging
+belongs c = marked c .before .before .before .before .before .before
+
+abbrev start : tie.After-list-group → tie.Start
+start c = belongs c .before .before .before .before .before .before
+
+abbrev named : tie.After-list-groups → tie.After-list-group
+named c = c .before .before .before .before .before .before
+
+abbrev noded : tie.After-list-groups2 → tie.After-list-groups
+noded c = c .before .before .before .before .before .before
+
+abbrev branched : tie.After-list-spans → tie.After-list-groups2
+branched c = c .before .before .before .before
+
+one : (c : tie.After-list-group) → OneRow (start c .args .table .now) (c .list-group .last .1 .1 .1 .1 .1 .0) (c .list-group .result)
+one c =
+    let s = start c in
+    let d = c .before .before .word162 in
+    one-row (s .args .table .now) (s .pre .ok) _ _ _ (belongs c .belonging .ensures .0) (marked c .mark-callers .ensures) (s .pre .list-reach) _
+    (d .ensures .is) _ _ (c .list-group .ensures)
+
+two : (c : tie.After-list-groups)
+    → TwoRows (start (named c) .args .table .now) (c .list-groups .last .1 .1 .1 .1 .1 .0) (named c .list-group .result) (c .list-groups .result)
+two c =
+    let g = named c in
+    let s = start g in
+    two-rows (s .args .table .now) (s .pre .ok) _ _ _ (one g) (belongs g .belonging .ensures .1) _ _ (g .before .before .before .before .word16 .ensures .is)
+    (c .before .before .word163 .ensures .is) _ _ (c .list-groups .ensures)
+
+three : (c : tie.After-list-groups2)
+    → ThreeRows (start (named (noded c)) .args .table .now) (c .list-groups2 .last .1 .1 .1 .1 .1 .0) (named (noded c) .list-group .result)
+    (noded c .list-groups .result) (c .list-groups2 .result)
+three c =
+    let g = named (noded c) in
+    let s = start g in
+    three-rows (s .args .table .now) (s .pre .ok) _ _ _ _ (two (noded c)) (belongs g .belonging .ensures .0) _ (c .before .before .word164 .ensures .is) _ _
+    (c .list-groups2 .ensures)
+
+four : (c : tie.After-list-spans)
+    → FourRows (start (named (noded (branched c))) .args .table .now) (c .list-spans .last .1 .1 .1 .1 .0) (named (noded (branched c)) .list-group .result)
+    (noded (branched c) .list-groups .result) (branched c .list-groups2 .result) (c .list-spans .result)
+four c =
+    let s = start (named (noded (branched c))) in
+    four-rows (s .args .table .now) (s .pre .ok) _ _ _ _ (three (branched c)) _ _ (c .list-spans .ensures)
+
+slice-aggregate-belonging : tie.Need-slice-aggregate-belonging
+slice-aggregate-belonging c = search needs
+
+belonging-requires : tie.Need-belonging-requires
+belonging-requires c κs = search needs
+
+slice-aggregate-mark-callers : tie.Need-slice-aggregate-mark-callers
+slice-aggregate-mark-callers c = search needs
+
+mark-callers-requires : tie.Need-mark-callers-requires
+mark-callers-requires c κs = search needs
+
+word16-requires : tie.Need-word16-requires
+word16-requires c κs = search needs
+
+slice-aggregate-list-group : tie.Need-slice-aggregate-list-group
+slice-aggregate-list-group c = search needs
+
+word16-requires-2 : tie.Need-word16-requires-2
+word16-requires-2 c κs = search needs
+
+list-group-requires : tie.Need-list-group-requires
+list-group-requires c κs = search needs
+
+slice-aggregate-list-groups : tie.Need-slice-aggregate-list-groups
+slice-aggregate-list-groups c = search needs
+
+word16-requires-3 : tie.Need-word16-requires-3
+word16-requires-3 c κs = search needs
+
+add-list-groups : tie.Need-add-list-groups
+add-list-groups c = search needs
+
+list-groups-requires : tie.Need-list-groups-requires
+list-groups-requires c κs =
+    let g = c .before .before .before .before .before in
+    let r = one g in (
+      omega (arith, g .before .before .before .before .word16 .ensures .small, c .before .word163 .ensures .small),
+      r .definition-row .few,
+      omega (arith, r .definition-row .few, r .reach),
+      omega arith,
+    )
+
+word16-requires-4 : tie.Need-word16-requires-4
+word16-requires-4 c κs = search needs
+
+list-groups-requires-2 : tie.Need-list-groups-requires-2
+list-groups-requires-2 c κs =
+    let r = two (c .before .before .before .before .before) in
+    (omega (arith, c .before .word164 .ensures .small), omega (arith, r .definition-row .few), omega (arith, r .definition-row .few, r .reach), omega arith)
+
+sub-list-spans : tie.Need-sub-list-spans
+sub-list-spans c = search needs
+
+list-spans-requires : tie.Need-list-spans-requires
+list-spans-requires c κs =
+    let r = three (c .before .before .before) in
+    (omega (arith, r .node-row .few), omega (arith, r .node-row .few, r .reach), omega arith)
+
+sub-list-spans-2 : tie.Need-sub-list-spans-2
+sub-list-spans-2 c = search needs
+
+list-spans-requires-2 : tie.Need-list-spans-requires-2
+list-spans-requires-2 c κs =
+    let r = four (c .before .before .before) in
+    (omega (arith, r .node-row .few), omega (arith, r .node-row .few, r .reach), omega arith)
+
+sub-t28 : tie.Need-sub-t28
+sub-t28 c = search needs
+
+sub-t23 : tie.Need-sub-t23
+sub-t23 c = search needs
+
+sub-t40 : tie.Need-sub-t40
+sub-t40 c = search needs
+
+sub-t41 : tie.Need-sub-t41
+sub-t41 c = search needs
+
+same-length : tie.Need-same-length
+same-length c = (marked
+    (named (noded (branched (c .before .before .before .before .before .before)))) .before .before .before .before .before) .definitions .given
+
+same-length-2 : tie.Need-same-length-2
+same-length-2 c = search needs
+
+returns : tie.Need-returns
+returns c =
+    let e = c .before .before in
+    let g = e .before .before .before .before in
+    let s = start (named (noded (branched g))) in (
+      belongs (named (noded (branched g))) .belonging .ensures .0,
+      all-rows (s .args .table .now) (s .pre .ok) _ _ _ _ _ (four g) _ _ (e .list-spans2 .ensures),
+    )
+
+pub list-copies-spec : {M : Type 1} → statement M
+list-copies-spec =
+    tie.close
+    (tie.spec
+    slice-aggregate-belonging
+    belonging-requires
+    slice-aggregate-mark-callers
+    mark-callers-requires
+    word16-requires
+    slice-aggregate-list-group
+    word16-requires-2
+    list-group-requires
+    slice-aggregate-list-groups
+    word16-requires-3
+    add-list-groups
+    list-groups-requires
+    word16-requires-4
+    list-groups-requires-2
+    sub-list-spans
+    list-spans-requires
+    sub-list-spans-2
+    list-spans-requires-2
+    sub-t28
+    sub-t23
+    sub-t40
+    sub-t41
+    same-length
+    same-length-2
+    returns)
