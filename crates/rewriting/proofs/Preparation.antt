@@ -26,8 +26,8 @@ use Rattle.rewriting.specs.Inner.Copying.{Rows}
 use Rattle.rewriting.specs.Inner.Counting.{Few, Summed, Small, countsWithin, sizeWith}
 use Rattle.rewriting.specs.Inner.Preparing.{PreparedRight}
 use Rattle.rewriting.specs.declared.copies.Counts.{Counts}
-use Rattle.rewriting.specs.declared.Prepared.{Prepared}
-use Rattle.rewriting.specs.declared.Prepared.the-variants.{Ready, Refused}
+use Rattle.rewriting.specs.declared.copies.Prepared.{Prepared}
+use Rattle.rewriting.specs.declared.copies.Prepared.the-variants.{Ready, Refused}
 use Rattle.rewriting.proofs.Family.{sound}
 use Rattle.rewriting.proofs.Reading
 use Rattle.rewriting.proofs.Stored.{slice-word}

@@ -13,6 +13,7 @@ ghost use Rattle.process.specs.Inner.Listed.{Listed, far, near};
 ghost use Rattle.rewriting.specs.Inner.Copying.{selfCall, Marked, grouped, Listable, Rows};
 ghost use Rattle.rewriting.specs.Inner.Belonging.{Bodies};
 ghost use Rattle.rewriting.specs.Inner.Counting.{Few, Summed, countsWithin};
+ghost use Rattle.rewriting.specs.Inner.Preparing.{PreparedRight};
 use crate::belonging::belonging;
 use lists::store16;
 use lists::store32;
@@ -30,6 +31,12 @@ pub struct Counts {
     pub nodes: usize,
     pub branches: usize,
     pub arguments: usize,
+}
+
+// The copies of a table that can be rewritten, or what refuses it.
+pub enum Prepared {
+    Ready(Counts),
+    Refused(table::Verdict),
 }
 
 // Whether a node is a Call of the definition that it stands in.
@@ -213,4 +220,21 @@ pub(crate) fn within(counts: Counts) -> bool
         return false;
     }
     counts.arguments <= 256
+}
+
+// Checks a table, and lists what is copied.
+pub(crate) fn prepare(table: &[u16], definitions: &mut [u16], list: &mut [u32]) -> Prepared
+    requires { ⌜ (length (now definitions) ≡ 256) × (length (now list) ≡ 1280) ⌝ }
+    ensures { λ r. ⌜ PreparedRight (now (table .entry)) (now (definitions .exit)) (now (list .exit)) r ⌝ }
+{
+    let verdict = table::check_sparing(table, true);
+    if !table::is_accepted(verdict) {
+        return Prepared::Refused(verdict);
+    }
+    let copies = list_copies(table, definitions, list);
+    let counts = with_copies(table, copies);
+    if within(counts) {
+        return Prepared::Ready(copies);
+    }
+    Prepared::Refused(table::Verdict::Counts)
 }

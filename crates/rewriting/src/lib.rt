@@ -1,5 +1,8 @@
-// Definitions that call themselves: the table without self-calls that stands for a college's table (document 02,
-// Item 1).
+// Definitions that call themselves: the table without self-calls that stands for a college's table, and the originals of
+// its nodes, branches and names (document 02, Item 1).
+//
+// Each call takes the college's own table. It checks causes 1 to 9 with self-calls spared, then that the rewritten
+// table is within the bounds, and last what it is asked for; a refusal leaves the output as it was.
 mod belonging;
 mod copies;
 mod places;
@@ -13,8 +16,11 @@ ghost use lib.Seq.{slice};
 ghost use Rattle.lists.specs.Lists.{range};
 ghost use Rattle.rewriting.specs.Answers.{outcomeOf};
 ghost use Rattle.rewriting.specs.Outcomes.{rewriteOutcome, originAt, originalNode, originalBranch, originalName};
-ghost use Rattle.rewriting.specs.Inner.Preparing.{PreparedRight};
-use crate::copies::Counts;
+use crate::copies::Prepared;
+use crate::copies::prepare;
+use crate::copies::with_copies;
+use crate::words::size;
+use crate::words::write_table;
 use lists::word16;
 use lists::word32;
 
@@ -26,29 +32,6 @@ pub enum Answer {
     Missing,
 }
 
-// The copies of a table that can be rewritten, or what refuses it.
-pub enum Prepared {
-    Ready(Counts),
-    Refused(table::Verdict),
-}
-
-// Checks a table, and lists what is copied.
-fn prepare(table: &[u16], definitions: &mut [u16], list: &mut [u32]) -> Prepared
-    requires { ⌜ (length (now definitions) ≡ 256) × (length (now list) ≡ 1280) ⌝ }
-    ensures { λ r. ⌜ PreparedRight (now (table .entry)) (now (definitions .exit)) (now (list .exit)) r ⌝ }
-{
-    let verdict = table::check_sparing(table, true);
-    if !table::is_accepted(verdict) {
-        return Prepared::Refused(verdict);
-    }
-    let copies = copies::list_copies(table, definitions, list);
-    let counts = copies::with_copies(table, copies);
-    if copies::within(counts) {
-        return Prepared::Ready(copies);
-    }
-    Prepared::Refused(table::Verdict::Counts)
-}
-
 // The words of the rewritten table.
 pub fn rewrite(table: &[u16], out: &mut [u16]) -> Answer
     ensures { λ r. ⌜ outcomeOf r (now (out .exit)) ≡ rewriteOutcome (now (table .entry)) (now (out .entry)) ⌝ }
@@ -58,13 +41,13 @@ pub fn rewrite(table: &[u16], out: &mut [u16]) -> Answer
     match prepare(table, &mut definitions, &mut list) {
         Prepared::Refused(verdict) => Answer::Refused(verdict),
         Prepared::Ready(copies) => {
-            let counts = copies::with_copies(table, copies);
-            let size = words::size(table, counts);
-            if out.len() < size {
+            let counts = with_copies(table, copies);
+            let words = size(table, counts);
+            if out.len() < words {
                 return Answer::NoRoom;
             }
-            words::write_table(table, &definitions, &list, copies, counts, out);
-            Answer::Done(size)
+            write_table(table, &definitions, &list, copies, counts, out);
+            Answer::Done(words)
         }
     }
 }

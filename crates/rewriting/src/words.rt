@@ -12,7 +12,7 @@ ghost use Rattle.rewriting.specs.Rewriting.{nodeWords, definitionCopy, n
 ghost use Rattle.rewriting.specs.Inner.Belonging.{Bodies};
 ghost use Rattle.rewriting.specs.Inner.Counting.{Small, headerWith, sizeWith};
 ghost use Rattle.rewriting.specs.Inner.Placing.{Placing};
-ghost use Rattle.rewriting.specs.Inner.Writing.{target, copiedFormal, copiedFirst, copiedSecond, copiedUse};
+ghost use Rattle.rewriting.specs.Inner.Writing.{targetIn, copiedFormal, copiedFirst, copiedSecond, copiedUse};
 ghost use Rattle.rewriting.specs.Inner.Writing.{copyWords, Writable, Counted, Front, Back};
 ghost use Rattle.rewriting.specs.Inner.Writing.{frontWords, backWords};
 use crate::copies::Counts;
@@ -72,12 +72,16 @@ fn write4(out: &mut [u16], at: usize, a: usize, b: usize, c: usize, d: usize) ->
     at + 4
 }
 
-// The second word of a node: a self-call goes to the copy.
-fn target_of(table: &[u16], definitions: &[u16], places: &[u32], node: usize) -> usize
-    requires { ⌜ Writable (now table) (now definitions) (now places) × (node < nodes (now table)) ⌝ }
-    ensures { λ r. ⌜ Number (target (now (table .entry)) node) r ⌝ }
+// The second word of a node, or of its copy: a self-call of the original goes to the copy, one of the copy to the
+// original.
+fn target_of(table: &[u16], definitions: &[u16], places: &[u32], node: usize, copy: bool) -> usize
+    requires { ⌜ Placing (now table) (now places) ⌝ }
+    ensures { λ r. ⌜ Number (targetIn (now (table .entry)) (now (definitions .entry)) copy node) r ⌝ }
 {
     let first = field3(table, 10, node, 1);
+    if copy {
+        return first;
+    }
     if calls_itself(table, definitions, node) {
         return copy_definition(table, places, first);
     }
@@ -96,7 +100,7 @@ fn write_node(
     ensures { λ r. ⌜ Listed 4 (nodeWords (now (table .entry)) node) (now (out .entry)) at (now (out .exit)) r ⌝ }
 {
     let kind = field3(table, 10, node, 0);
-    let first = target_of(table, definitions, places, node);
+    let first = target_of(table, definitions, places, node, false);
     write3(out, at, kind, first, field3(table, 10, node, 2))
 }
 
@@ -133,20 +137,19 @@ fn copied_formal(table: &[u16], places: &[u32], definition: usize) -> usize
     copy_name(table, places, field4(table, 8, definition, 2))
 }
 
-// The second word of a node's copy: a branch of a Choice, a name of a New; the definition called stays.
-fn copied_first(table: &[u16], places: &[u32], node: usize) -> usize
+// The second word of a node's copy: a branch of a Choice, a name of a New, the definition called.
+fn copied_first(table: &[u16], definitions: &[u16], places: &[u32], node: usize) -> usize
     requires { ⌜ Placing (now table) (now places) ⌝ }
     ensures { λ r. ⌜ Number (copiedFirst (now (table .entry)) node) r ⌝ }
 {
-    let first = field3(table, 10, node, 1);
     let kind = field3(table, 10, node, 0);
     if kind == 1 {
-        return copy_branch(table, places, first);
+        return copy_branch(table, places, field3(table, 10, node, 1));
     }
     if kind == 2 {
-        return copy_name(table, places, first);
+        return copy_name(table, places, field3(table, 10, node, 1));
     }
-    first
+    target_of(table, definitions, places, node, true)
 }
 
 // The third word of a node's copy: a child of a New, the first argument of a Call that has any.
@@ -185,11 +188,18 @@ fn write_definition(table: &[u16], places: &[u32], i: usize, at: usize, out: &mu
     write4(out, at, thread, root, formal, field4(table, 8, i, 3))
 }
 
-fn write_copied_node(table: &[u16], places: &[u32], i: usize, at: usize, out: &mut [u16]) -> usize
+fn write_copied_node(
+    table: &[u16],
+    definitions: &[u16],
+    places: &[u32],
+    i: usize,
+    at: usize,
+    out: &mut [u16],
+) -> usize
     requires { ⌜ Placing (now table) (now places) × (at < far) ⌝ }
     ensures { λ r. ⌜ Listed 4 (nodeCopy (now (table .entry)) i) (now (out .entry)) at (now (out .exit)) r ⌝ }
 {
-    let first = copied_first(table, places, i);
+    let first = copied_first(table, definitions, places, i);
     let second = copied_second(table, places, i);
     write3(out, at, field3(table, 10, i, 0), first, second)
 }
@@ -208,6 +218,7 @@ fn write_branch(table: &[u16], places: &[u32], i: usize, at: usize, out: &mut [u
 fn write_copy(
     table: &[u16],
     part: Part,
+    definitions: &[u16],
     places: &[u32],
     i: usize,
     at: usize,
@@ -219,7 +230,7 @@ fn write_copy(
     match part {
         Part::Names => write1(out, at, name_kind(table, i)),
         Part::Definitions => write_definition(table, places, i, at, out),
-        Part::Nodes => write_copied_node(table, places, i, at, out),
+        Part::Nodes => write_copied_node(table, definitions, places, i, at, out),
         Part::Branches => write_branch(table, places, i, at, out),
         Part::Arguments => write1(out, at, copy_name(table, places, field1(table, 12, i))),
     }
@@ -232,6 +243,7 @@ fn write_copies(
     list: &[u32],
     first: usize,
     count: usize,
+    definitions: &[u16],
     places: &[u32],
     at: usize,
     out: &mut [u16],
@@ -246,7 +258,7 @@ fn write_copies(
     let mut next = at;
     while k < count {
         let i = word32(list, first + k);
-        next = write_copy(table, part, places, i, next, out);
+        next = write_copy(table, part, definitions, places, i, next, out);
         k += 1;
     }
     next
@@ -303,6 +315,7 @@ pub(crate) fn size(table: &[u16], counts: Counts) -> usize
 // Writes the header, the names, the definitions and the threads.
 fn write_front(
     table: &[u16],
+    definitions: &[u16],
     list: &[u32],
     copies: Counts,
     counts: Counts,
@@ -314,7 +327,17 @@ fn write_front(
 {
     let mut at = write_header(table, counts, out);
     at = write_words(table, word16(table, 7), word16(table, 1), at, out);
-    at = write_copies(table, Part::Names, list, 256, copies.names, places, at, out);
+    at = write_copies(
+        table,
+        Part::Names,
+        list,
+        256,
+        copies.names,
+        definitions,
+        places,
+        at,
+        out,
+    );
     at = write_words(table, word16(table, 8), 4 * word16(table, 2), at, out);
     at = write_copies(
         table,
@@ -322,6 +345,7 @@ fn write_front(
         list,
         0,
         copies.definitions,
+        definitions,
         places,
         at,
         out,
@@ -343,7 +367,17 @@ fn write_back(
     ensures { λ r. ⌜ Listed 1048576 (backWords (now (table .entry))) (now (out .entry)) start (now (out .exit)) r ⌝ }
 {
     let mut at = write_nodes(table, definitions, places, start, out);
-    at = write_copies(table, Part::Nodes, list, 512, copies.nodes, places, at, out);
+    at = write_copies(
+        table,
+        Part::Nodes,
+        list,
+        512,
+        copies.nodes,
+        definitions,
+        places,
+        at,
+        out,
+    );
     at = write_words(table, word16(table, 11), 4 * word16(table, 5), at, out);
     at = write_copies(
         table,
@@ -351,6 +385,7 @@ fn write_back(
         list,
         768,
         copies.branches,
+        definitions,
         places,
         at,
         out,
@@ -362,6 +397,7 @@ fn write_back(
         list,
         1024,
         copies.arguments,
+        definitions,
         places,
         at,
         out,
@@ -382,6 +418,6 @@ pub(crate) fn write_table(
 {
     let mut places = [0u32; 1285];
     number_copies(list, copies, &mut places);
-    let at = write_front(table, list, copies, counts, &places, out);
+    let at = write_front(table, definitions, list, copies, counts, &places, out);
     write_back(table, definitions, list, copies, &places, at, out);
 }

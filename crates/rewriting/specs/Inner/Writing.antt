@@ -1,13 +1,14 @@
 -- The words of copies, and what is written.
+use mathlib.Core.Bool.{Bool}
 use mathlib.Core.List.{List, [], _∷_, _++_}
 use Prim.Native.Nat.{ℕ}
 use Rattle.lists.specs.Lists.{pick, same}
 use Rattle.scheme.specs.Words.{nameKind, firstFormal, formalCount, nodeFirst, nodeSecond}
 use Rattle.scheme.specs.Words.{isChoice, isNew, isSilent, argument, argumentCount}
-use Rattle.rewriting.specs.Rewriting.{callsItself, copyName, copyDefinition, copyNode, copyBranch, copyArgument, definitionCopy, nodeCopy, branchCopy}
+use Rattle.rewriting.specs.Rewriting.{copyName, copyDefinition, copyNode, copyBranch, copyArgument, definitionCopy, nodeCopy, branchCopy}
 use Rattle.rewriting.specs.Rewriting.{rewrittenHeader, namePart, definitionPart, threadPart, nodePart, branchPart, argumentPart}
 use Rattle.rewriting.specs.Inner.Belonging.{Bodies}
-use Rattle.rewriting.specs.Inner.Copying.{Rows}
+use Rattle.rewriting.specs.Inner.Copying.{selfCall, Rows}
 use Rattle.rewriting.specs.Inner.Counting.{Summed, Small}
 use Rattle.rewriting.specs.Inner.Placing.{Placing}
 use Rattle.rewriting.specs.declared.copies.Counts.{Counts}
@@ -15,10 +16,11 @@ use Rattle.rewriting.specs.declared.words.Part.{Part}
 use Rattle.rewriting.specs.declared.words.Part.the-variants.{Names, Definitions, Nodes, Branches, Arguments}
 
 module _ (w : List ℕ) where
-  -- a node's second word, and the fields of copies that are read as copies
-  unfoldable pub target : ℕ → ℕ
-  target n = pick (callsItself w n) (copyDefinition w (nodeFirst w n)) (nodeFirst w n)
+  -- the second word of a node, or of its copy, by lent definitions
+  unfoldable pub targetIn : List ℕ → Bool → ℕ → ℕ
+  targetIn defs copy n = pick copy (nodeFirst w n) (pick (selfCall w defs n) (copyDefinition w (nodeFirst w n)) (nodeFirst w n))
 
+  -- the fields of copies that are read as copies
   unfoldable pub copiedFormal : ℕ → ℕ
   copiedFormal d = pick (same (formalCount w d) 0) 0 (copyName w (firstFormal w d))
 

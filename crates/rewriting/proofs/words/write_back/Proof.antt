@@ -20,7 +20,7 @@ start c = c .before .before .before .before .before .before .before .before .bef
 
 whole : (c : tie.After-write-copies3)
     → let a = start (noded (branched c)) .args in
-    Listed 1048576 (backWords (a .table .now)) (a .out .now) (a .start) (c .write-copies3 .last .1 .1 .1 .1 .1 .1 .1 .0) (c .write-copies3 .result)
+    Listed 1048576 (backWords (a .table .now)) (a .out .now) (a .start) (c .write-copies3 .last .1 .1 .1 .1 .1 .1 .1 .1 .0) (c .write-copies3 .result)
 whole c =
     let k = c .before .before .before .before in
     let b = branched c in

@@ -19,7 +19,7 @@ abbrev headed : tie.After-write-copies → tie.After-write-header
 headed c = c .before .before .before .before .before .before .before .before .before .before
 
 abbrev start : tie.After-write-header → tie.Start
-start c = c .before .before .before .before .before .before
+start c = c .before .before .before .before .before .before .before
 
 whole : (c : tie.After-write-words3)
     → let a = start (headed (named (defined c))) .args in

@@ -1,6 +1,7 @@
 -- `rewriting::words::write_node` meets its contract.
 use Rattle.rewriting.specs.Rewriting.{nodeWords}
-use Rattle.rewriting.specs.Inner.Writing.{target}
+use Rattle.rewriting.specs.Inner.Writing.{targetIn}
+use Rattle.rewriting.proofs.Marks.{self-call}
 use borrow.Author.Needs.{needs}
 use Rattle.rewriting.proofs.words.write_node.Statement.{statement}
 use Rattle.rewriting.proofs.words.write_node.Tie as tie
@@ -21,11 +22,17 @@ same-length : tie.Need-same-length
 same-length c = search needs
 
 returns : tie.Need-returns
-unfolding nodeWords target
+unfolding nodeWords targetIn
 returns c =
     let c2 = c .before .before in
     let c5 = c2 .before .before .before in
-    rw (← c5 .target-of .ensures .is, ← c5 .before .field3 .ensures .is, ← c2 .before .field32 .ensures .is) (c2 .write3 .ensures)
+    let s = c5 .before .before .before .before .before .before in
+    rw (
+      ← self-call (s .args .table .now) (s .args .definitions .now) (s .pre .0 .bodies) (s .args .node) (s .pre .1),
+      ← c5 .target-of .ensures .is,
+      ← c5 .before .field3 .ensures .is,
+      ← c2 .before .field32 .ensures .is,
+    ) (c2 .write3 .ensures)
 
 pub write-node-spec : {M : Type 1} → statement M
 write-node-spec =

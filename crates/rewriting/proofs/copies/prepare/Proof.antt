@@ -1,10 +1,10 @@
--- `rewriting::prepare` meets its contract.
+-- `rewriting::copies::prepare` meets its contract.
 use mathlib.Core.Path.{sym, _∙_}
 use borrow.Author.Tests.{not-false}
 use Rattle.rewriting.proofs.Preparation.{accepted-here, refused-here, ready-here, beyond-here, within-is}
 use borrow.Author.Needs.{needs}
-use Rattle.rewriting.proofs.prepare.Statement.{statement}
-use Rattle.rewriting.proofs.prepare.Tie as tie
+use Rattle.rewriting.proofs.copies.prepare.Statement.{statement}
+use Rattle.rewriting.proofs.copies.prepare.Tie as tie
 
 check-sparing-requires : tie.Need-check-sparing-requires
 check-sparing-requires c κs = search needs
