@@ -36,3 +36,5 @@ pub mod StandsFor
 pub mod ReadBack
 pub mod Whole
 pub mod Theorem
+pub mod Refusing
+pub mod WrongClaims
