@@ -26,9 +26,10 @@
  * 4 communication, send branch, receive branch; 5 call, node, 0. Kinds 0 and 1 are bookkeeping, the others are steps of
  * the process. docs/FORMATS.md has the layout of tables and images, the numbers of the places, and every cause.
  *
- * Order of calls. Build the image of a table; its first word counts the places, so it is the length of a marking. A
- * replay of no numbers leaves the initial marking. A firing and a run start at the marking that is lent, whatever it
- * is; a run fires the lowest enabled transition each time. Read tells which state a marking stands for.
+ * Order of calls. Build writes the image of a table, into as many words as size tells; the image's first word counts
+ * the places, so it is the length of a marking. A replay of no numbers leaves the initial marking. A firing and a run
+ * start at the marking that is lent, whatever it is; a run fires the lowest enabled transition each time. Read tells
+ * which state a marking stands for.
  */
 #ifndef DEKOHUNA_H
 #define DEKOHUNA_H
