@@ -53,16 +53,21 @@ module _ (w owners homes : List ℕ) (O : Owned w owners homes) where
       let k = distinct-below (scheme w .held n) (scheme w .publics + scheme w .bounds) (λ x m. A .held-name n x m .high) (A .held-distinct n) in
       omega (arith, A .few-publics, A .few-bounds)
 
-  held-reached : (n : ℕ) → isStop (scheme w .node n) ≡ false → heldIn w owners homes n ≡ scheme w .held n
+  -- a node that is no Stop is one of the table's
+  pub node-low : (n : ℕ) → isStop (scheme w .node n) ≡ false → n < 256
   unfolding scheme nodeAt
+  node-low n h = inside (decLt n (nodes w))
+    where
+      inside : Dec (n < nodes w) → n < 256
+      inside (yes l) = omega (arith, accepted w (O .ok) .few-nodes)
+      inside (no d) = false-true h (rw (le-ltb n (nodes w) (omega arith)))
+
+  held-reached : (n : ℕ) → isStop (scheme w .node n) ≡ false → heldIn w owners homes n ≡ scheme w .held n
+  unfolding scheme
   held-reached n h =
       let A = accepted w (O .ok) in
-      held-indexed w owners homes n (O .owners-right) (O .homes-right) (inside (decLt n (nodes w))) (omega (arith, A .few-branches, O .homes-reach))
-      (omega (arith, A .few-definitions)) (omega (arith, A .few-nodes))
-    where
-      inside : Dec (n < nodes w) → n < length owners
-      inside (yes l) = omega (arith, accepted w (O .ok) .few-nodes, O .owners-reach)
-      inside (no d) = false-true h (rw (le-ltb n (nodes w) (omega arith)))
+      held-indexed w owners homes n (O .owners-right) (O .homes-right) (omega (arith, node-low n h, O .owners-reach))
+      (omega (arith, A .few-branches, O .homes-reach)) (omega (arith, A .few-definitions)) (omega (arith, A .few-nodes))
 
   module _ (n r : ℕ) (after : List ℕ) (h : isStop (scheme w .node n) ≡ false) (H : HeldNames (heldIn w owners homes n) (replicate 64 0) r after) where
     names-fit : length (heldIn w owners homes n) ≤ length (replicate {A = ℕ} 64 0)

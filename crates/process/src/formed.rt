@@ -48,7 +48,7 @@ fn holds(table: &[u16], owners: &[u32], homes: &[u32], node: usize, name: usize)
         return false;
     }
     let mut names = [0u32; 64];
-    let count = held_names(table, owners, homes, node as u16, &mut names);
+    let count = held_names(table, owners, homes, node as u8, &mut names);
     is_listed(&names, count, name)
 }
 

@@ -3,7 +3,7 @@ use mathlib.Core.Path.{_≡_, refl, sym, ap, _∙_}
 use native.Mathlib.Omega.{arith}
 use lib.Seq.{slice}
 use Rattle.lists.specs.Lists.{member}
-use Rattle.process.proofs.Forming.{held-listed, held-count-fits}
+use Rattle.process.proofs.Forming.{node-low, held-listed, held-count-fits}
 use borrow.Author.Needs.{needs}
 use Rattle.process.proofs.formed.holds.Statement.{statement}
 use Rattle.process.proofs.formed.holds.Tie as tie
@@ -15,7 +15,9 @@ returns : tie.Need-returns
 returns c = rw (sym (c .before .is-stop .ensures) ∙ c .if1 .taken)
 
 cast-held-names : tie.Need-cast-held-names
-cast-held-names c = search needs
+cast-held-names c =
+    let s = c .before .before .before .before .before in
+    omega (arith, node-low _ _ _ (s .pre .0) (s .args .node) (sym (c .before .is-stop .ensures) ∙ c .if1 .left))
 
 slice-aggregate-held-names : tie.Need-slice-aggregate-held-names
 slice-aggregate-held-names c = search needs
