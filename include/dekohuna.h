@@ -99,10 +99,14 @@ enum dekohuna_code {
 uint64_t dekohuna_check(const uint16_t *table, size_t table_words);
 
 /* Writes the image of a table's net to the start of `out`; the value is the words written. Causes 1 to 10. After 10,
- * call again with more room. The image's first five words count places, transitions, input arcs, output arcs and
- * initial tokens; the sixth and seventh are where the initial places and the transitions start. A transition has six
- * words, of which the first three are its label. */
+ * call again with the room that dekohuna_size tells. The image's first five words count places, transitions, input
+ * arcs, output arcs and initial tokens; the sixth and seventh are where the initial places and the transitions start.
+ * A transition has six words, of which the first three are its label. */
 uint64_t dekohuna_build(const uint16_t *table, size_t table_words, uint32_t *out, size_t out_words);
+
+/* Tells how many words the image of a table's net has, the room that dekohuna_build needs; the value is that number.
+ * Causes 1 to 9. */
+uint64_t dekohuna_size(const uint16_t *table, size_t table_words);
 
 /* Fires a transition by its number; the value is 1 if it was made, else 0. Causes 11, 13, 14, 12, 15 and 16, looked at
  * in this order. Any image may be lent, also one that no table has. */
