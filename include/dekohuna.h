@@ -1,7 +1,9 @@
 /* Dekohuna: from a process table to a Petri net, its firings, and back to states of the process.
  *
- * For x86-64 Linux. `rt staticlib capi` writes target/staticlib/libcapi.a; link that archive and the C library, of
- * which it uses memset alone. What each call returns and what it leaves in each buffer is proved in crates/capi.
+ * For x86-64 Linux. `rt staticlib capi` writes target/staticlib/libcapi.a; link that archive, and the C library for
+ * these functions:
+ *     C library: memcpy memset
+ * What each call returns and what it leaves in each buffer is proved in crates/capi.
  *
  * What a call returns. One word: DEKOHUNA_CODE(word) is how the call ended, an enum dekohuna_code;
  * DEKOHUNA_VALUE(word) is what was counted, as said at each call, and 0 where a call counts nothing.
@@ -21,7 +23,13 @@
  * Words. A table has 16-bit words, an image and labels 32-bit words, a marking a byte for each place, 0 or 1. A state
  * has a word for each thread, its node, then one for each bound name, its value or 65535 where it is not held. A label
  * is three words, kind, a, b: 0 copy, node, formal; 1 release, node, name; 2 new, node, name; 3 silent, branch, 0;
- * 4 communication, send branch, receive branch; 5 call, node, 0.
+ * 4 communication, send branch, receive branch; 5 call, node, 0. Kinds 0 and 1 are bookkeeping, the others are steps of
+ * the process. docs/FORMATS.md has the layout of tables and images, the numbers of the places, and every cause.
+ *
+ * Order of calls. Build writes the image of a table, into as many words as size tells; the image's first word counts
+ * the places, so it is the length of a marking. A replay of no numbers leaves the initial marking. A firing and a run
+ * start at the marking that is lent, whatever it is; a run fires the lowest enabled transition each time. Read tells
+ * which state a marking stands for.
  */
 #ifndef DEKOHUNA_H
 #define DEKOHUNA_H
@@ -91,10 +99,14 @@ enum dekohuna_code {
 uint64_t dekohuna_check(const uint16_t *table, size_t table_words);
 
 /* Writes the image of a table's net to the start of `out`; the value is the words written. Causes 1 to 10. After 10,
- * call again with more room. The image's first five words count places, transitions, input arcs, output arcs and
- * initial tokens; the sixth and seventh are where the initial places and the transitions start. A transition has six
- * words, of which the first three are its label. */
+ * call again with the room that dekohuna_size tells. The image's first five words count places, transitions, input
+ * arcs, output arcs and initial tokens; the sixth and seventh are where the initial places and the transitions start.
+ * A transition has six words, of which the first three are its label. */
 uint64_t dekohuna_build(const uint16_t *table, size_t table_words, uint32_t *out, size_t out_words);
+
+/* Tells how many words the image of a table's net has, the room that dekohuna_build needs; the value is that number.
+ * Causes 1 to 9. */
+uint64_t dekohuna_size(const uint16_t *table, size_t table_words);
 
 /* Fires a transition by its number; the value is 1 if it was made, else 0. Causes 11, 13, 14, 12, 15 and 16, looked at
  * in this order. Any image may be lent, also one that no table has. */
@@ -107,10 +119,11 @@ uint64_t dekohuna_fire(const uint32_t *image, size_t image_words, uint8_t *marki
 uint64_t dekohuna_replay(const uint32_t *image, size_t image_words, uint8_t *marking, size_t marking_bytes,
                          const uint32_t *numbers, size_t number_count);
 
-/* Fires the lowest enabled transition over and over, and writes the numbers to the history; the value is the firings
- * made, and just as many words of the history change. Before each firing it looks, in this order, whether `limit`
- * firings are made (200), whether the history is full (201) and whether nothing is enabled (202). Causes 11 and 13
- * before any firing; 12 at a malformed record met in the search; 16 where the lowest enabled transition has it. */
+/* Starts at the marking lent, fires the lowest enabled transition over and over, and writes the numbers to the history;
+ * the value is the firings made, and just as many words of the history change. Before each firing it looks, in this
+ * order, whether `limit` firings are made (200), whether the history is full (201) and whether nothing is enabled
+ * (202). Causes 11 and 13 before any firing; 12 at a malformed record met in the search; 16 where the lowest enabled
+ * transition has it. */
 uint64_t dekohuna_run(const uint32_t *image, size_t image_words, uint8_t *marking, size_t marking_bytes,
                       uint64_t limit, uint32_t *history, size_t history_words);
 

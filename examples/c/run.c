@@ -69,17 +69,12 @@ static struct table read_table(const char *path) {
     return table;
 }
 
-/* The image of a table, in a buffer that is doubled until it is long enough. */
+/* The image of a table, in a buffer of just its size. */
 static struct image build(struct table table) {
-    for (size_t words = 64;; words *= 2) {
-        uint32_t *out = room(words, sizeof(uint32_t));
-        uint64_t word = dekohuna_build(table.words, table.count, out, words);
-        if (DEKOHUNA_CODE(word) != DEKOHUNA_OUTPUT_SHORT) {
-            struct image image = {out, accepted(word)};
-            return image;
-        }
-        free(out);
-    }
+    size_t words = accepted(dekohuna_size(table.words, table.count));
+    struct image image = {room(words, sizeof(uint32_t)), words};
+    accepted(dekohuna_build(table.words, table.count, image.words, image.count));
+    return image;
 }
 
 /* A firing, by what its label says. */

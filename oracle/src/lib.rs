@@ -1,6 +1,6 @@
-//! A second reading of document 01: the table check, the image builder, firing, replay, run,
-//! reading back, and the plain process, written from the document and sharing no code with the
-//! project it is compared with.
+//! A second reading of document 01: the table check, the image builder and its size, firing,
+//! replay, run, reading back, and the plain process, written from the document and sharing no code
+//! with the project it is compared with.
 //!
 //! The calls exported here are total. A refusal changes no lent buffer, except that a replay or run
 //! stopped on its way leaves exactly the firings made.
@@ -31,4 +31,5 @@ pub use listing::listing;
 pub use net::{fire, replay, run, Reason, Refusal, RunAnswer};
 pub use process::{open_steps, start, step};
 pub use readback::read;
+pub use size::size;
 pub use table::check;

@@ -5,7 +5,18 @@
 use std::ops::Range;
 
 use crate::places::Places;
-use crate::table::{Branch, Node, Table};
+use crate::table::{accept, Branch, Node, Table};
+
+/// How many words the image of a table has; causes 1 to 9.
+pub fn size(words: &[u16]) -> Result<usize, u32> {
+    Ok(image_words(&accept(words)?))
+}
+
+/// How many words the image of an accepted table has.
+pub fn image_words(table: &Table) -> usize {
+    let places = Places::of(table);
+    Size::of(table, &places).image_words(places.initial(table).len())
+}
 
 #[derive(Clone, Copy, Debug, Default, PartialEq, Eq)]
 pub struct Size {

@@ -7,7 +7,7 @@ use common::{image_of, initial_of, E};
 use oracle::damage::damaged;
 use oracle::generate::{encode, Shape};
 use oracle::random::Random;
-use oracle::{build, check, fire, open_steps, read, start, step};
+use oracle::{build, check, fire, open_steps, read, size, start, step};
 
 /// One thread: K0 := τ.ν r.K1(r, p); K1(f, g) := τ.K2; K2 := p(x).K0.
 fn calls() -> Vec<u16> {
@@ -163,6 +163,7 @@ fn damaged_tables_fail_by_their_cause_in_every_call() {
         for _ in 0..400 {
             let words = damaged(&mut random, Shape::SMALL, cause);
             assert_eq!(check(&words), cause, "{words:?}");
+            assert_eq!(size(&words), Err(cause));
             assert_eq!(build(&words, &mut []), Err(cause));
             assert_eq!(start(&words, &mut []), Err(cause));
             assert_eq!(read(&words, &[2], &mut []), Err(cause));

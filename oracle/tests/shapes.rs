@@ -4,11 +4,9 @@ mod common;
 
 use common::{image_of, Net};
 use oracle::generate::{accepted, Shape};
-use oracle::places::Places;
 use oracle::random::Random;
-use oracle::size::Size;
 use oracle::table::{accept, Branch, NameKind, Node, Table};
-use oracle::{build, check};
+use oracle::{build, check, size};
 
 /// The shapes a table has.
 fn shapes(table: &Table) -> Vec<(&'static str, bool)> {
@@ -250,10 +248,7 @@ fn tables_up_to_the_bounds_keep_the_fourth_power() {
     let mut largest = 0;
     for _ in 0..300 {
         let words = accepted(&mut random, Shape::FULL);
-        let table = accept(&words).unwrap();
-        let places = Places::of(&table);
-        let size = Size::of(&table, &places);
-        let image_words = size.image_words(places.initial(&table).len());
+        let image_words = size(&words).unwrap();
         assert!(within_fourth_power(&words, image_words));
         largest = largest.max(image_words);
         if image_words < 2_000_000 {

@@ -5,7 +5,7 @@ mod common;
 use common::{Label, Net};
 use oracle::generate::{accepted, Shape};
 use oracle::random::Random;
-use oracle::{build, check, fire, listing, open_steps, read, replay, run, start, step};
+use oracle::{build, check, fire, listing, open_steps, read, replay, run, size, start, step};
 use oracle::{Reason, Refusal, RunAnswer};
 
 /// Numbers likely to be at an edge.
@@ -42,10 +42,11 @@ fn spoilt_tables_have_one_cause_in_every_call() {
         causes[cause as usize] += 1;
         let mut image = vec![1; 40_000];
         let mut state = vec![1; 64];
+        let needed = size(&words);
         match build(&words, &mut image) {
-            Ok(length) => assert!(cause == 0 && length <= image.len()),
-            Err(10) => assert_eq!(cause, 0),
-            Err(other) => assert_eq!(other, cause),
+            Ok(length) => assert!(cause == 0 && needed == Ok(length)),
+            Err(10) => assert!(cause == 0 && needed.is_ok_and(|needed| needed > image.len())),
+            Err(other) => assert!(cause == other && needed == Err(other)),
         }
         match start(&words, &mut state) {
             Ok(length) => {

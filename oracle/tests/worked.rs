@@ -4,7 +4,7 @@
 mod common;
 
 use common::{image_of, initial_of, E};
-use oracle::{build, check, fire, listing, open_steps, read, replay, run, start, step};
+use oracle::{build, check, fire, listing, open_steps, read, replay, run, size, start, step};
 use oracle::{Reason, Refusal, RunAnswer};
 
 const STOPPED: [u16; 21] = [
@@ -97,6 +97,7 @@ fn table_e_has_its_listing() {
 
 #[test]
 fn table_e_needs_115_words() {
+    assert_eq!(size(&E), Ok(115));
     let mut out = [3; 115];
     assert_eq!(build(&E, &mut out), Ok(115));
     assert_eq!(out, E_IMAGE);
@@ -117,6 +118,7 @@ fn starred_tables_are_refused() {
 
 #[test]
 fn the_stopped_table_builds_its_nine_words() {
+    assert_eq!(size(&STOPPED), Ok(9));
     assert_eq!(image_of(&STOPPED), [1, 0, 0, 0, 1, 8, 9, 9, 0]);
     assert_eq!(listing(&bytes(&STOPPED)), "1 0 0 0 1\n");
     let mut call = STOPPED;

@@ -33,6 +33,7 @@ extern "C" {
         out: *mut u32,
         out_words: usize,
     ) -> u64;
+    fn dekohuna_size(table: *const u16, table_words: usize) -> u64;
     fn dekohuna_fire(
         image: *const u32,
         image_words: usize,
@@ -101,6 +102,10 @@ pub fn check(table: &[u16]) -> Answer {
 
 pub fn build(table: &[u16], out: &mut [u32]) -> Answer {
     answer(unsafe { dekohuna_build(table.as_ptr(), table.len(), out.as_mut_ptr(), out.len()) })
+}
+
+pub fn size(table: &[u16]) -> Answer {
+    answer(unsafe { dekohuna_size(table.as_ptr(), table.len()) })
 }
 
 pub fn fire(image: &[u32], marking: &mut [u8], transition: u32) -> Answer {

@@ -16,7 +16,7 @@ use Rattle.net.specs.Net.{Net, Transition, arcsOf, headerWords, recordsOffset, 
 use Rattle.net.proofs.Encode
 use Rattle.places.specs.Transitions.{Description, ofNode, ofPair, descriptions}
 use Rattle.places.specs.Image.{transitionOf, netOf, imageOf}
-use Rattle.builder.specs.Answer.{BuildOutcome, outcome, buildOutcome, laidOutcome}
+use Rattle.builder.specs.Answer.{BuildOutcome, outcome, buildOutcome, laidOutcome, extent, sizeOutcome}
 use Rattle.places.specs.Inner.Arcs.{initialNumbers}
 use Rattle.builder.specs.Inner.Writing
 use Rattle.builder.specs.Inner.Writing.{writes, heads, putAll, Inside}
@@ -136,3 +136,11 @@ module _ (w : List ℕ) where
   pub laid-answer : (lent : List ℕ) → cause w ≡ 0 → laidOutcome w lent ≡ buildOutcome w lent
   unfolding buildOutcome
   laid-answer lent e = rw (same-yes (cause w) 0 e)
+
+  pub size-answer : (n : ℕ) → cause w ≡ 0 → n ≡ length (imageOf w) → extent 0 n ≡ sizeOutcome w
+  unfolding sizeOutcome
+  size-answer n h e = rw (same-yes (cause w) 0 h, e)
+
+  pub no-size : (n : ℕ) → n ≡ cause w → (cause w ≡ 0 → ⊥) → extent n 0 ≡ sizeOutcome w
+  unfolding sizeOutcome
+  no-size n e d = rw (same-no (cause w) 0 d, e)

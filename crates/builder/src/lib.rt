@@ -3,7 +3,7 @@ ghost use mathlib.Core.Path.{_≡_};
 ghost use Prim.Native.Nat.{_+_, _*_, _<_};
 ghost use Rattle.places.specs.Inner.Plan.{Known, Defined, Laid};
 ghost use Rattle.places.specs.Inner.Counting.{Few, sumsOf, allSums};
-ghost use Rattle.builder.specs.Answer.{builtOutcome, laidOutcome, buildOutcome};
+ghost use Rattle.builder.specs.Answer.{builtOutcome, laidOutcome, buildOutcome, sizedOutcome, sizeOutcome};
 
 mod chain;
 mod communications;
@@ -24,6 +24,12 @@ pub enum Built {
     Words(usize),
     Refused(Verdict),
     Room,
+}
+
+// What `size` answers: the words that the image has, or the table's cause.
+pub enum Sized {
+    Words(usize),
+    Refused(Verdict),
 }
 
 // How many words the image has.
@@ -96,5 +102,29 @@ pub fn build(table: &[u16], out: &mut [u32]) -> Built
         ),
         Measured::Refused(verdict) => Built::Refused(verdict),
         Measured::Short => Built::Room,
+    }
+}
+
+// How many words the image of the table's net has: the room that `build` needs.
+pub fn size(table: &[u16]) -> Sized
+    ensures { λ r. ⌜ sizedOutcome r ≡ sizeOutcome (now (table .entry)) ⌝ }
+{
+    let mut owners = [0u32; 256];
+    let mut homes = [0u32; 256];
+    let mut definitions = [0u16; 256];
+    let mut rows = [0u32; 64];
+    let mut spots = [0u32; 256];
+    match places::measure(
+        table,
+        &mut owners,
+        &mut homes,
+        &mut definitions,
+        &mut rows,
+        &mut spots,
+    ) {
+        Measured::Net(plan, totals) => Sized::Words(length_of(plan, totals)),
+        Measured::Refused(verdict) => Sized::Refused(verdict),
+        // Never so: the lent words are enough for every table.
+        Measured::Short => Sized::Words(0),
     }
 }

@@ -172,7 +172,7 @@ fn call(
     let d = field3(table, 10, n, 1);
     let formals = field4(table, 8, d, 3);
     let mut names = [0u32; 64];
-    let held = scheme::index::held_names(table, owners, homes, n as u16, &mut names);
+    let held = scheme::index::held_names(table, owners, homes, n as u8, &mut names);
     let to = field4(table, 8, d, 1);
     let c = Chain {
         node: n,
@@ -216,7 +216,7 @@ fn stop(
         (releases (scheme (now (table .entry))) (today (now (table .entry))) n n 0 (held (now (table .entry)) n)) ⌝ }
 {
     let mut names = [0u32; 64];
-    let held = scheme::index::held_names(table, owners, homes, n as u16, &mut names);
+    let held = scheme::index::held_names(table, owners, homes, n as u8, &mut names);
     let first = word32(spots, n);
     let c = Chain {
         node: n,

@@ -1,5 +1,5 @@
--- A word has its whole value where the value fits 56 bits, and what `build`, `start`, `step` and `read` count always does. The other calls count no more
--- than the elements of a buffer.
+-- A word has its whole value where the value fits 56 bits, and what `build`, `size`, `start`, `step` and `read` count always does. The other calls count no
+-- more than the elements of a buffer.
 use mathlib.Core.Path.{_≡_, refl}
 use mathlib.Core.Bool.{Bool, true, false, not}
 use mathlib.Core.List.{List, _++_}
@@ -19,7 +19,7 @@ use Rattle.places.specs.Values.{allValues}
 use Rattle.places.specs.Places.{places}
 use Rattle.places.specs.Image.{imageOf}
 use Rattle.builder.specs.Answer as Build
-use Rattle.builder.specs.Answer.{buildOutcome}
+use Rattle.builder.specs.Answer.{buildOutcome, sizeOutcome}
 use Rattle.places.proofs.Size.{image-below}
 use Rattle.process.specs.States.{State}
 use Rattle.process.specs.Steps.{take, isOpen}
@@ -47,6 +47,14 @@ build-fits w lent = go (same (cause w) 0) refl
 
     go : (b : Bool) → same (cause w) 0 ≡ b → pick b (Build.laidOutcome w lent) (Build.outcome (cause w) 0 lent) .words < 2 ^ 56
     go true e = laid (same-true (cause w) 0 e) (ltb (length lent) (length (imageOf w)))
+    go false e = omega arith
+
+pub size-fits : (w : List ℕ) → sizeOutcome w .words < 2 ^ 56
+unfolding sizeOutcome
+size-fits w = go (same (cause w) 0) refl
+  where
+    go : (b : Bool) → same (cause w) 0 ≡ b → pick b (Build.extent 0 (length (imageOf w))) (Build.extent (cause w) 0) .words < 2 ^ 56
+    go true e = omega (arith, image-below w (same-true (cause w) 0 e))
     go false e = omega arith
 
 -- ---- calls on states

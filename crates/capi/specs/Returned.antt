@@ -4,7 +4,7 @@ use mathlib.Core.Option.{Option, none, some}
 use mathlib.Core.List.{List, _++_}
 use Prim.Native.Nat.{ℕ, _+_, _*_, _%_, _^_}
 use lib.ListN.{drop}
-use Rattle.builder.specs.Answer.{BuildOutcome}
+use Rattle.builder.specs.Answer.{BuildOutcome, SizeOutcome}
 use Rattle.net.specs.Firing.{Ending, limitReached, historyFull, nothingEnabled, stopped, RunOutcome}
 use Rattle.net.specs.Firing as Net
 use Rattle.process.specs.Outcomes.{Outcome}
@@ -24,6 +24,10 @@ returned word buffer = record { word = word; buffer = buffer }
 -- code 0 is success, 1 to 10 the cause; value is the words written
 abbrev pub ofBuild : BuildOutcome → Returned
 ofBuild o = returned (packed (o .words) (o .number)) (o .buffer)
+
+-- code 0 is success, 1 to 9 the cause; value is the words of the image
+abbrev pub ofSize : SizeOutcome → ℕ
+ofSize o = packed (o .words) (o .number)
 
 -- code 0 is success, 11 to 16 the cause; value is the firings made
 abbrev pub ofFirings : Net.Outcome → Returned

@@ -6,16 +6,17 @@ ghost use mathlib.Core.List.{[]};
 ghost use Prim.Native.Nat.{_<_};
 ghost use lib.ListN.{length};
 ghost use Rattle.table.specs.Causes.{cause};
-ghost use Rattle.builder.specs.Answer.{builtOutcome, buildOutcome};
+ghost use Rattle.builder.specs.Answer.{builtOutcome, buildOutcome, sizedOutcome, sizeOutcome};
 ghost use Rattle.net.specs.Answers.{causeNumber, firingNumber, firingsMade, ending};
 ghost use Rattle.net.specs.Firing.{fire, replay, run};
 ghost use Rattle.process.specs.Answers.{answerNumber, answerValue};
 ghost use Rattle.process.specs.Outcomes.{startOutcome, openOutcome, stepOutcome};
 ghost use Rattle.readback.specs.Answers.{readOutcome};
 ghost use Rattle.readback.specs.Answers as Read;
-ghost use Rattle.capi.specs.Returned.{packed, valueOr0, endingCode};
+ghost use Rattle.capi.specs.Returned.{packed, valueOr0, endingCode, ofSize};
 ghost use Rattle.capi.specs.Returned.{returned, ofBuild, ofFirings, ofOutcome, RunReturned};
 use builder::Built;
+use builder::Sized;
 use net::Cause;
 use net::Firing;
 use net::Reason;
@@ -75,6 +76,16 @@ fn built_word(built: Built) -> u64
     }
 }
 
+// The word of a size.
+fn sized_word(sized: Sized) -> u64
+    ensures { λ r. ⌜ r ≡ ofSize (sizedOutcome sized) ⌝ }
+{
+    match sized {
+        Sized::Words(words) => pack(words, 0),
+        Sized::Refused(verdict) => pack(0, table::number(verdict)),
+    }
+}
+
 // The word of what a call on states answered.
 fn answer_word(answer: process::Answer) -> u64
     ensures { λ r. ⌜ r ≡ packed (valueOr0 (answerValue answer)) (answerNumber answer) ⌝ }
@@ -125,6 +136,14 @@ pub extern "C" fn dekohuna_build(table: &[u16], out: &mut [u32]) -> u64
     ensures { λ r. ⌜ returned r (now (out .exit)) ≡ ofBuild (buildOutcome (now (table .entry)) (now (out .entry))) ⌝ }
 {
     built_word(builder::build(table, out))
+}
+
+// Tells how many words the image of a table's net has.
+#[no_mangle]
+pub extern "C" fn dekohuna_size(table: &[u16]) -> u64
+    ensures { λ r. ⌜ r ≡ ofSize (sizeOutcome (now (table .entry))) ⌝ }
+{
+    sized_word(builder::size(table))
 }
 
 // Fires a transition by its number.

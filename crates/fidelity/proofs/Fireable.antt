@@ -16,6 +16,7 @@ use Rattle.scheme.specs.Scheme.{Scheme, choice, new, send, receive}
 use Rattle.table.specs.Accepted.{NameOf, Usable, Accepted}
 use Rattle.process.specs.States.{State}
 use Rattle.process.specs.Steps.{Step, newStep, communication, isOpen}
+use Rattle.process.specs.Labels.{labelOf}
 use Rattle.places.specs.Values.{Values}
 use Rattle.places.specs.Transitions.{test, Description, making, communicating}
 use Rattle.readback.specs.Configurations.{Spot, spot, Configuration}
@@ -96,6 +97,7 @@ module _ (S : Scheme) (U : Values) (A : Accepted S) (E : EnoughValues S U) where
     pub described : Described S U firing
     pub fits : Fits S firing c
     pub names : stepNamed S firing ≡ σ
+    pub label : firing .label .kind ∷ firing .label .a ∷ firing .label .b ∷ [] ≡ labelOf S σ
 
   pub fire-new : (c : Configuration) → WellFormed S U c → (k r l : ℕ) → S .node k ≡ new r l → c .at (S .thread k) ≡ spot k 0 → Fireable c (newStep k)
   fire-new c W k r l h p =
@@ -112,6 +114,7 @@ module _ (S : Scheme) (U : Values) (A : Accepted S) (E : EnoughValues S U) where
           );
         };
         names = new-named S k r l h;
+        label = rw h;
       }
     where
       nm : NameOf S (S .thread k) r
@@ -167,6 +170,7 @@ module _ (S : Scheme) (U : Values) (A : Accepted S) (E : EnoughValues S U) where
               );
             };
             names = communication-named S g a z l r x y m hs hr df;
+            label = refl;
           }
         where
           self : z ≡ a → j ≡ i

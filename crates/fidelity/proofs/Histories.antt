@@ -24,15 +24,15 @@ use Rattle.net.proofs.Outcomes.{turn-first, turn-keeps, run-in-turn, run-count}
 use Rattle.net.proofs.Built.{initial-is-marking, fire-built, replay-built, run-built}
 use Rattle.places.specs.Image.{netOf, imageOf}
 use Rattle.readback.specs.Configurations.{Configuration}
-use Rattle.fidelity.specs.Calls.{Call, fire, run, replay, Answer, Plain, ofOutcome, ofRun, endingCause, image, advances, begun, makes, hears}
+use Rattle.fidelity.specs.Calls.{Call, fire, run, replay, Answer, Plain, ofOutcome, ofRun, endingCause, advances, begun, makes, hears}
 use Rattle.fidelity.specs.Calls.{leavesAll, World, calledOn, after, world}
-use Rattle.fidelity.specs.Demand.{lawful, rowsWithin, CanFire}
+use Rattle.fidelity.specs.Demand.{lawful, rowsWithin}
 use Rattle.fidelity.specs.Inner.Standing.{markingOf, Stands}
 use Rattle.fidelity.specs.Inner.Starting.{startConfiguration}
 use Rattle.fidelity.proofs.Rows.{left-bound}
 use Rattle.fidelity.proofs.Starting.{start-shows}
 use Rattle.fidelity.proofs.Built as Built
-use Rattle.fidelity.proofs.Turns.{S, U, E, image-is, Kept, Acts, goes, stops, turns}
+use Rattle.fidelity.proofs.Turns.{image, S, U, E, image-is, Kept, Acts, goes, stops, turns}
 use Rattle.fidelity.proofs.Waiting.{can-fire}
 use Rattle.fidelity.proofs.Worlds.{Calm, calm-16, calm-leaves, every-snoc, net, Standing, act, turn-calm, Joined, joined, advances-append, run-calm}
 
@@ -44,10 +44,10 @@ module _ (w : List ℕ) (A : Accepted (scheme w)) where
   first = initialMarking (image w)
 
   -- the marking and the plain process are what the firings made give
-  pub record Played (v : World w) : Type 0 where
+  pub record Played (v : World) : Type 0 where
     pub fired : inTurn (image w) first (v .plain .made) .cause ≡ 0
     pub marks : v .marking ≡ inTurn (image w) first (v .plain .made) .marking
-    pub state : v .plain .state ≡ advances w (start (scheme w)) (v .plain .made)
+    pub state : v .plain .state ≡ advances w (image w) (start (scheme w)) (v .plain .made)
     pub safe : every calm (v .answers) ≡ true
 
   first-is : first ≡ markingOf (S w A) (U w A) (startConfiguration (S w A))
@@ -61,7 +61,7 @@ module _ (w : List ℕ) (A : Accepted (scheme w)) where
       (ap (λ (m : List ℕ). inTurn (image w) m ns .cause) (sym first-is) ∙ h)
 
   -- the marking stands for the plain process's state
-  pub played-stands : (v : World w) → Played v → Stands (S w A) (U w A) (v .marking) (v .plain .state)
+  pub played-stands : (v : World) → Played v → Stands (S w A) (U w A) (v .marking) (v .plain .state)
   played-stands v P = build (from-start (v .plain .made) (P .fired))
     where
       build : Kept w A 0 (startConfiguration (S w A)) (start (scheme w)) (v .plain .made) → Stands (S w A) (U w A) (v .marking) (v .plain .state)
@@ -71,7 +71,7 @@ module _ (w : List ℕ) (A : Accepted (scheme w)) where
         is = P .marks ∙ ap (λ (m : List ℕ). inTurn (image w) m (v .plain .made) .marking) first-is ∙ K .marks;
       }
 
-  pub played-marking : (v : World w) → Played v → isMarking (net w A .places) (v .marking) ≡ true
+  pub played-marking : (v : World) → Played v → isMarking (net w A .places) (v .marking) ≡ true
   played-marking v P =
       subst (λ (m : List ℕ). isMarking (net w A .places) m ≡ true) (sym (P .marks))
       (turn-keeps (net w A .places) (image w) first (v .plain .made)
@@ -80,49 +80,50 @@ module _ (w : List ℕ) (A : Accepted (scheme w)) where
   -- ---- what a call does
 
   -- numbers more are made
-  more-made : (v : World w) → Played v → (ks : List ℕ) (a : Answer) (m : List ℕ) → inTurn (image w) (v .marking) ks .cause ≡ 0
+  more-made : (v : World) → Played v → (ks : List ℕ) (a : Answer) (m : List ℕ) → inTurn (image w) (v .marking) ks .cause ≡ 0
       → m ≡ inTurn (image w) (v .marking) ks .marking → calm a ≡ true
-      → Played (record { marking = m; plain = makes w (v .plain) ks; answers = v .answers ++ (a ∷ []) })
+      → Played (record { marking = m; plain = makes w (image w) (v .plain) ks; answers = v .answers ++ (a ∷ []) })
   more-made v P ks a m h e q =
       build (joined w A (v .plain .made) ks (startConfiguration (S w A)) (start (scheme w)) (start-shows (S w A) (U w A) A)
       (ap (λ (n : List ℕ). inTurn (image w) n (v .plain .made) .cause) (sym first-is) ∙ P .fired))
     where
       build : Joined w A (markingOf (S w A) (U w A) (startConfiguration (S w A))) (v .plain .made) ks
-          → Played (record { marking = m; plain = makes w (v .plain) ks; answers = v .answers ++ (a ∷ []) })
+          → Played (record { marking = m; plain = makes w (image w) (v .plain) ks; answers = v .answers ++ (a ∷ []) })
       build J =
           let j : Joined w A first (v .plain .made) ks = subst (λ (n : List ℕ). Joined w A n (v .plain .made) ks) (sym first-is) J in
           record {
             fired = j .cause ∙ ap (λ (n : List ℕ). inTurn (image w) n ks .cause) (sym (P .marks)) ∙ h;
             marks = e ∙ ap (λ (n : List ℕ). inTurn (image w) n ks .marking) (P .marks) ∙ sym (j .marking);
-            state = ap (λ (s : State). advances w s ks) (P .state) ∙ sym (advances-append w A (start (scheme w)) (v .plain .made) ks);
+            state = ap (λ (s : State). advances w (image w) s ks) (P .state) ∙ sym (advances-append w A (start (scheme w)) (v .plain .made) ks);
             safe = every-snoc calm (v .answers) a (P .safe) q;
           }
 
   -- nothing changes but the answers
-  none-made : (v : World w) → Played v → (a : Answer) → calm a ≡ true
+  none-made : (v : World) → Played v → (a : Answer) → calm a ≡ true
       → Played (record { marking = v .marking; plain = v .plain; answers = v .answers ++ (a ∷ []) })
   none-made v P a q = record { fired = P .fired; marks = P .marks; state = P .state; safe = every-snoc calm (v .answers) a (P .safe) q }
 
   -- the numbers are made from the start
-  made-afresh : (v : World w) → Played v → (ks : List ℕ) (a : Answer) (m : List ℕ) → inTurn (image w) first ks .cause ≡ 0
-      → m ≡ inTurn (image w) first ks .marking → calm a ≡ true → Played (record { marking = m; plain = makes w (begun w) ks; answers = v .answers ++ (a ∷ []) })
+  made-afresh : (v : World) → Played v → (ks : List ℕ) (a : Answer) (m : List ℕ) → inTurn (image w) first ks .cause ≡ 0
+      → m ≡ inTurn (image w) first ks .marking → calm a ≡ true
+      → Played (record { marking = m; plain = makes w (image w) (begun w) ks; answers = v .answers ++ (a ∷ []) })
   made-afresh v P ks a m h e q = record { fired = h; marks = e; state = refl; safe = every-snoc calm (v .answers) a (P .safe) q }
 
   -- ---- firings
 
-  abbrev firedBy : World w → ℕ → Outcome → World w
+  abbrev firedBy : World → ℕ → Outcome → World
   firedBy v k o = record {
     marking = o .marking;
-    plain = pick (same (o .cause) 0) (makes w (v .plain) (k ∷ [])) (v .plain);
+    plain = pick (same (o .cause) 0) (makes w (image w) (v .plain) (k ∷ [])) (v .plain);
     answers = v .answers ++ (ofOutcome o .answer ∷ []);
   }
 
-  fire-turn : (v : World w) (P : Played v) (k : ℕ) → Firing.fire (image w) (v .marking) k ≡ inTurn (image w) (v .marking) (k ∷ [])
+  fire-turn : (v : World) (P : Played v) (k : ℕ) → Firing.fire (image w) (v .marking) k ≡ inTurn (image w) (v .marking) (k ∷ [])
   fire-turn v P k =
       subst (λ (i : List ℕ). Firing.fire i (v .marking) k ≡ inTurn i (v .marking) (k ∷ [])) (sym (image-is w A))
       (fire-built (net w A) (Built.net-ascending (S w A) (U w A) A (E w A)) (v .marking) k (played-marking v P))
 
-  fired-played : (v : World w) → Played v → (k : ℕ) → Played (firedBy v k (inTurn (image w) (v .marking) (k ∷ [])))
+  fired-played : (v : World) → Played v → (k : ℕ) → Played (firedBy v k (inTurn (image w) (v .marking) (k ∷ [])))
   unfolding same
   fired-played v P k = go (played-stands v P)
     where
@@ -150,15 +151,19 @@ module _ (w : List ℕ) (A : Accepted (scheme w)) where
 
   -- ---- runs
 
-  abbrev ranBy : World w → RunOutcome → World w
-  ranBy v r = record { marking = r .marking; plain = makes w (v .plain) (take (r .firings) (r .history)); answers = v .answers ++ (ofRun r .answer ∷ []) }
+  abbrev ranBy : World → RunOutcome → World
+  ranBy v r = record {
+    marking = r .marking;
+    plain = makes w (image w) (v .plain) (take (r .firings) (r .history));
+    answers = v .answers ++ (ofRun r .answer ∷ []);
+  }
 
-  run-turn : (v : World w) (P : Played v) (limit room : ℕ) → Firing.run (image w) (v .marking) limit room ≡ runFrom (image w) limit room (v .marking)
+  run-turn : (v : World) (P : Played v) (limit room : ℕ) → Firing.run (image w) (v .marking) limit room ≡ runFrom (image w) limit room (v .marking)
   run-turn v P limit room =
       subst (λ (i : List ℕ). Firing.run i (v .marking) limit room ≡ runFrom i limit room (v .marking)) (sym (image-is w A))
       (run-built (net w A) (Built.net-ascending (S w A) (U w A) A (E w A)) (v .marking) limit room (played-marking v P))
 
-  ran-played : (v : World w) → Played v → (limit room : ℕ) → Played (ranBy v (runFrom (image w) limit room (v .marking)))
+  ran-played : (v : World) → Played v → (limit room : ℕ) → Played (ranBy v (runFrom (image w) limit room (v .marking)))
   ran-played v P limit room = go (runFrom (image w) limit room (v .marking)) refl (played-stands v P)
     where
       go : (r : RunOutcome) → runFrom (image w) limit room (v .marking) ≡ r → Stands (S w A) (U w A) (v .marking) (v .plain .state) → Played (ranBy v r)
@@ -180,20 +185,20 @@ module _ (w : List ℕ) (A : Accepted (scheme w)) where
 
   -- ---- replays
 
-  abbrev replayedBy : World w → List ℕ → Outcome → World w
+  abbrev replayedBy : World → List ℕ → Outcome → World
   replayedBy v ks o = record {
     marking = o .marking;
-    plain = pick (leavesAll w (o .cause)) (v .plain) (makes w (begun w) (take (o .firings) ks));
+    plain = pick (leavesAll (o .cause)) (v .plain) (makes w (image w) (begun w) (take (o .firings) ks));
     answers = v .answers ++ (ofOutcome o .answer ∷ []);
   }
 
-  replay-turn : (v : World w) (P : Played v) (ks : List ℕ) → Firing.replay (image w) (v .marking) ks ≡ inTurn (image w) first ks
+  replay-turn : (v : World) (P : Played v) (ks : List ℕ) → Firing.replay (image w) (v .marking) ks ≡ inTurn (image w) first ks
   replay-turn v P ks =
       subst (λ (i : List ℕ). Firing.replay i (v .marking) ks ≡ inTurn i (initialMarking i) ks) (sym (image-is w A))
       (replay-built (net w A) (Built.net-ascending (S w A) (U w A) A (E w A)) (v .marking) ks
       (marking-length (net w A .places) (v .marking) (played-marking v P)))
 
-  replayed-played : (v : World w) → Played v → (ks : List ℕ) → Played (replayedBy v ks (inTurn (image w) first ks))
+  replayed-played : (v : World) → Played v → (ks : List ℕ) → Played (replayedBy v ks (inTurn (image w) first ks))
   replayed-played v P ks = go (inTurn (image w) first ks) refl
     where
       quiet : Calm (inTurn (image w) first ks .cause)
@@ -212,17 +217,17 @@ module _ (w : List ℕ) (A : Accepted (scheme w)) where
 
   -- ---- every call, and every list of calls
 
-  called-played : (v : World w) → Played v → (c : Call) → Played (calledOn w v c)
+  called-played : (v : World) → Played v → (c : Call) → Played (calledOn w (image w) v c)
   called-played v P (fire k) = subst (λ (o : Outcome). Played (firedBy v k o)) (sym (fire-turn v P k)) (fired-played v P k)
   called-played v P (run limit room) = subst (λ (r : RunOutcome). Played (ranBy v r)) (sym (run-turn v P limit room)) (ran-played v P limit room)
   called-played v P (replay ks) = subst (λ (o : Outcome). Played (replayedBy v ks o)) (sym (replay-turn v P ks)) (replayed-played v P ks)
 
-  after-played : (cs : List Call) (v : World w) → Played v → Played (after w v cs)
+  after-played : (cs : List Call) (v : World) → Played v → Played (after w (image w) v cs)
   unfolding after
   after-played [] v P = P
-  after-played (c ∷ cs) v P = after-played cs (calledOn w v c) (called-played v P c)
+  after-played (c ∷ cs) v P = after-played cs (calledOn w (image w) v c) (called-played v P c)
 
-  pub world-played : (cs : List Call) → Played (world w cs)
+  pub world-played : (cs : List Call) → Played (world w (image w) cs)
   unfolding inTurn advances every
   world-played cs =
       after-played cs (record { marking = first; plain = begun w; answers = [] }) (record { fired = refl; marks = refl; state = refl; safe = refl })

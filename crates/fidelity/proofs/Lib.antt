@@ -1,3 +1,4 @@
+pub mod Computing
 pub mod Cases
 pub mod Basics
 pub mod Elements
@@ -26,6 +27,7 @@ pub mod Turns
 pub mod Waiting
 pub mod Worlds
 pub mod Histories
+pub mod Accepting
 pub mod Clauses
 pub mod Sifted
 pub mod Readings
@@ -34,3 +36,5 @@ pub mod StandsFor
 pub mod ReadBack
 pub mod Whole
 pub mod Theorem
+pub mod Refusing
+pub mod WrongClaims

@@ -125,6 +125,7 @@ module _ (S : Scheme) (U : Values) (A : Accepted S) (E : EnoughValues S U) where
     described = is-call k d h;
     fits = record { stands = single-stands S U A E c (S .thread k) (spot k 0) (onward S d k 0) p; tests = λ x w q. asks-nothing x w q; suits = tt };
     names = call-named S k d h;
+    label = refl;
   }
 
   silent-fireable : (b l : ℕ) → S .branch b ≡ silent l → (c : Configuration) → c .at (S .thread (S .home b)) ≡ spot (S .home b) 0
@@ -138,6 +139,7 @@ module _ (S : Scheme) (U : Values) (A : Accepted S) (E : EnoughValues S U) where
       suits = tt;
     };
     names = silent-named S b l h;
+    label = refl;
   }
 
   module _ (c : Configuration) (s : State) (g r a z l x y m : ℕ) (hs : S .branch g ≡ send a z l) (hr : S .branch r ≡ receive x y m)

@@ -23,7 +23,7 @@ use Rattle.places.specs.Values.{Values, allValues}
 use Rattle.places.specs.Image.{netOf, imageOf}
 use Rattle.places.specs.Transitions.{descriptions}
 use Rattle.readback.specs.Configurations.{Configuration}
-use Rattle.fidelity.specs.Calls.{image, isQuiet, stepAt, advance, advances}
+use Rattle.fidelity.specs.Calls.{isQuiet, stepAt, advance, advances}
 use Rattle.fidelity.specs.Demand.{lawful, rowsWithin}
 use Rattle.fidelity.specs.Inner.Marks.{after, Fits, WellFormed}
 use Rattle.fidelity.specs.Inner.Shapes.{EnoughValues}
@@ -34,6 +34,9 @@ use Rattle.fidelity.proofs.Rows.{leftInAll, quiet-less, left-bound}
 use Rattle.fidelity.proofs.Firing.{well-formed-after}
 use Rattle.fidelity.proofs.Built as Built
 use Rattle.fidelity.proofs.Built.{descriptionAt, described-at, label-is, Does, fires, past, idle, does, fired-shows, fired-lawful}
+
+abbrev pub image : List ℕ → List ℕ
+image w = imageOf w
 
 module _ (w : List ℕ) (A : Accepted (scheme w)) where
   abbrev pub S : Scheme
@@ -56,28 +59,29 @@ module _ (w : List ℕ) (A : Accepted (scheme w)) where
   -- what a list of numbers that all fire leaves
   pub record Kept (row : ℕ) (c : Configuration) (s : State) (ns : List ℕ) : Type 0 where
     pub last : Configuration
-    pub shows : Shows S U last (advances w s ns)
+    pub shows : Shows S U last (advances w (image w) s ns)
     pub marks : inTurn (image w) (markingOf S U c) ns .marking ≡ markingOf S U last
-    pub lawfully : lawful w s ns ≡ true
-    pub rows : rowsWithin w (2 * S .bounds) row ns ≡ true
+    pub lawfully : lawful w (image w) s ns ≡ true
+    pub rows : rowsWithin w (image w) (2 * S .bounds) row ns ≡ true
 
   -- the step of a number, on the image of the words
   pub data Acts (c : Configuration) (s : State) (row k : ℕ) : Type 0 where
-    goes : (d : Configuration) → Shows S U d (advance w s k) → step (image w) (markingOf S U c) k ≡ made (markingOf S U d)
-        → (isQuiet w k || isOpen S s (stepAt w k)) ≡ true → pick (isQuiet w k) (suc row) 0 + left d ≤ 2 * S .bounds → Acts c s row k
+    goes : (d : Configuration) → Shows S U d (advance w (image w) s k) → step (image w) (markingOf S U c) k ≡ made (markingOf S U d)
+        → (isQuiet w (image w) k || isOpen S s (stepAt w (image w) k)) ≡ true → pick (isQuiet w (image w) k) (suc row) 0 + left d ≤ 2 * S .bounds
+        → Acts c s row k
     stops : (cause : ℕ) → (cause ≡ 14) ⊎ (cause ≡ 15) → step (image w) (markingOf S U c) k ≡ refused cause → Acts c s row k
 
-  quiet-is : (k : ℕ) → k < length (descriptions S U) → isQuiet w k ≡ quiet (descriptionAt S U A E k)
+  quiet-is : (k : ℕ) → k < length (descriptions S U) → isQuiet w (image w) k ≡ quiet (descriptionAt S U A E k)
   unfolding imageOf netOf
   quiet-is k l = ap (λ (λ′ : Label). isBookkeeping (λ′ .kind)) (label-is S U A E k l)
 
   row-kept : (c : Configuration) (row k : ℕ) → WellFormed S U c → (l : k < length (descriptions S U)) → (f : Fits S (descriptionAt S U A E k) c)
       → WellFormed S U (after S (descriptionAt S U A E k) c) → row + left c ≤ 2 * S .bounds
-      → pick (isQuiet w k) (suc row) 0 + left (after S (descriptionAt S U A E k) c) ≤ 2 * S .bounds
+      → pick (isQuiet w (image w) k) (suc row) 0 + left (after S (descriptionAt S U A E k) c) ≤ 2 * S .bounds
   row-kept c row k W l f N h = go (quiet (descriptionAt S U A E k)) refl (quiet-is k l)
     where
-      go : (b : Bool) → quiet (descriptionAt S U A E k) ≡ b → isQuiet w k ≡ quiet (descriptionAt S U A E k)
-          → pick (isQuiet w k) (suc row) 0 + left (after S (descriptionAt S U A E k) c) ≤ 2 * S .bounds
+      go : (b : Bool) → quiet (descriptionAt S U A E k) ≡ b → isQuiet w (image w) k ≡ quiet (descriptionAt S U A E k)
+          → pick (isQuiet w (image w) k) (suc row) 0 + left (after S (descriptionAt S U A E k) c) ≤ 2 * S .bounds
       go true e q = rw (q ∙ e) (omega (arith, quiet-less S U A E c (described-at S U A E k l) f e))
       go false e q = rw (q ∙ e) (omega (arith, left-bound S U A E (after S (descriptionAt S U A E k) c) N))
 
@@ -108,18 +112,19 @@ module _ (w : List ℕ) (A : Accepted (scheme w)) where
           off : (cause ≡ 14) ⊎ (cause ≡ 15) → cause ≡ 0 → ⊥
           off (inl a) b = omega arith
           off (inr a) b = omega arith
-      go (goes d N q o b) ih = build (ih (pick (isQuiet w k) (suc row) 0) d (advance w s k) N b (sym (ap (λ (o : Outcome). o .cause) p) ∙ e))
+      go (goes d N q o b) ih =
+          build (ih (pick (isQuiet w (image w) k) (suc row) 0) d (advance w (image w) s k) N b (sym (ap (λ (o : Outcome). o .cause) p) ∙ e))
         where
           p : inTurn (image w) (markingOf S U c) (k ∷ ns) ≡ Firing.after 1 (inTurn (image w) (markingOf S U d) ns)
           p = turn-made (image w) (markingOf S U c) k ns (markingOf S U d) q
 
-          build : Kept (pick (isQuiet w k) (suc row) 0) d (advance w s k) ns → Kept row c s (k ∷ ns)
+          build : Kept (pick (isQuiet w (image w) k) (suc row) 0) d (advance w (image w) s k) ns → Kept row c s (k ∷ ns)
           build K = record {
             last = K .last;
             shows = K .shows;
             marks = ap (λ (o : Outcome). o .marking) p ∙ K .marks;
-            lawfully = and-intro (isQuiet w k || isOpen S s (stepAt w k)) (lawful w (advance w s k) ns) o (K .lawfully);
+            lawfully = and-intro (isQuiet w (image w) k || isOpen S s (stepAt w (image w) k)) (lawful w (image w) (advance w (image w) s k) ns) o (K .lawfully);
             rows =
-                and-intro (leb row (2 * S .bounds)) (rowsWithin w (2 * S .bounds) (pick (isQuiet w k) (suc row) 0) ns)
+                and-intro (leb row (2 * S .bounds)) (rowsWithin w (image w) (2 * S .bounds) (pick (isQuiet w (image w) k) (suc row) 0) ns)
                 (le-leb row (2 * S .bounds) (omega arith)) (K .rows);
           }

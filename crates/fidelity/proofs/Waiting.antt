@@ -13,15 +13,14 @@ use Rattle.scheme.specs.Words.{bounds}
 use Rattle.table.specs.Accepted.{Accepted}
 use Rattle.process.specs.States.{State}
 use Rattle.process.specs.Steps.{Step, isOpen}
-use Rattle.process.specs.Labels.{isBookkeeping, stepOf}
+use Rattle.process.specs.Labels.{isBookkeeping, stepOf, labelOf}
 use Rattle.net.specs.Image.{Label, labelAt}
 use Rattle.net.specs.Firing.{Outcome, made, step, inTurn}
 use Rattle.net.proofs.Steps.{turn-made, turn-last}
 use Rattle.places.specs.Image.{netOf, imageOf}
 use Rattle.places.specs.Transitions.{Description, descriptions}
 use Rattle.readback.specs.Configurations.{Configuration}
-use Rattle.fidelity.specs.Calls.{image, isQuiet, stepAt}
-use Rattle.fidelity.specs.Demand.{CanFire}
+use Rattle.fidelity.specs.Calls.{labelWords, isQuiet, stepAt}
 use Rattle.fidelity.specs.Inner.Marks.{after, Fits, WellFormed}
 use Rattle.fidelity.specs.Inner.Shapes.{Described}
 use Rattle.fidelity.specs.Inner.Standing.{Shows, markingOf, Stands}
@@ -33,7 +32,7 @@ use Rattle.fidelity.proofs.Opening.{test-open}
 use Rattle.fidelity.proofs.Live.{Reachable, live}
 use Rattle.fidelity.proofs.Described.{described-listed}
 use Rattle.fidelity.proofs.Built.{nothing, descriptionAt, label-is, fits-fires}
-use Rattle.fidelity.proofs.Turns.{S, U, E}
+use Rattle.fidelity.proofs.Turns.{image, S, U, E}
 
 module _ (w : List ℕ) (A : Accepted (scheme w)) where
   -- a number that fires a description which fits
@@ -55,14 +54,14 @@ module _ (w : List ℕ) (A : Accepted (scheme w)) where
       go : (k : ℕ) × (k < length (descriptions (S w A) (U w A))) × (getD (descriptions (S w A) (U w A)) k nothing ≡ t) → Number t c
       go (k, l, q) = at k l t q f
 
-  number-quiet : {t : Description} {c : Configuration} (n : Number t c) → quiet t ≡ true → isQuiet w (n .number) ≡ true
+  number-quiet : {t : Description} {c : Configuration} (n : Number t c) → quiet t ≡ true → isQuiet w (image w) (n .number) ≡ true
   number-quiet n q = ap (λ (λ′ : Label). isBookkeeping (λ′ .kind)) (n .label) ∙ q
 
   -- the numbers of a run of bookkeeping
   pub record Before (c d : Configuration) (size : ℕ) : Type 0 where
     pub numbers : List ℕ
     pub count : length numbers ≡ size
-    pub quietly : every (isQuiet w) numbers ≡ true
+    pub quietly : every (isQuiet w (image w)) numbers ≡ true
     pub plays : (rest : List ℕ)
         → inTurn (image w) (markingOf (S w A) (U w A) c) (numbers ++ rest) .cause ≡ inTurn (image w) (markingOf (S w A) (U w A) d) rest .cause
     pub formed : WellFormed (S w A) (U w A) d
@@ -77,7 +76,7 @@ module _ (w : List ℕ) (A : Accepted (scheme w)) where
       build n b = record {
         numbers = n .number ∷ b .numbers;
         count = ap suc (b .count);
-        quietly = and-intro (isQuiet w (n .number)) (every (isQuiet w) (b .numbers)) (number-quiet n (q .0)) (b .quietly);
+        quietly = and-intro (isQuiet w (image w) (n .number)) (every (isQuiet w (image w)) (b .numbers)) (number-quiet n (q .0)) (b .quietly);
         plays = λ rest.
             ap (λ (o : Outcome). o .cause)
             (turn-made (image w) (markingOf (S w A) (U w A) c) (n .number) (b .numbers ++ rest) (markingOf (S w A) (U w A) (after (S w A) t c)) (n .steps))
@@ -89,25 +88,36 @@ module _ (w : List ℕ) (A : Accepted (scheme w)) where
   unfolding scheme
   bounds-are = refl
 
+  -- a step that numbers fired in turn at a marking lead to, `few` bookkeeping ones before it
+  pub record Awaits (marking : List ℕ) (step : Step) : Type 0 where
+    pub before : List ℕ
+    pub number : ℕ
+    pub few : length before ≤ bounds w
+    pub quiet : every (isQuiet w (image w)) before ≡ true
+    pub label : labelWords w (image w) number ≡ labelOf (scheme w) step
+    pub names : stepAt w (image w) number ≡ step
+    pub fires : inTurn (image w) marking (before ++ (number ∷ [])) .cause ≡ 0
+
   pub can-fire : (c : Configuration) (s : State) → Shows (S w A) (U w A) c s → (σ : Step) → isOpen (S w A) s σ ≡ true
-      → CanFire w (markingOf (S w A) (U w A) c) σ
+      → Awaits (markingOf (S w A) (U w A) c) σ
   can-fire c s R σ h = go (live (S w A) (U w A) A (E w A) c s σ R (test-open (S w A) σ s h))
     where
       build : (r : Reachable (S w A) (U w A) A (E w A) c σ) → (b : Before c (r .last) (length (r .firings))) → Number (r .fireable .firing) (r .last)
-          → CanFire w (markingOf (S w A) (U w A) c) σ
+          → Awaits (markingOf (S w A) (U w A) c) σ
       build r b n = record {
         before = b .numbers;
         number = n .number;
         few = omega (arith, b .count, r .few, bounds-are);
         quiet = b .quietly;
+        label = ap (λ (λ′ : Label). λ′ .kind ∷ λ′ .a ∷ λ′ .b ∷ []) (n .label) ∙ r .fireable .label;
         names = ap (λ (λ′ : Label). stepOf (S w A) (λ′ .kind) (λ′ .a) (λ′ .b)) (n .label) ∙ r .fireable .names;
-        accepted = b .plays (n .number ∷ []) ∙ ap (λ (o : Outcome). o .cause)
+        fires = b .plays (n .number ∷ []) ∙ ap (λ (o : Outcome). o .cause)
             (turn-last (image w) (markingOf (S w A) (U w A) (r .last)) (n .number)
             (markingOf (S w A) (U w A) (after (S w A) (r .fireable .firing) (r .last))) (n .steps));
       }
 
-      next : (r : Reachable (S w A) (U w A) A (E w A) c σ) → Before c (r .last) (length (r .firings)) → CanFire w (markingOf (S w A) (U w A) c) σ
+      next : (r : Reachable (S w A) (U w A) A (E w A) c σ) → Before c (r .last) (length (r .firings)) → Awaits (markingOf (S w A) (U w A) c) σ
       next r b = build r b (number-of (r .last) (b .formed) (r .fireable .described) (r .fireable .fits))
 
-      go : Reachable (S w A) (U w A) A (E w A) c σ → CanFire w (markingOf (S w A) (U w A) c) σ
+      go : Reachable (S w A) (U w A) A (E w A) c σ → Awaits (markingOf (S w A) (U w A) c) σ
       go r = next r (numbers-of (R .formed) (r .run) (r .quietly))

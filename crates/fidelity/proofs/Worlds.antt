@@ -20,14 +20,13 @@ use Rattle.net.proofs.Outcomes.{turn-first, turn-keeps, run-cases, run-in-turn,
 use Rattle.net.proofs.Built.{initial-is-marking, fire-built, replay-built, run-built, never-malformed}
 use Rattle.places.specs.Image.{netOf, imageOf}
 use Rattle.readback.specs.Configurations.{Configuration}
-use Rattle.fidelity.specs.Calls.{Call, fire, run, replay, Answer, Plain, endingCause, image, advance, advances, begun, makes, leavesAll, World}
-use Rattle.fidelity.specs.Calls.{calledOn, after, world}
+use Rattle.fidelity.specs.Calls.{endingCause, advance, advances, leavesAll}
 use Rattle.fidelity.specs.Inner.Standing.{Shows, markingOf}
 use Rattle.fidelity.specs.Inner.Starting.{startConfiguration}
 use Rattle.fidelity.proofs.Rows.{left-bound}
 use Rattle.fidelity.proofs.Starting.{start-shows}
 use Rattle.fidelity.proofs.Built as Built
-use Rattle.fidelity.proofs.Turns.{S, U, E, image-is, Kept, Acts, goes, stops, acts, turns}
+use Rattle.fidelity.proofs.Turns.{image, S, U, E, image-is, Kept, Acts, goes, stops, acts, turns}
 
 -- a cause that a number on a built net has
 abbrev pub Calm : ℕ → Type 0
@@ -41,7 +40,7 @@ calm-16 cause h = rw (same-no cause 16 (λ e. off e h))
     off e (inr (inl a)) = omega arith
     off e (inr (inr a)) = omega arith
 
-pub calm-leaves : (cause : ℕ) → Calm cause → leavesAll [] cause ≡ false
+pub calm-leaves : (cause : ℕ) → Calm cause → leavesAll cause ≡ false
 calm-leaves cause h = rw (same-no cause 11 (λ e. off 11 e h (inl refl)), same-no cause 13 (λ e. off 13 e h (inr refl)))
   where
     off : (k : ℕ) → cause ≡ k → Calm cause → (k ≡ 11) ⊎ (k ≡ 13) → ⊥
@@ -82,7 +81,8 @@ module _ (w : List ℕ) (A : Accepted (scheme w)) where
     where
       go : Acts w A c s 0 k → ((c : Configuration) (s : State) → Standing c s → Calm (inTurn (image w) (marks c) ns .cause))
           → Calm (inTurn (image w) (marks c) (k ∷ ns) .cause)
-      go (goes d N e o b) ih = subst (λ (o : Outcome). Calm (o .cause)) (sym (turn-made (image w) (marks c) k ns (marks d) e)) (ih d (advance w s k) N)
+      go (goes d N e o b) ih =
+          subst (λ (o : Outcome). Calm (o .cause)) (sym (turn-made (image w) (marks c) k ns (marks d) e)) (ih d (advance w (image w) s k) N)
       go (stops cause h e) ih = subst (λ (o : Outcome). Calm (o .cause)) (sym (turn-refused (image w) (marks c) k ns cause e)) (inr h)
 
   -- numbers fired in turn after others that all fired
@@ -102,7 +102,7 @@ module _ (w : List ℕ) (A : Accepted (scheme w)) where
           off : (cause ≡ 14) ⊎ (cause ≡ 15) → cause ≡ 0 → ⊥
           off (inl x) y = omega arith
           off (inr x) y = omega arith
-      go (goes d N e o l) ih = build (ih d (advance w s k) N (sym (ap (λ (o : Outcome). o .cause) p) ∙ h))
+      go (goes d N e o l) ih = build (ih d (advance w (image w) s k) N (sym (ap (λ (o : Outcome). o .cause) p) ∙ h))
         where
           p : inTurn (image w) (marks c) (k ∷ a) ≡ Firing.after 1 (inTurn (image w) (marks d) a)
           p = turn-made (image w) (marks c) k a (marks d) e
@@ -116,10 +116,10 @@ module _ (w : List ℕ) (A : Accepted (scheme w)) where
             marking = ap (λ (o : Outcome). o .marking) q ∙ J .marking ∙ ap (λ (o : Outcome). inTurn (image w) (o .marking) b .marking) (sym p);
           }
 
-  pub advances-append : (s : State) (a b : List ℕ) → advances w s (a ++ b) ≡ advances w (advances w s a) b
+  pub advances-append : (s : State) (a b : List ℕ) → advances w (image w) s (a ++ b) ≡ advances w (image w) (advances w (image w) s a) b
   unfolding advances
   advances-append s [] b = refl
-  advances-append s (k ∷ a) b = advances-append (advance w s k) a b
+  advances-append s (k ∷ a) b = advances-append (advance w (image w) s k) a b
 
   -- a run stops at no cause
   pub run-calm : (limit room : ℕ) (c : Configuration) (s : State) → Standing c s → endingCause (runFrom (image w) limit room (marks c) .reason) ≡ 0
@@ -156,5 +156,6 @@ module _ (w : List ℕ) (A : Accepted (scheme w)) where
           → ((c : Configuration) (s : State) → Standing c s → endingCause (runFrom (image w) limit room (marks c) .reason) ≡ 0)
           → endingCause (runFrom (image w) limit room next .reason) ≡ 0
       onward t next q (goes d N e o b) ih =
-          subst (λ (m : List ℕ). endingCause (runFrom (image w) limit room m .reason) ≡ 0) (sym (same-made next (marks d) (sym q ∙ e))) (ih d (advance w s t) N)
+          subst (λ (m : List ℕ). endingCause (runFrom (image w) limit room m .reason) ≡ 0) (sym (same-made next (marks d) (sym q ∙ e)))
+          (ih d (advance w (image w) s t) N)
       onward t next q (stops cause h e) ih = absurd (apart cause next (sym e ∙ q))

@@ -1,19 +1,18 @@
--- Lists of calls on a built net, and the plain process that hears them (document 01, Net image and firing): "Demand 3 is a single claim about the list, not one for
--- each call. A run reads nothing from its history buffer; what it wrote may be lent to a replay as its numbers."
-use mathlib.Core.Bool.{Bool, true, false, not, _&&_, _||_}
+-- Lists of calls on a net's image, and the plain process that hears them (document 01, Net image and firing): "Demand 3 is a single claim about the list, not one
+-- for each call. A run reads nothing from its history buffer; what it wrote may be lent to a replay as its numbers."
+use mathlib.Core.Bool.{Bool, _||_}
 use mathlib.Core.List.{List, [], _∷_, _++_}
 use Prim.Native.Nat.{ℕ}
-use lib.ListN.{length, take}
-use Rattle.lists.specs.Lists.{pick, same, every}
-use Rattle.scheme.specs.Scheme.{Scheme, scheme}
+use lib.ListN.{take}
+use Rattle.lists.specs.Lists.{pick, same}
+use Rattle.scheme.specs.Scheme.{scheme}
 use Rattle.process.specs.States.{State, start}
 use Rattle.process.specs.Steps as Steps
-use Rattle.process.specs.Steps.{Step, isOpen}
+use Rattle.process.specs.Steps.{Step}
 use Rattle.process.specs.Labels.{isBookkeeping, stepOf}
 use Rattle.net.specs.Image.{labelAt}
 use Rattle.net.specs.Firing as Firing
 use Rattle.net.specs.Firing.{Outcome, RunOutcome, Ending, limitReached, historyFull, nothingEnabled, stopped, initialMarking}
-use Rattle.places.specs.Image.{imageOf}
 
 -- a firing by number, a run with its limit and the length of its history, a replay with its numbers
 pub data Call : Type 0 where
@@ -52,25 +51,36 @@ pub record Plain : Type 0 where
   pub state : State
   pub made : List ℕ
 
-module _ (w : List ℕ) where
-  abbrev pub image : List ℕ
-  image = imageOf w
+abbrev pub begun : List ℕ → Plain
+begun w = record { state = start (scheme w); made = [] }
 
-  -- a call on the built net, by the definitions that the promises of net::fire, net::run and net::replay cite
+-- all calls so far: the marking that the last one left, the plain process, the answers
+pub record World : Type 0 where
+  pub marking : List ℕ
+  pub plain : Plain
+  pub answers : List Answer
+
+-- "a call refused by a cause that leaves all buffers"
+abbrev pub leavesAll : ℕ → Bool
+leavesAll cause = same cause 11 || same cause 13
+
+-- a table's words and an image's
+module _ (w image : List ℕ) where
+  -- a call on the image, by the definitions that the promises of net::fire, net::run and net::replay cite
   abbrev pub perform : List ℕ → Call → Result
   perform marking (fire number) = ofOutcome (Firing.fire image marking number)
   perform marking (run limit room) = ofRun (Firing.run image marking limit room)
   perform marking (replay numbers) = ofOutcome (Firing.replay image marking numbers)
 
   -- "A plain process knows the table and the image's labels."
-  abbrev pub kindAt : ℕ → ℕ
-  kindAt number = labelAt image number .kind
+  abbrev pub labelWords : ℕ → List ℕ
+  labelWords number = labelAt image number .kind ∷ labelAt image number .a ∷ labelAt image number .b ∷ []
 
   abbrev pub stepAt : ℕ → Step
   stepAt number = stepOf (scheme w) (labelAt image number .kind) (labelAt image number .a) (labelAt image number .b)
 
   abbrev pub isQuiet : ℕ → Bool
-  isQuiet number = isBookkeeping (kindAt number)
+  isQuiet number = isBookkeeping (labelAt image number .kind)
 
   -- "Each number made keeps the state if its label is bookkeeping, else takes that step."
   abbrev pub advance : State → ℕ → State
@@ -80,28 +90,16 @@ module _ (w : List ℕ) where
   advances s [] = s
   advances s (number ∷ numbers) = advances (advance s number) numbers
 
-  abbrev pub begun : Plain
-  begun = record { state = start (scheme w); made = [] }
-
   abbrev pub makes : Plain → List ℕ → Plain
   makes p numbers = record { state = advances (p .state) numbers; made = p .made ++ numbers }
 
   -- "It is fed, call by call, the numbers given, the answer and the words a run wrote, never the marking."
-  -- "firing…: its number, or none if refused"; "run: its history's first words, as many as its count"; "replay: back to the starting state and no firings made, then
-  -- all its numbers, or, stopped, as many first ones as it answers"; "a call refused by a cause that leaves all buffers: no change"
-  abbrev pub leavesAll : ℕ → Bool
-  leavesAll cause = same cause 11 || same cause 13
-
+  -- "firing…: its number, or none if refused"; "run: its history's first words, as many as its count"; "replay: back to the starting state and no firings made,
+  -- then all its numbers, or, stopped, as many first ones as it answers"; "a call refused by a cause that leaves all buffers: no change"
   abbrev pub hears : Plain → Call → Answer → Plain
   hears p (fire number) a = pick (same (a .cause) 0) (makes p (number ∷ [])) p
   hears p (run limit room) a = makes p (take (a .firings) (a .written))
-  hears p (replay numbers) a = pick (leavesAll (a .cause)) p (makes begun (take (a .firings) numbers))
-
-  -- all calls so far: the marking that the last one left, the plain process, the answers
-  pub record World : Type 0 where
-    pub marking : List ℕ
-    pub plain : Plain
-    pub answers : List Answer
+  hears p (replay numbers) a = pick (leavesAll (a .cause)) p (makes (begun w) (take (a .firings) numbers))
 
   abbrev pub calledOn : World → Call → World
   calledOn v c =
@@ -114,4 +112,4 @@ module _ (w : List ℕ) where
 
   -- the calls in turn, the first on the initial marking
   abbrev pub world : List Call → World
-  world calls = after (record { marking = initialMarking image; plain = begun; answers = [] }) calls
+  world calls = after (record { marking = initialMarking image; plain = begun w; answers = [] }) calls

@@ -98,10 +98,12 @@ runs :
 unfolding imageE markingE lastE same every some member ascends headerRight recordRight isMarking isEnabled hasContact put stepOf step searchFrom lowestEnabled runFrom run
 runs = (refl, refl, refl, refl, refl, refl)
 
--- what the run wrote is lent to a replay as its numbers; a replay that is stopped leaves the firings made, at its first number the initial marking
+-- what the run wrote is lent to a replay as its numbers; a replay that is stopped leaves the firings made, at its first number the initial marking; "of the lent
+-- marking only the length is checked": bytes above 1 are no cause
 replays :
     (replay imageE markingE (0 ∷ 7 ∷ 2 ∷ 5 ∷ []) ≡ outcome 0 4 lastE)
     × (replay imageE markingE (0 ∷ 9 ∷ 7 ∷ []) ≡ outcome 14 1 (1 ∷ 0 ∷ 0 ∷ 0 ∷ 0 ∷ 1 ∷ 1 ∷ 0 ∷ 1 ∷ 0 ∷ 1 ∷ 0 ∷ 0 ∷ 1 ∷ 0 ∷ 0 ∷ []))
     × (replay imageE lastE (7 ∷ []) ≡ outcome 15 0 markingE)
+    × (replay imageE (9 ∷ 9 ∷ 9 ∷ 9 ∷ 9 ∷ 9 ∷ 9 ∷ 9 ∷ 9 ∷ 9 ∷ 9 ∷ 9 ∷ 9 ∷ 9 ∷ 9 ∷ 9 ∷ []) [] ≡ outcome 0 0 markingE)
 unfolding imageE markingE lastE same every some member ascends headerRight recordRight isMarking isEnabled hasContact put initialMarking stepOf step inTurn replay
-replays = (refl, refl, refl)
+replays = (refl, refl, refl, refl)

@@ -143,7 +143,7 @@ fn node(
         return more(t, plan.privates, free + 2, free + 2);
     }
     let mut names = [0u32; 64];
-    let held = scheme::index::held_names(table, owners, homes, n as u16, &mut names);
+    let held = scheme::index::held_names(table, owners, homes, n as u8, &mut names);
     let mut r = t;
     if kind != 0 {
         let end = second + field4(table, 8, first, 3);

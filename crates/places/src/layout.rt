@@ -109,13 +109,13 @@ pub(crate) fn control_count(table: &[u16], owners: &[u32], homes: &[u32], node: 
     let kind = field3(table, 10, node, 0);
     let mut names = [0u32; 64];
     if kind == 0 {
-        return 1 + scheme::index::held_names(table, owners, homes, node as u16, &mut names);
+        return 1 + scheme::index::held_names(table, owners, homes, node as u8, &mut names);
     }
     if kind == 3 {
         let formals = field4(table, 8, field3(table, 10, node, 1), 3);
         return 1
             + formals
-            + scheme::index::held_names(table, owners, homes, node as u16, &mut names);
+            + scheme::index::held_names(table, owners, homes, node as u8, &mut names);
     }
     1
 }

@@ -1,4 +1,4 @@
--- The definitions computed: table E's listing (document 01, Table E and its listing) character by character, a refusal, words, and edges.
+-- The definitions computed: table E's listing (document 01, Table E and its listing) character by character, a refusal, words, answers, and edges.
 use mathlib.Core.Path.{_≡_, refl}
 use mathlib.Core.List.{List, [], _∷_}
 use Prim.Native.Nat.{ℕ}
@@ -6,6 +6,7 @@ use Rattle.lists.specs.Lists.{from, flat}
 use Rattle.print.specs.Text.{digitsOf, decimal, line, refusal}
 use Rattle.print.specs.Listing.{headerLine, transitionLine, listing}
 use Rattle.print.specs.Words.{wordsOf}
+use Rattle.print.specs.Answers.{tooShort, done, answered}
 
 abbrev pub imageE : List ℕ
 imageE =
@@ -59,7 +60,7 @@ listingE =
     ∷ []
 
 listed : listing imageE ≡ listingE
-unfolding imageE listingE listing headerLine transitionLine line digitsOf flat from
+unfolding listingE listing headerLine transitionLine line digitsOf flat from
 listed = refl
 
 -- `refused 10`
@@ -85,3 +86,16 @@ no-arcs = refl
 low-first : wordsOf (1 ∷ 2 ∷ 255 ∷ 255 ∷ 7 ∷ []) ≡ 513 ∷ 65535 ∷ []
 unfolding wordsOf
 low-first = refl
+
+-- a text that just fits, one that is a byte too long, and one in longer output
+just-fits : answered (1 ∷ 2 ∷ []) (7 ∷ 8 ∷ []) ≡ done 2 (1 ∷ 2 ∷ [])
+unfolding answered
+just-fits = refl
+
+a-byte-too-long : answered (1 ∷ 2 ∷ []) (7 ∷ []) ≡ tooShort (7 ∷ [])
+unfolding answered
+a-byte-too-long = refl
+
+rest-left : answered (1 ∷ 2 ∷ []) (7 ∷ 8 ∷ 9 ∷ []) ≡ done 2 (1 ∷ 2 ∷ 9 ∷ [])
+unfolding answered
+rest-left = refl

@@ -5,3 +5,6 @@ pub mod WordsOf
 pub mod Writing
 pub mod Programs
 pub mod ProgramCases
+pub mod Lengths
+pub mod Labels
+pub mod Fits

@@ -55,12 +55,12 @@ module _ (c : Cursor) (w : List ℕ) (i e : ℕ) where
 
 -- ---- texts as their parts
 
-header-parts : (image : List ℕ)
+pub header-parts : (image : List ℕ)
     → headerLine image ≡ decimal (word image 0) ++ (wordText image 1 ++ (wordText image 2 ++ (wordText image 3 ++ (wordText image 4 ++ (10 ∷ [])))))
 unfolding headerLine line flat
 header-parts image = simp append-assoc
 
-arcs-parts : (image : List ℕ) (transition : ℕ)
+pub arcs-parts : (image : List ℕ) (transition : ℕ)
     → arcsText image transition ≡ spaced beforeInputs ++ (inputsText image transition ++ (spaced beforeOutputs ++ outputsText image transition))
 unfolding arcsText flat
 arcs-parts image transition = rw (tokens-append (numbers (inputsAt image transition)) (beforeOutputs ∷ numbers (outputsAt image transition)))
@@ -68,7 +68,7 @@ arcs-parts image transition = rw (tokens-append (numbers (inputsAt image transit
 regroup : (a b c d e : List ℕ) → (a ++ (b ++ (c ++ d))) ++ e ≡ (a ++ (b ++ (c ++ []))) ++ (d ++ e)
 regroup a b c d e = simp append-assoc
 
-line-parts : (image : List ℕ) (transition : ℕ)
+pub line-parts : (image : List ℕ) (transition : ℕ)
     → transitionLine image transition ≡ decimal transition ++ (labelText image transition ++ (arcsText image transition ++ (10 ∷ [])))
 unfolding transitionLine line labelText arcsText flat
 line-parts image transition =
@@ -77,7 +77,7 @@ line-parts image transition =
     (λ (text : List ℕ). decimal transition ++ text)
     (regroup (wordText image first) (wordText image (first + 1)) (wordText image (first + 2)) (arcsText image transition) (10 ∷ []))
 
-refusal-parts : (number : ℕ) → refusal number ≡ refused ++ (spaced (decimal number) ++ (10 ∷ []))
+pub refusal-parts : (number : ℕ) → refusal number ≡ refused ++ (spaced (decimal number) ++ (10 ∷ []))
 unfolding refusal line flat
 refusal-parts number = simp append-assoc
 

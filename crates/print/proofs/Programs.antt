@@ -8,7 +8,7 @@ use native.Mathlib.Decide.{decLe}
 use native.Mathlib.Omega.{arith}
 use lib.Dec.{ltb, leb, eqb}
 use lib.ListN.{length, take, drop, replicate, length-replicate, take-append-drop, length-drop}
-use lib.Seq.{sets, take-all, take-append-seam, take-take, getD-take, length-take-le, length-sets, sets-eq}
+use lib.Seq.{sets, set-out, take-all, take-append-seam, take-take, getD-take, length-take-le, length-sets, sets-eq}
 use borrow.Author.Tests.{le-leb, lt-ltb, le-ltb, ltb-true, ltb-false, eq-eqb, ne-eqb}
 use Rattle.lists.specs.Lists.{pick, same, word}
 use Rattle.lists.proofs.Tests.{same-yes, same-no, same-true, true-or-false, false-true}
@@ -26,7 +26,6 @@ use Rattle.print.specs.Text.{refusal}
 use Rattle.print.specs.Words.{wordsOf}
 use Rattle.print.specs.Listing.{listing}
 use Rattle.print.specs.Program.{isOdd, causeWith, programText}
-use Rattle.print.proofs.Writing.{sets-out}
 
 -- ---- an odd number of bytes
 
@@ -36,7 +35,22 @@ odd-is [] = refl
 odd-is (low ∷ []) = refl
 odd-is (low ∷ high ∷ rest) = let e : suc (suc (length rest)) % 2 ≡ length rest % 2 = omega arith in rw e (odd-is rest)
 
+-- ---- no cause, and no odd byte
+
+pub with-none : (odd : Bool) (c : ℕ) → causeWith odd c ≡ 0 → (odd ≡ false) × (c ≡ 0)
+with-none false c h = (refl, h)
+with-none true c h = go (true-or-false (same c 1)) (true-or-false (same c 2))
+  where
+    go : (same c 1 ≡ true) ⊎ (same c 1 ≡ false) → (same c 2 ≡ true) ⊎ (same c 2 ≡ false) → (true ≡ false) × (c ≡ 0)
+    go (inl p) q = absurd (omega (arith, same-true c 1 p, (rw p at h)))
+    go (inr p) (inl q) = absurd (omega (arith, same-true c 2 q, (rw (p, q) at h)))
+    go (inr p) (inr q) = absurd (let z : _≡_ {A = ℕ} 3 0 = rw (p, q) at h in omega arith)
+
 -- ---- words in a table of k
+
+sets-out : (out : List ℕ) (i : ℕ) (words : List ℕ) → length out ≤ i → sets out i words ≡ out
+sets-out out i [] h = refl
+sets-out out i (w ∷ words) h = rw (set-out out i w h) (sets-out out (suc i) words (omega arith))
 
 sets-append : (l : List ℕ) (i : ℕ) (us vs : List ℕ) → sets l i (us ++ vs) ≡ sets (sets l i us) (i + length us) vs
 sets-append l i [] vs = let e : i + 0 ≡ i = omega arith in rw e
@@ -147,15 +161,6 @@ module _ (bytes lent out : List ℕ) (n size : ℕ) (lent-is : length lent ≡ 1
   built-all h l =
       let k = whole h ∙ sym (all-fits w lent (imageOf w ++ drop (length (imageOf w)) lent) (length (imageOf w)) refl (omega arith) refl) in
       (ap (λ (o : BuildOutcome). o .number) k, ap (λ (o : BuildOutcome). o .words) k, ap (λ (o : BuildOutcome). o .buffer) k)
-
-  with-none : (odd : Bool) (c : ℕ) → causeWith odd c ≡ 0 → (odd ≡ false) × (c ≡ 0)
-  with-none false c h = (refl, h)
-  with-none true c h = go (true-or-false (same c 1)) (true-or-false (same c 2))
-    where
-      go : (same c 1 ≡ true) ⊎ (same c 1 ≡ false) → (same c 2 ≡ true) ⊎ (same c 2 ≡ false) → (true ≡ false) × (c ≡ 0)
-      go (inl p) q = absurd (omega (arith, same-true c 1 p, (rw p at h)))
-      go (inr p) (inl q) = absurd (omega (arith, same-true c 2 q, (rw (p, q) at h)))
-      go (inr p) (inr q) = absurd (let z : _≡_ {A = ℕ} 3 0 = rw (p, q) at h in omega arith)
 
   odd-none : causeWith true 0 ≡ 3
   unfolding same

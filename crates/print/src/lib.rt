@@ -1,8 +1,7 @@
 // The text of a listing, written into lent bytes, and the words that bytes make.
 //
-// Text is written as far as the buffer reaches, and the answer is the number of bytes written: the text's length, or
-// the buffer's where that is less. A foreign image may describe a text longer than any buffer, so its length is not
-// counted further; an answer below the buffer's length says that the whole text stands there.
+// Text is counted before it is written, by the same functions, so that output too short for it is left as it was. A
+// foreign image may describe a text longer than any buffer: counting stops one byte past the end of the output.
 ghost use mathlib.Core.List.{[], _∷_};
 ghost use mathlib.Core.Path.{_≡_};
 ghost use Prim.Native.Nat.{_+_, _<_, min};
@@ -10,6 +9,7 @@ ghost use lib.ListN.{length};
 ghost use lib.Seq.{sets, slice};
 ghost use Rattle.lists.specs.Lists.{word, flat, range};
 ghost use Rattle.net.specs.Image.{transitionCount};
+ghost use Rattle.print.specs.Answers.{outcomeOf, done, answered, written};
 ghost use Rattle.print.specs.Text.{decimal, numbers, spaced, refusal};
 ghost use Rattle.print.specs.Listing.{headerLine, transitionLine, listing};
 ghost use Rattle.print.specs.Words.{wordsOf};
@@ -18,13 +18,26 @@ ghost use Rattle.print.specs.Inner.Parts.{labelText, arcsText, RecordAt}
 ghost use Rattle.builder.specs.Answer.{builtOutcome};
 ghost use Rattle.print.specs.Program.{causeWith, programText};
 use builder::Built;
+use lists::store8;
 use lists::store16;
 use lists::word8;
 use lists::word32;
 
-// The 16-bit words of the bytes, low byte first, as far as `out` reaches; the answer is the number of words, also of
-// those that found no room.
-pub fn words(bytes: &[u8], out: &mut [u16]) -> usize
+// What a call did: how many bytes or words it wrote, or that the output is too short for them (10).
+pub enum Printed {
+    Done(usize),
+    NoRoom,
+}
+
+// Where the next byte goes, and where writing stops.
+struct Pen {
+    place: usize,
+    stop: usize,
+}
+
+// Writes the 16-bit words of the bytes, low byte first, as far as `out` reaches; the answer is the number of words,
+// also of those that found no room.
+fn fill_words(bytes: &[u8], out: &mut [u16]) -> usize
     ensures { λ r. ⌜ now (out .exit) ≡ sets (now (out .entry)) 0 (wordsOf (now (bytes .entry))) ⌝ }
     ensures { λ r. ⌜ r ≡ length (wordsOf (now (bytes .entry))) ⌝ }
 {
@@ -39,19 +52,34 @@ pub fn words(bytes: &[u8], out: &mut [u16]) -> usize
     count
 }
 
-// Writes a byte at `at`, or nothing where the buffer ends; every function that writes answers with the next place.
-fn put(out: &mut [u8], at: usize, byte: u8) -> usize
+// The 16-bit words of the bytes, low byte first.
+pub fn words(bytes: &[u8], out: &mut [u16]) -> Printed
+    ensures { λ r. ⌜ outcomeOf r (now (out .exit)) ≡ answered (wordsOf (now (bytes .entry))) (now (out .entry)) ⌝ }
+{
+    if out.len() < bytes.len() / 2 {
+        return Printed::NoRoom;
+    }
+    Printed::Done(fill_words(bytes, out))
+}
+
+// Writes a byte; past the buffer's end it is only counted, and from the stop on it is not. Every function that writes
+// answers with the pen after it.
+fn put(out: &mut [u8], at: Pen, byte: u8) -> Pen
     ensures { λ r. ⌜ cursorAt (now (out .exit)) r ≡ write (cursorAt (now (out .entry)) at) (byte ∷ []) ⌝ }
 {
-    if at < out.len() {
-        out[at] = byte;
-        return at + 1;
+    if at.place < at.stop {
+        store8(out, at.place, byte);
+        let next = at.place + 1;
+        return Pen {
+            place: next,
+            stop: at.stop,
+        };
     }
-    out.len()
+    at
 }
 
 // Writes the bytes of a text.
-fn copy(out: &mut [u8], at: usize, text: &[u8]) -> usize
+fn copy(out: &mut [u8], at: Pen, text: &[u8]) -> Pen
     ensures { λ r. ⌜ cursorAt (now (out .exit)) r ≡ write (cursorAt (now (out .entry)) at) (now (text .entry)) ⌝ }
 {
     let mut i: usize = 0;
@@ -72,7 +100,7 @@ fn digit(n: usize) -> u8
 }
 
 // Writes a number: all its digits but the last, then the last.
-fn put_decimal(out: &mut [u8], at: usize, n: usize) -> usize
+fn put_decimal(out: &mut [u8], at: Pen, n: usize) -> Pen
     ensures { λ r. ⌜ cursorAt (now (out .exit)) r ≡ write (cursorAt (now (out .entry)) at) (decimal n) ⌝ }
 {
     if n < 10 {
@@ -83,7 +111,7 @@ fn put_decimal(out: &mut [u8], at: usize, n: usize) -> usize
 }
 
 // Writes a number that does not begin a line.
-fn put_next(out: &mut [u8], at: usize, n: usize) -> usize
+fn put_next(out: &mut [u8], at: Pen, n: usize) -> Pen
     ensures { λ r. ⌜ cursorAt (now (out .exit)) r ≡ write (cursorAt (now (out .entry)) at) (spaced (decimal n)) ⌝ }
 {
     let p = put(out, at, b' ');
@@ -91,7 +119,7 @@ fn put_next(out: &mut [u8], at: usize, n: usize) -> usize
 }
 
 // Writes a mark that does not begin a line.
-fn put_mark(out: &mut [u8], at: usize, mark: u8) -> usize
+fn put_mark(out: &mut [u8], at: Pen, mark: u8) -> Pen
     ensures { λ r. ⌜ cursorAt (now (out .exit)) r ≡ write (cursorAt (now (out .entry)) at) (spaced (mark ∷ [])) ⌝ }
 {
     let p = put(out, at, b' ');
@@ -99,7 +127,7 @@ fn put_mark(out: &mut [u8], at: usize, mark: u8) -> usize
 }
 
 // Writes word i of the image; it does not begin a line.
-fn put_word(image: &[u32], i: usize, out: &mut [u8], at: usize) -> usize
+fn put_word(image: &[u32], i: usize, out: &mut [u8], at: Pen) -> Pen
     ensures { λ r. ⌜ cursorAt (now (out .exit)) r
         ≡ write (cursorAt (now (out .entry)) at) (spaced (decimal (word (now (image .entry)) i))) ⌝ }
 {
@@ -116,8 +144,8 @@ fn smaller(a: usize, b: usize) -> usize
     b
 }
 
-// Writes the words from `start` to `end`, those that the image has. The work ends where the buffer is full.
-fn put_span(image: &[u32], start: usize, end: usize, out: &mut [u8], at: usize) -> usize
+// Writes the words from `start` to `end`, those that the image has. The work ends where the pen stops.
+fn put_span(image: &[u32], start: usize, end: usize, out: &mut [u8], at: Pen) -> Pen
     ensures { λ r. ⌜ cursorAt (now (out .exit)) r
         ≡ write (cursorAt (now (out .entry)) at) (flat spaced (numbers (slice start end (now (image .entry))))) ⌝ }
 {
@@ -125,7 +153,7 @@ fn put_span(image: &[u32], start: usize, end: usize, out: &mut [u8], at: usize) 
     let mut i = start;
     let mut p = at;
     while i < last {
-        if p == out.len() {
+        if p.place >= p.stop {
             return p;
         }
         p = put_word(image, i, out, p);
@@ -135,12 +163,12 @@ fn put_span(image: &[u32], start: usize, end: usize, out: &mut [u8], at: usize) 
 }
 
 // Writes the first five header words as a line.
-fn put_header(image: &[u32], out: &mut [u8]) -> usize
+fn put_header(image: &[u32], out: &mut [u8], at: Pen) -> Pen
     ensures { λ r. ⌜ cursorAt (now (out .exit)) r
-        ≡ write (cursorAt (now (out .entry)) 0) (headerLine (now (image .entry))) ⌝ }
+        ≡ write (cursorAt (now (out .entry)) at) (headerLine (now (image .entry))) ⌝ }
 {
     let places = word32(image, 0);
-    let a = put_decimal(out, 0, places);
+    let a = put_decimal(out, at, places);
     let b = put_word(image, 1, out, a);
     let c = put_word(image, 2, out, b);
     let d = put_word(image, 3, out, c);
@@ -158,7 +186,7 @@ fn record_start(image: &[u32], transition: usize) -> usize
 }
 
 // Writes the label of a transition.
-fn put_label(image: &[u32], transition: usize, out: &mut [u8], at: usize) -> usize
+fn put_label(image: &[u32], transition: usize, out: &mut [u8], at: Pen) -> Pen
     requires { ⌜ transition < 4294967296 ⌝ }
     ensures { λ r. ⌜ cursorAt (now (out .exit)) r
         ≡ write (cursorAt (now (out .entry)) at) (labelText (now (image .entry)) transition) ⌝ }
@@ -170,7 +198,7 @@ fn put_label(image: &[u32], transition: usize, out: &mut [u8], at: usize) -> usi
 }
 
 // Writes the inputs and the outputs of a transition, each after its mark.
-fn put_arcs(image: &[u32], transition: usize, out: &mut [u8], at: usize) -> usize
+fn put_arcs(image: &[u32], transition: usize, out: &mut [u8], at: Pen) -> Pen
     requires { ⌜ transition < 4294967296 ⌝ }
     ensures { λ r. ⌜ cursorAt (now (out .exit)) r
         ≡ write (cursorAt (now (out .entry)) at) (arcsText (now (image .entry)) transition) ⌝ }
@@ -186,7 +214,7 @@ fn put_arcs(image: &[u32], transition: usize, out: &mut [u8], at: usize) -> usiz
 }
 
 // Writes the line of a transition.
-fn put_transition(image: &[u32], transition: usize, out: &mut [u8], at: usize) -> usize
+fn put_transition(image: &[u32], transition: usize, out: &mut [u8], at: Pen) -> Pen
     requires { ⌜ transition < 4294967296 ⌝ }
     ensures { λ r. ⌜ cursorAt (now (out .exit)) r
         ≡ write (cursorAt (now (out .entry)) at) (transitionLine (now (image .entry)) transition) ⌝ }
@@ -197,8 +225,8 @@ fn put_transition(image: &[u32], transition: usize, out: &mut [u8], at: usize) -
     put(out, c, b'\n')
 }
 
-// Writes the lines of all transitions. The work ends where the buffer is full.
-fn put_transitions(image: &[u32], out: &mut [u8], at: usize) -> usize
+// Writes the lines of all transitions. The work ends where the pen stops.
+fn put_transitions(image: &[u32], out: &mut [u8], at: Pen) -> Pen
     ensures { λ r. ⌜ cursorAt (now (out .exit)) r
         ≡ write (cursorAt (now (out .entry)) at)
         (flat (transitionLine (now (image .entry))) (range (transitionCount (now (image .entry))))) ⌝ }
@@ -207,7 +235,7 @@ fn put_transitions(image: &[u32], out: &mut [u8], at: usize) -> usize
     let mut transition: usize = 0;
     let mut p = at;
     while transition < count {
-        if p == out.len() {
+        if p.place >= p.stop {
             return p;
         }
         p = put_transition(image, transition, out, p);
@@ -216,23 +244,58 @@ fn put_transitions(image: &[u32], out: &mut [u8], at: usize) -> usize
     p
 }
 
-// The listing of an image, as far as `out` reaches; the answer is the number of bytes written.
-pub fn listing(image: &[u32], out: &mut [u8]) -> usize
-    ensures { λ r. ⌜ now (out .exit) ≡ sets (now (out .entry)) 0 (listing (now (image .entry))) ⌝ }
-    ensures { λ r. ⌜ r ≡ min (length (listing (now (image .entry)))) (length (now (out .entry))) ⌝ }
+// Writes the listing of an image.
+fn put_listing(image: &[u32], out: &mut [u8], at: Pen) -> Pen
+    ensures { λ r. ⌜ cursorAt (now (out .exit)) r
+        ≡ write (cursorAt (now (out .entry)) at) (listing (now (image .entry))) ⌝ }
 {
-    let p = put_header(image, out);
+    let p = put_header(image, out, at);
     put_transitions(image, out, p)
 }
 
-// `refused`, the number and a line feed, as far as `out` reaches; the answer is the number of bytes written.
-pub fn refusal(number: usize, out: &mut [u8]) -> usize
-    ensures { λ r. ⌜ now (out .exit) ≡ sets (now (out .entry)) 0 (refusal number) ⌝ }
-    ensures { λ r. ⌜ r ≡ min (length (refusal number)) (length (now (out .entry))) ⌝ }
+// Writes `refused`, the number and a line feed.
+fn put_refusal(number: usize, out: &mut [u8], at: Pen) -> Pen
+    ensures { λ r. ⌜ cursorAt (now (out .exit)) r ≡ write (cursorAt (now (out .entry)) at) (refusal number) ⌝ }
 {
-    let a = copy(out, 0, b"refused");
+    let a = copy(out, at, b"refused");
     let b = put_next(out, a, number);
     put(out, b, b'\n')
+}
+
+// The listing of an image. It is first counted on a byte of its own.
+pub fn listing(image: &[u32], out: &mut [u8]) -> Printed
+    ensures { λ r. ⌜ outcomeOf r (now (out .exit)) ≡ answered (listing (now (image .entry))) (now (out .entry)) ⌝ }
+{
+    let stop = out.len() + 1;
+    let start = Pen {
+        place: 0,
+        stop: stop,
+    };
+    let mut none = [0u8; 1];
+    let lines = put_listing(image, &mut none, start);
+    if lines.place > out.len() {
+        return Printed::NoRoom;
+    }
+    let end = put_listing(image, out, start);
+    Printed::Done(end.place)
+}
+
+// `refused`, the number and a line feed, first counted on a byte of their own.
+pub fn refusal(number: usize, out: &mut [u8]) -> Printed
+    ensures { λ r. ⌜ outcomeOf r (now (out .exit)) ≡ answered (refusal number) (now (out .entry)) ⌝ }
+{
+    let stop = out.len() + 1;
+    let start = Pen {
+        place: 0,
+        stop: stop,
+    };
+    let mut none = [0u8; 1];
+    let line = put_refusal(number, &mut none, start);
+    if line.place > out.len() {
+        return Printed::NoRoom;
+    }
+    let end = put_refusal(number, out, start);
+    Printed::Done(end.place)
 }
 
 // The number that a table is refused with, 0 where its image was built.
@@ -273,14 +336,12 @@ fn number_with(odd: bool, number: usize) -> usize
     3
 }
 
-// What the listing program prints of its input, as far as `out` reaches; the answer is the number of bytes written.
-// Input longer than any table is told by its first words.
-pub fn list(bytes: &[u8], out: &mut [u8]) -> usize
-    ensures { λ r. ⌜ now (out .exit) ≡ sets (now (out .entry)) 0 (programText (now (bytes .entry))) ⌝ }
-    ensures { λ r. ⌜ r ≡ min (length (programText (now (bytes .entry)))) (length (now (out .entry))) ⌝ }
+// What the listing program prints of its input. Input longer than any table is told by its first words.
+pub fn list(bytes: &[u8], out: &mut [u8]) -> Printed
+    ensures { λ r. ⌜ outcomeOf r (now (out .exit)) ≡ answered (programText (now (bytes .entry))) (now (out .entry)) ⌝ }
 {
     let mut table = [0u16; 4096];
-    let count = smaller(words(bytes, &mut table), 4096);
+    let count = smaller(fill_words(bytes, &mut table), 4096);
     let mut image = [0u32; 16384];
     let built = builder::build(&table[..count], &mut image);
     let number = number_with(bytes.len() % 2 == 1, built_number(built));
@@ -289,4 +350,15 @@ pub fn list(bytes: &[u8], out: &mut [u8]) -> usize
     }
     let size = smaller(built_words(built), 16384);
     listing(&image[..size], out)
+}
+
+// The same into bytes that hold every text that the program prints (`program-fits`), so there is always room; the
+// answer is the text's length.
+pub fn list_all(bytes: &[u8], out: &mut [u8; 262144]) -> usize
+    ensures { λ r. ⌜ done r (now (out .exit)) ≡ written (programText (now (bytes .entry))) (now (out .entry)) ⌝ }
+{
+    let Printed::Done(size) = list(bytes, out) else {
+        return 0;
+    };
+    size
 }

@@ -12,7 +12,7 @@ use Rattle.scheme.specs.Owners.{home, owner, pickOwner, heldBy, definitionBy, h
 use Rattle.scheme.specs.Scheme.{Scheme, scheme, nodeAt, branchAt, argumentsAt, pickBinder, binderOf}
 use Rattle.process.specs.States.{State, start, put}
 use Rattle.process.specs.Steps.{Step, newStep, silentStep, communication, callStep, take, passed, isOpen}
-use Rattle.process.specs.Labels.{labelOf, stepOf, steps, openSteps, openLabels}
+use Rattle.process.specs.Labels.{stepOf, steps, openSteps, openLabels, bookkeeping, copy, release, step, missing, meaningOf}
 use Rattle.process.specs.Outcomes.{Outcome, answered, written, refusal}
 use Rattle.process.specs.StateWords.{stateWords, place, noted, valueWords, wellFormed, stateOf, sameList}
 
@@ -100,3 +100,32 @@ pub fitted : (labelled (7 ∷ 7 ∷ 7 ∷ 7 ∷ []) ≡ written 1 (2 ∷ 0 ∷ 1
     × (labelled (7 ∷ 7 ∷ []) ≡ refusal 10 (7 ∷ 7 ∷ []))
 unfolding same from every keep flat member firstFrom formals branchesOf argumentsOf home owner pickOwner heldBy definitionBy held definition scheme nodeAt branchAt argumentsAt pickBinder binderOf start put isOpen steps openSteps openLabels answered
 fitted = (refl, refl, refl)
+
+-- Labels and what they name. E has two releases, a New and a communication, and none of: a copy at a New, a release at a Choice, a receive before a send,
+-- a call at a New, a node outside, a kind above 5.
+pub named-of-E :
+    (meaningOf (scheme tableE) 1 2 1 ≡ bookkeeping (release 2 1))
+    × (meaningOf (scheme tableE) 1 4 2 ≡ bookkeeping (release 4 2))
+    × (meaningOf (scheme tableE) 2 0 1 ≡ step (newStep 0))
+    × (meaningOf (scheme tableE) 4 0 1 ≡ step (communication 0 1))
+    × (meaningOf (scheme tableE) 0 0 1 ≡ missing)
+    × (meaningOf (scheme tableE) 1 1 1 ≡ missing)
+    × (meaningOf (scheme tableE) 4 1 0 ≡ missing)
+    × (meaningOf (scheme tableE) 5 0 0 ≡ missing)
+    × (meaningOf (scheme tableE) 1 5 1 ≡ missing)
+    × (meaningOf (scheme tableE) 6 0 1 ≡ missing)
+unfolding same from member firstFrom formals branchesOf home owner pickOwner heldBy definitionBy held definition scheme nodeAt branchAt stepOf meaningOf
+named-of-E = (refl, refl, refl, refl, refl, refl, refl, refl, refl, refl)
+
+-- a Call's copy, release and call; the caller's name is no formal, the formal is not held, and a call's second number is 0
+pub named-at-calls :
+    (meaningOf (scheme tableCalls) 0 1 1 ≡ bookkeeping (copy 1 1))
+    × (meaningOf (scheme tableCalls) 1 1 0 ≡ bookkeeping (release 1 0))
+    × (meaningOf (scheme tableCalls) 5 1 0 ≡ step (callStep 1))
+    × (meaningOf (scheme tableCalls) 0 1 0 ≡ missing)
+    × (meaningOf (scheme tableCalls) 1 1 1 ≡ missing)
+    × (meaningOf (scheme tableCalls) 5 1 1 ≡ missing)
+    × (meaningOf (scheme tableItself) 3 2 0 ≡ step (silentStep 2))
+    × (meaningOf (scheme tableItself) 3 2 1 ≡ missing)
+unfolding same from member firstFrom formals branchesOf home owner pickOwner heldBy definitionBy held definition scheme nodeAt branchAt stepOf meaningOf
+named-at-calls = (refl, refl, refl, refl, refl, refl, refl, refl)

@@ -8,7 +8,7 @@ use Rattle.lists.specs.Lists.{pick, word}
 use Rattle.lists.proofs.Tests.{and-left, and-right}
 use Rattle.scheme.specs.Words.{nodes, branches, definitionThread, isChoice, isNew, isCall, isSilent, isSend, isReceive}
 use Rattle.scheme.specs.Words.{nodeFirst, nodeSecond, channel, branchName, next}
-use Rattle.scheme.specs.Scheme.{scheme, stop, new, call, silent, send, receive, nodeAt, branchAt}
+use Rattle.scheme.specs.Scheme.{scheme, stop, choice, new, call, silent, send, receive, nodeAt, branchAt}
 use Rattle.scheme.specs.Index.{binderThreadIn}
 use Rattle.scheme.specs.Kinds
 use Rattle.table.proofs.Inside
@@ -68,6 +68,10 @@ module _ (w : List ℕ) (n : ℕ) where
       go : (d : Bool) → ltb n (nodes w) ≡ d → Kinds.isStop (nodeAt w n) ≡ true
       go false l = rw l
       go true l = rw (l, rw l at a, rw l at b, rw l at c)
+
+  pub choice-at : (ltb n (nodes w) && isChoice w n) ≡ true → scheme w .node n ≡ choice (nodeFirst w n) (nodeSecond w n)
+  unfolding scheme nodeAt
+  choice-at h = rw (and-left (ltb n (nodes w)) (isChoice w n) h, and-right (ltb n (nodes w)) (isChoice w n) h)
 
   pub new-at : (ltb n (nodes w) && isNew w n) ≡ true → scheme w .node n ≡ new (nodeFirst w n) (nodeSecond w n)
   unfolding scheme nodeAt

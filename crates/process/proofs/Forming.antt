@@ -4,14 +4,14 @@ use mathlib.Core.Bool.{Bool, true, false, not, _&&_, _||_}
 use mathlib.Core.Option.{Option, none, some}
 use mathlib.Core.List.{List, [], _∷_, _++_, map}
 use Prim.Native.Nat.{ℕ, zero, suc, _+_, _-_, _≤_, _<_}
-use native.Mathlib.Decide.{ℕ-discrete, decLt, decLe}
+use native.Mathlib.Decide.{ℕ-discrete}
 use native.Mathlib.Omega.{arith}
 use lib.Dec.{ltb, leb}
 use lib.ListN.{length, replicate, getD, length-replicate}
 use lib.Seq.{sets, slice, length-sets}
-use borrow.Author.Tests.{lt-ltb, le-ltb, le-leb, lt-leb, ltb-true}
+use borrow.Author.Tests.{le-leb, lt-leb}
 use Rattle.lists.specs.Lists.{pick, same, word, from, range, every, member}
-use Rattle.lists.proofs.Tests.{same-yes, same-no, and-true, false-true}
+use Rattle.lists.proofs.Tests.{same-yes, same-no, and-true}
 use Rattle.lists.proofs.Members.{member-here}
 use Rattle.lists.proofs.Counts.{distinct-below}
 use Rattle.lists.proofs.Slices.{slice-step, slice-none, slice-between}
@@ -19,9 +19,8 @@ use Rattle.scheme.specs.Words.{publics, bounds, threads, nodes, branches, defin
 use Rattle.scheme.specs.Owners.{held}
 use Rattle.scheme.specs.Index.{heldIn, HeldNames}
 use Rattle.table.specs.Causes.{cause}
-use Rattle.scheme.specs.Scheme.{Scheme, scheme, nodeAt}
+use Rattle.scheme.specs.Scheme.{Scheme, scheme}
 use Rattle.table.specs.Accepted.{Accepted}
-use Rattle.scheme.specs.Kinds.{isStop}
 use Rattle.table.proofs.Accepted.{accepted}
 use Rattle.scheme.proofs.Indexed.{held-indexed}
 use Rattle.process.specs.States.{State, oneValue}
@@ -53,18 +52,22 @@ module _ (w owners homes : List ℕ) (O : Owned w owners homes) where
       let k = distinct-below (scheme w .held n) (scheme w .publics + scheme w .bounds) (λ x m. A .held-name n x m .high) (A .held-distinct n) in
       omega (arith, A .few-publics, A .few-bounds)
 
-  held-reached : (n : ℕ) → isStop (scheme w .node n) ≡ false → heldIn w owners homes n ≡ scheme w .held n
-  unfolding scheme nodeAt
+  pub few-nodes : nodes w ≤ 256
+  unfolding scheme
+  few-nodes = accepted w (O .ok) .few-nodes
+
+  pub none-held : (n x : ℕ) → nodes w ≤ n → false ≡ member x (scheme w .held n)
+  unfolding scheme member
+  none-held n x h = rw (accepted w (O .ok) .held-inside n h)
+
+  held-reached : (n : ℕ) → n < nodes w → heldIn w owners homes n ≡ scheme w .held n
+  unfolding scheme
   held-reached n h =
       let A = accepted w (O .ok) in
-      held-indexed w owners homes n (O .owners-right) (O .homes-right) (inside (decLt n (nodes w))) (omega (arith, A .few-branches, O .homes-reach))
-      (omega (arith, A .few-definitions)) (omega (arith, A .few-nodes))
-    where
-      inside : Dec (n < nodes w) → n < length owners
-      inside (yes l) = omega (arith, accepted w (O .ok) .few-nodes, O .owners-reach)
-      inside (no d) = false-true h (rw (le-ltb n (nodes w) (omega arith)))
+      held-indexed w owners homes n (O .owners-right) (O .homes-right) (omega (arith, A .few-nodes, O .owners-reach))
+      (omega (arith, A .few-branches, O .homes-reach)) (omega (arith, A .few-definitions)) (omega (arith, A .few-nodes))
 
-  module _ (n r : ℕ) (after : List ℕ) (h : isStop (scheme w .node n) ≡ false) (H : HeldNames (heldIn w owners homes n) (replicate 64 0) r after) where
+  module _ (n r : ℕ) (after : List ℕ) (h : n < nodes w) (H : HeldNames (heldIn w owners homes n) (replicate 64 0) r after) where
     names-fit : length (heldIn w owners homes n) ≤ length (replicate {A = ℕ} 64 0)
     names-fit = rw (held-reached n h, length-replicate {A = ℕ} 64 0) (few-held n)
 

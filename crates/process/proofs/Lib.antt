@@ -6,6 +6,7 @@ pub mod NameValues
 pub mod Numbering
 pub mod Forming
 pub mod Labelling
+pub mod Meanings
 pub mod Taking
 pub mod Stepping
 pub mod Listed

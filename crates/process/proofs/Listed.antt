@@ -14,11 +14,11 @@ use Rattle.scheme.specs.Words.{nodes, branches, branchKind, nodeFirst, nodeSeco
 use Rattle.scheme.specs.Scheme.{Scheme, scheme, Node, stop, choice, new, call, nodeAt}
 use Rattle.scheme.specs.Kinds
 use Rattle.process.specs.States.{State}
-use Rattle.process.specs.Steps.{silentStep, communication, isOpen, standsAt}
+use Rattle.process.specs.Steps.{newStep, silentStep, communication, callStep, isOpen, standsAt}
 use Rattle.process.specs.Labels.{labelOf, stepsOfNode}
 use Rattle.process.specs.Inner.Listed.{Listed, silentWords, stepWords, nodeWords, pairWords, pairsWords, meetingWords, listWords, standing}
 use Rattle.process.proofs.Sets.{sets-append}
-use Rattle.process.proofs.Decoding.{new-at, call-at, stop-else}
+use Rattle.process.proofs.Decoding.{choice-at, new-at, call-at, stop-else}
 
 -- ---- one after another
 
@@ -90,7 +90,7 @@ module _ (S : Scheme) where
   abbrev silents : List ℕ → List ℕ
   silents xs = keep (λ b. Kinds.isSilent (S .branch b)) xs
 
-  pub silent-yes : (b : ℕ) → Kinds.isSilent (S .branch b) ≡ true → silentWords S b ≡ 3 ∷ b ∷ 0 ∷ []
+  pub silent-yes : (b : ℕ) → Kinds.isSilent (S .branch b) ≡ true → silentWords S b ≡ labelOf S (silentStep b)
   unfolding silentWords
   silent-yes b h = rw h
 
@@ -116,24 +116,15 @@ module _ (S : Scheme) where
   no-steps n (call d) h = absurd (false≢true h)
 
 module _ (w : List ℕ) (n : ℕ) where
-  choice-at : (ltb n (nodes w) && isChoice w n) ≡ true → scheme w .node n ≡ choice (nodeFirst w n) (nodeSecond w n)
-  unfolding scheme nodeAt
-  choice-at h = go (ltb n (nodes w)) refl (isChoice w n) refl
-    where
-      go : (a : Bool) → ltb n (nodes w) ≡ a → (b : Bool) → isChoice w n ≡ b → nodeAt w n ≡ choice (nodeFirst w n) (nodeSecond w n)
-      go true p true q = rw (p, q)
-      go true p false q = absurd (false≢true (rw (p, q) at h))
-      go false p b q = absurd (false≢true (rw p at h))
-
   pub steps-choice : (ltb n (nodes w) && isChoice w n) ≡ true → stepWords (scheme w) n ≡ flat (silentWords (scheme w)) (from (nodeFirst w n) (nodeSecond w n))
   unfolding stepWords
-  steps-choice h = rw (choice-at h) (silent-labels (scheme w) (from (nodeFirst w n) (nodeSecond w n)))
+  steps-choice h = rw (choice-at w n h) (silent-labels (scheme w) (from (nodeFirst w n) (nodeSecond w n)))
 
-  pub steps-new : (ltb n (nodes w) && isNew w n) ≡ true → stepWords (scheme w) n ≡ 2 ∷ n ∷ nodeFirst w n ∷ []
+  pub steps-new : (ltb n (nodes w) && isNew w n) ≡ true → stepWords (scheme w) n ≡ labelOf (scheme w) (newStep n)
   unfolding stepWords flat
   steps-new h = rw (new-at w n h) (rw (new-at w n h))
 
-  pub steps-call : (ltb n (nodes w) && isCall w n) ≡ true → stepWords (scheme w) n ≡ 5 ∷ n ∷ 0 ∷ []
+  pub steps-call : (ltb n (nodes w) && isCall w n) ≡ true → stepWords (scheme w) n ≡ labelOf (scheme w) (callStep n)
   unfolding stepWords flat
   steps-call h = rw (call-at w n h)
 
@@ -151,7 +142,7 @@ module _ (S : Scheme) (s : State) where
   unfolding nodeWords
   node-no n h = rw h
 
-  pub pair-yes : (b c : ℕ) → isOpen S s (communication b c) ≡ true → pairWords S s b c ≡ 4 ∷ b ∷ c ∷ []
+  pub pair-yes : (b c : ℕ) → isOpen S s (communication b c) ≡ true → pairWords S s b c ≡ labelOf S (communication b c)
   unfolding pairWords
   pair-yes b c h = rw h
 

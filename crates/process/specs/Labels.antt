@@ -1,10 +1,10 @@
--- Labels, and the steps that they name (document 01, Transitions): "Labels (kind, a, b): 0 copy, node, formal; 1 release, node, name; 2 new,
+-- Labels, and what they name (document 01, Transitions): "Labels (kind, a, b): 0 copy, node, formal; 1 release, node, name; 2 new,
 -- node, name; 3 silent, branch, 0; 4 communication, send, receive; 5 call, node, 0. Kinds 0 and 1 are bookkeeping."
-use mathlib.Core.Bool.{Bool, true, false, not, _&&_, _||_}
+use mathlib.Core.Bool.{Bool, true, false, not, _&&_}
 use mathlib.Core.List.{List, [], _∷_, _++_, map}
 use Prim.Native.Nat.{ℕ}
-use lib.Dec.{ltb, leb}
-use Rattle.lists.specs.Lists.{pick, same, from, range, keep, flat}
+use lib.Dec.{leb}
+use Rattle.lists.specs.Lists.{pick, same, from, range, keep, flat, member}
 use Rattle.scheme.specs.Scheme.{Scheme, Node, stop, choice, new, call, Branch, absent, silent, send, receive}
 use Rattle.process.specs.States.{State}
 use Rattle.process.specs.Steps.{Step, newStep, silentStep, communication, callStep, noStep, isOpen}
@@ -12,6 +12,31 @@ use Rattle.scheme.specs.Kinds.{isSilent, isSend, isReceive}
 
 abbrev pub isBookkeeping : ℕ → Bool
 isBookkeeping kind = leb kind 1
+
+-- the copy of a formal and the release of a name, by node and name
+pub data Bookkeeping : Type 0 where
+  copy : ℕ → ℕ → Bookkeeping
+  release : ℕ → ℕ → Bookkeeping
+
+-- what a label names: bookkeeping, a step of the process, or nothing that the table has
+pub data Meaning : Type 0 where
+  bookkeeping : Bookkeeping → Meaning
+  step : Step → Meaning
+  missing : Meaning
+
+-- a step as what a label names; where there is no step, the table does not have the label
+abbrev pub stepMeaning : Step → Meaning
+stepMeaning (newStep n) = step (newStep n)
+stepMeaning (silentStep b) = step (silentStep b)
+stepMeaning (communication b c) = step (communication b c)
+stepMeaning (callStep n) = step (callStep n)
+stepMeaning noStep = missing
+
+-- something that the table has
+abbrev pub isThere : Meaning → Bool
+isThere (bookkeeping k) = true
+isThere (step x) = true
+isThere missing = false
 
 -- the name that a New makes
 abbrev pub newName : Node → ℕ
@@ -29,8 +54,30 @@ module _ (S : Scheme) where
   labelOf (callStep n) = 5 ∷ n ∷ 0 ∷ []
   labelOf noStep = []
 
-  -- "A table has a label where its numbers fit the kind: a node with that .. new or call, a silent branch, or a send and a receive of different
-  -- threads on any channels.": the step that a label of the table names, no step otherwise
+  -- "A table has a label where its numbers fit the kind: a node with that copy, release, new or call, a silent branch, or a send and a receive of
+  -- different threads on any channels."
+
+  -- "a node with that copy": a Call, of a formal of the definition called
+  abbrev pub copies : ℕ → Node → Bool
+  copies x stop = false
+  copies x (choice f c) = false
+  copies x (new r l) = false
+  copies x (call d) = member x (S .formals d)
+
+  -- "release": a Stop or a Call, of a name held there
+  abbrev pub releases : List ℕ → ℕ → Node → Bool
+  releases held x stop = member x held
+  releases held x (choice f c) = false
+  releases held x (new r l) = false
+  releases held x (call d) = member x held
+
+  abbrev pub copyNamed : ℕ → ℕ → Meaning
+  copyNamed n x = pick (copies x (S .node n)) (bookkeeping (copy n x)) missing
+
+  abbrev pub releaseNamed : ℕ → ℕ → Meaning
+  releaseNamed n x = pick (releases (S .held n) x (S .node n)) (bookkeeping (release n x)) missing
+
+  -- "new or call, a silent branch, or a send and a receive": the step that a label of kind 2 to 5 names, no step otherwise
   abbrev pub newNamed : ℕ → ℕ → Node → Step
   newNamed n x stop = noStep
   newNamed n x (choice f c) = noStep
@@ -62,6 +109,16 @@ module _ (S : Scheme) where
       (pick (same kind 3) (silentNamed a b (S .branch a))
       (pick (same kind 4) (communicationNamed a b)
       (pick (same kind 5) (callNamed a b (S .node a)) noStep)))
+
+  -- what a label of any kind names
+  unfoldable pub meaningOf : ℕ → ℕ → ℕ → Meaning
+  meaningOf kind a b =
+      pick (same kind 0) (copyNamed a b)
+      (pick (same kind 1) (releaseNamed a b) (stepMeaning (stepOf kind a b)))
+
+  -- the table has the label
+  unfoldable pub hasLabel : ℕ → ℕ → ℕ → Bool
+  hasLabel kind a b = isThere (meaningOf kind a b)
 
   -- every step of the table, in the image's label order: by node, then communications by send branch and receive branch
   abbrev pub stepsOfNode : ℕ → Node → List Step

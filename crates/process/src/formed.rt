@@ -1,12 +1,11 @@
 // Cause 18: whether words are a state's.
 ghost use mathlib.Core.Path.{_≡_};
-ghost use mathlib.Core.Bool.{not, _&&_, _||_};
+ghost use mathlib.Core.Bool.{not, _||_};
 ghost use Prim.Native.Nat.{_+_, _-_, _≤_, _<_};
 ghost use lib.ListN.{length};
 ghost use lib.Seq.{slice};
 ghost use Rattle.lists.specs.Lists.{same, every, from, range, member};
 ghost use Rattle.scheme.specs.Words.{publics, bounds, threads};
-ghost use Rattle.scheme.specs.Kinds.{isStop};
 ghost use Rattle.scheme.specs.Scheme.{scheme};
 ghost use Rattle.process.specs.States.{oneValue};
 ghost use Rattle.process.specs.StateWords.{stateOf, stateWords, holdsAt, nodeRight, nameRight, restrictedRight};
@@ -38,21 +37,20 @@ fn is_listed(names: &[u32], count: usize, name: usize) -> bool
     false
 }
 
-// Whether a name is to have a value at a node: the node holds it, and is no Stop.
-fn holds(table: &[u16], owners: &[u32], homes: &[u32], node: usize, name: usize) -> bool
-    requires { ⌜ Owned (now table) (now owners) (now homes) × (node < 65536) ⌝ }
-    ensures { λ r. ⌜ r ≡ (not (isStop (scheme (now (table .entry)) .node node))
-        && member name (scheme (now (table .entry)) .held node)) ⌝ }
+// Whether a node holds a name.
+pub(crate) fn holds(table: &[u16], owners: &[u32], homes: &[u32], node: usize, name: usize) -> bool
+    requires { ⌜ Owned (now table) (now owners) (now homes) ⌝ }
+    ensures { λ r. ⌜ r ≡ member name (scheme (now (table .entry)) .held node) ⌝ }
 {
-    if is_stop(table, node) {
+    if word16(table, 4) <= node {
         return false;
     }
     let mut names = [0u32; 64];
-    let count = held_names(table, owners, homes, node as u16, &mut names);
+    let count = held_names(table, owners, homes, node as u8, &mut names);
     is_listed(&names, count, name)
 }
 
-// Whether a name is to have a value in the state.
+// Whether a name is to have a value in the state: its thread's node holds it, and is no Stop.
 fn is_held(
     table: &[u16],
     owners: &[u32],
@@ -66,8 +64,11 @@ fn is_held(
     ensures { λ r. ⌜ r ≡ holdsAt (scheme (now (table .entry)))
         (stateOf (scheme (now (table .entry))) (now (state .entry))) name ⌝ }
 {
-    let thread = name_thread(table, homes, definitions, binders, name);
-    holds(table, owners, homes, word16(state, thread), name)
+    let node = word16(state, name_thread(table, homes, definitions, binders, name));
+    if is_stop(table, node) {
+        return false;
+    }
+    holds(table, owners, homes, node, name)
 }
 
 // Whether a name has a value just where it is to have one, and the value is not too large.

@@ -1,11 +1,16 @@
-// Labels, the steps that they name, and whether a step is open.
+// Labels, what they name, and whether a step is open.
 ghost use mathlib.Core.Path.{_≡_};
+ghost use mathlib.Core.Bool.{_&&_};
+ghost use Rattle.table.specs.Causes.{cause};
 ghost use Rattle.scheme.specs.Scheme.{scheme};
+ghost use Rattle.scheme.specs.Kinds.{isSend};
 ghost use Rattle.process.specs.Steps.{standsAt, isOpen, communication};
-ghost use Rattle.process.specs.Labels.{newNamed, silentNamed, callNamed, stepOf, communicationNamed};
+ghost use Rattle.process.specs.Labels.{labelOf, newNamed, silentNamed, callNamed, communicationNamed, isPartner};
+ghost use Rattle.process.specs.Labels.{copyNamed, releaseNamed, stepMeaning, stepOf, meaningOf};
 ghost use Rattle.process.specs.StateWords.{stateOf};
-ghost use Rattle.process.specs.Inner.Index.{Indexed};
-ghost use Rattle.process.specs.Inner.Codes.{meant, named, opened, ifOpen};
+ghost use Rattle.process.specs.Inner.Index.{Indexed, Owned};
+ghost use Rattle.process.specs.Inner.Codes.{meant, named, labelWords, Labelled, opened, ifOpen};
+use crate::formed::holds;
 use crate::threads::branch_is;
 use crate::threads::branch_thread;
 use crate::threads::node_is;
@@ -31,11 +36,24 @@ pub enum Step {
     Call(usize),
 }
 
+// The copy of a formal and the release of a name, by node and name.
+pub enum Bookkeeping {
+    Copy(usize, usize),
+    Release(usize, usize),
+}
+
 // What a label names: bookkeeping, a step of the process, or nothing that the table has.
 pub enum Named {
-    Bookkeeping,
+    Bookkeeping(Bookkeeping),
     Process(Step),
-    Nothing,
+    Missing,
+}
+
+// A label: its kind and two numbers.
+pub struct Label {
+    pub kind: u32,
+    pub a: u32,
+    pub b: u32,
 }
 
 // The step to be taken, if it is open.
@@ -44,43 +62,132 @@ pub enum Open {
     Closed,
 }
 
+// The label of a step of the table.
+pub(crate) fn label_of(table: &[u16], step: Step) -> Label
+    requires { ⌜ Labelled (scheme (now table)) (meant step) ⌝ }
+    ensures { λ r. ⌜ labelWords r ≡ labelOf (scheme (now (table .entry))) (meant step) ⌝ }
+{
+    match step {
+        Step::New(n) => Label {
+            kind: 2,
+            a: n as u32,
+            b: field3(table, 10, n, 1) as u32,
+        },
+        Step::Silent(b) => Label {
+            kind: 3,
+            a: b as u32,
+            b: 0,
+        },
+        Step::Communicate(p) => Label {
+            kind: 4,
+            a: p.send as u32,
+            b: p.receive as u32,
+        },
+        Step::Call(n) => Label {
+            kind: 5,
+            a: n as u32,
+            b: 0,
+        },
+    }
+}
+
+// A copy: the node is a Call, and the name a formal of the definition called.
+fn copy_named(table: &[u16], node: usize, name: usize) -> Named
+    requires { ⌜ cause (now table) ≡ 0 ⌝ }
+    ensures { λ r. ⌜ named r ≡ copyNamed (scheme (now (table .entry))) node name ⌝ }
+{
+    if !node_is(table, node, 3) {
+        return Named::Missing;
+    }
+    let called = field3(table, 10, node, 1);
+    let first = field4(table, 8, called, 2);
+    if name < first {
+        return Named::Missing;
+    }
+    if name < first + field4(table, 8, called, 3) {
+        return Named::Bookkeeping(Bookkeeping::Copy(node, name));
+    }
+    Named::Missing
+}
+
+// A release: the node is a Stop or a Call, and holds the name.
+fn release_named(table: &[u16], owners: &[u32], homes: &[u32], node: usize, name: usize) -> Named
+    requires { ⌜ Owned (now table) (now owners) (now homes) ⌝ }
+    ensures { λ r. ⌜ named r ≡ releaseNamed (scheme (now (table .entry))) node name ⌝ }
+{
+    if node_is(table, node, 1) {
+        return Named::Missing;
+    }
+    if node_is(table, node, 2) {
+        return Named::Missing;
+    }
+    if holds(table, owners, homes, node, name) {
+        return Named::Bookkeeping(Bookkeeping::Release(node, name));
+    }
+    Named::Missing
+}
+
 fn new_named(table: &[u16], node: usize, name: usize) -> Named
     ensures { λ r. ⌜ named r
-        ≡ newNamed (scheme (now (table .entry))) node name (scheme (now (table .entry)) .node node) ⌝ }
+        ≡ stepMeaning (newNamed (scheme (now (table .entry))) node name (scheme (now (table .entry)) .node node)) ⌝ }
 {
     if !node_is(table, node, 2) {
-        return Named::Nothing;
+        return Named::Missing;
     }
     if name == field3(table, 10, node, 1) {
         return Named::Process(Step::New(node));
     }
-    Named::Nothing
+    Named::Missing
 }
 
 fn silent_named(table: &[u16], branch: usize, zero: usize) -> Named
     ensures { λ r. ⌜ named r
-        ≡ silentNamed (scheme (now (table .entry))) branch zero (scheme (now (table .entry)) .branch branch) ⌝ }
+        ≡ stepMeaning
+        (silentNamed (scheme (now (table .entry))) branch zero (scheme (now (table .entry)) .branch branch)) ⌝ }
 {
     if !branch_is(table, branch, 0) {
-        return Named::Nothing;
+        return Named::Missing;
     }
     if zero == 0 {
         return Named::Process(Step::Silent(branch));
     }
-    Named::Nothing
+    Named::Missing
 }
 
 fn call_named(table: &[u16], node: usize, zero: usize) -> Named
     ensures { λ r. ⌜ named r
-        ≡ callNamed (scheme (now (table .entry))) node zero (scheme (now (table .entry)) .node node) ⌝ }
+        ≡ stepMeaning (callNamed (scheme (now (table .entry))) node zero (scheme (now (table .entry)) .node node)) ⌝ }
 {
     if !node_is(table, node, 3) {
-        return Named::Nothing;
+        return Named::Missing;
     }
     if zero == 0 {
         return Named::Process(Step::Call(node));
     }
-    Named::Nothing
+    Named::Missing
+}
+
+// Whether the branches are a send and a receive of different threads.
+fn are_partners(
+    table: &[u16],
+    homes: &[u32],
+    definitions: &[u16],
+    send: usize,
+    receive: usize,
+) -> bool
+    requires { ⌜ Indexed (now table) (now homes) (now definitions) ⌝ }
+    ensures { λ r. ⌜ r ≡ (isSend (scheme (now (table .entry)) .branch send)
+        && isPartner (scheme (now (table .entry))) send receive) ⌝ }
+{
+    if !branch_is(table, send, 1) {
+        return false;
+    }
+    if !branch_is(table, receive, 2) {
+        return false;
+    }
+    let sender = branch_thread(table, homes, definitions, send);
+    let receiver = branch_thread(table, homes, definitions, receive);
+    sender != receiver
 }
 
 fn communication_named(
@@ -91,44 +198,38 @@ fn communication_named(
     receive: usize,
 ) -> Named
     requires { ⌜ Indexed (now table) (now homes) (now definitions) ⌝ }
-    ensures { λ r. ⌜ named r ≡ communicationNamed (scheme (now (table .entry))) send receive ⌝ }
+    ensures { λ r. ⌜ named r ≡ stepMeaning (communicationNamed (scheme (now (table .entry))) send receive) ⌝ }
 {
-    if !branch_is(table, send, 1) {
-        return Named::Nothing;
+    if are_partners(table, homes, definitions, send, receive) {
+        return Named::Process(Step::Communicate(Pair {
+            send: send,
+            receive: receive,
+        }));
     }
-    if !branch_is(table, receive, 2) {
-        return Named::Nothing;
-    }
-    if branch_thread(table, homes, definitions, send)
-        == branch_thread(table, homes, definitions, receive)
-    {
-        return Named::Nothing;
-    }
-    Named::Process(Step::Communicate(Pair {
-        send: send,
-        receive: receive,
-    }))
+    Named::Missing
 }
 
-// The step that a label names. Kinds 0 and 1 are bookkeeping.
-fn step_named(
+// What a label names: its kind decides between bookkeeping and the steps of the process.
+fn named_by(
     table: &[u16],
+    owners: &[u32],
     homes: &[u32],
     definitions: &[u16],
     kind: u32,
     a: usize,
     b: usize,
 ) -> Named
-    requires { ⌜ Indexed (now table) (now homes) (now definitions) ⌝ }
-    ensures { λ r. ⌜ named r ≡ stepOf (scheme (now (table .entry))) kind a b ⌝ }
+    requires { ⌜ Indexed (now table) (now homes) (now definitions) × Owned (now table) (now owners) (now homes) ⌝ }
+    ensures { λ r. ⌜ named r ≡ meaningOf (scheme (now (table .entry))) kind a b ⌝ }
 {
     match kind {
-        0 | 1 => Named::Bookkeeping,
+        0 => copy_named(table, a, b),
+        1 => release_named(table, owners, homes, a, b),
         2 => new_named(table, a, b),
         3 => silent_named(table, a, b),
         4 => communication_named(table, homes, definitions, a, b),
         5 => call_named(table, a, b),
-        _ => Named::Nothing,
+        _ => Named::Missing,
     }
 }
 
@@ -161,15 +262,7 @@ pub(crate) fn can_meet(
     ensures { λ r. ⌜ r ≡ isOpen (scheme (now (table .entry)))
         (stateOf (scheme (now (table .entry))) (now (state .entry))) (communication send receive) ⌝ }
 {
-    if !branch_is(table, send, 1) {
-        return false;
-    }
-    if !branch_is(table, receive, 2) {
-        return false;
-    }
-    if branch_thread(table, homes, definitions, send)
-        == branch_thread(table, homes, definitions, receive)
-    {
+    if !are_partners(table, homes, definitions, send, receive) {
         return false;
     }
     if !stands(table, homes, definitions, state, word32(homes, send)) {
@@ -216,6 +309,7 @@ fn is_open(table: &[u16], homes: &[u32], definitions: &[u16], state: &[u16], ste
 // The step that a label names, if it is open.
 pub(crate) fn open_step(
     table: &[u16],
+    owners: &[u32],
     homes: &[u32],
     definitions: &[u16],
     state: &[u16],
@@ -223,19 +317,27 @@ pub(crate) fn open_step(
     a: u32,
     b: u32,
 ) -> Open
-    requires { ⌜ Indexed (now table) (now homes) (now definitions) ⌝ }
+    requires { ⌜ Indexed (now table) (now homes) (now definitions) × Owned (now table) (now owners) (now homes) ⌝ }
     ensures { λ r. ⌜ opened r
         ≡ ifOpen (scheme (now (table .entry))) (stateOf (scheme (now (table .entry))) (now (state .entry)))
         (stepOf (scheme (now (table .entry))) kind a b) ⌝ }
 {
-    match step_named(table, homes, definitions, kind, a as usize, b as usize) {
+    match named_by(
+        table,
+        owners,
+        homes,
+        definitions,
+        kind,
+        a as usize,
+        b as usize,
+    ) {
         Named::Process(s) => {
             if is_open(table, homes, definitions, state, s) {
                 return Open::Taken(s);
             }
             Open::Closed
         }
-        Named::Bookkeeping => Open::Closed,
-        Named::Nothing => Open::Closed,
+        Named::Bookkeeping(_) => Open::Closed,
+        Named::Missing => Open::Closed,
     }
 }

@@ -153,7 +153,8 @@ pub fn step(table: &[u16], state: &[u16], kind: u32, a: u32, b: u32, next: &mut 
     if !well_formed(table, &owners, &homes, &definitions, &binders, state) {
         return Answer::Malformed;
     }
-    let Open::Taken(taken) = open_step(table, &homes, &definitions, state, kind, a, b) else {
+    let Open::Taken(taken) = open_step(table, &owners, &homes, &definitions, state, kind, a, b)
+    else {
         return Answer::NotOpen;
     };
     let size = word16(table, 3) + word16(table, 1);

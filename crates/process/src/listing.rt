@@ -3,20 +3,23 @@
 // The sends and receives of the nodes where threads stand are gathered once, and only they are tried against each
 // other.
 ghost use mathlib.Core.Path.{_≡_};
-ghost use mathlib.Core.List.{[], _∷_};
 ghost use Prim.Native.Nat.{_+_, _≤_, _<_};
 ghost use lib.ListN.{length};
 ghost use lib.Seq.{slice};
 ghost use Rattle.lists.specs.Lists.{from, range, flat};
 ghost use Rattle.scheme.specs.Words.{nodes, branches};
 ghost use Rattle.scheme.specs.Scheme.{scheme};
-ghost use Rattle.process.specs.Labels.{openLabels};
+ghost use Rattle.process.specs.Labels.{labelOf, openLabels};
 ghost use Rattle.process.specs.StateWords.{stateOf};
 ghost use Rattle.process.specs.Inner.Index.{Indexed};
+ghost use Rattle.process.specs.Inner.Codes.{meant, Labelled};
 ghost use Rattle.process.specs.Inner.Listed.{Listed, far, near, silentWords, stepWords, nodeWords, pairWords};
 ghost use Rattle.process.specs.Inner.Listed.{pairsWords, meetingWords, listWords, standing, Pairing, Meeting};
 ghost use Rattle.process.specs.Inner.Listed.{Fitted};
+use crate::labels::Pair;
+use crate::labels::Step;
 use crate::labels::can_meet;
+use crate::labels::label_of;
 use crate::labels::stands;
 use crate::threads::branch_is;
 use crate::threads::node_is;
@@ -25,14 +28,16 @@ use lists::word16;
 use lists::word32;
 use scheme::fields::field3;
 
-// Writes a label; where the next one goes.
-fn write_label(out: &mut [u32], at: usize, kind: u32, a: u32, b: u32) -> usize
-    requires { ⌜ at < far ⌝ }
-    ensures { λ r. ⌜ Listed 3 (kind ∷ a ∷ b ∷ []) (now (out .entry)) at (now (out .exit)) r ⌝ }
+// Writes the label of a step; where the next one goes.
+fn write_label(table: &[u16], step: Step, at: usize, out: &mut [u32]) -> usize
+    requires { ⌜ Labelled (scheme (now table)) (meant step) × (at < far) ⌝ }
+    ensures { λ r. ⌜ Listed 3 (labelOf (scheme (now (table .entry))) (meant step)) (now (out .entry)) at
+        (now (out .exit)) r ⌝ }
 {
-    store32(out, at, kind);
-    store32(out, at + 1, a);
-    store32(out, at + 2, b);
+    let label = label_of(table, step);
+    store32(out, at, label.kind);
+    store32(out, at + 1, label.a);
+    store32(out, at + 2, label.b);
     at + 3
 }
 
@@ -42,7 +47,7 @@ fn list_branch(table: &[u16], branch: usize, at: usize, out: &mut [u32]) -> usiz
         r ⌝ }
 {
     if branch_is(table, branch, 0) {
-        return write_label(out, at, 3, branch as u32, 0);
+        return write_label(table, Step::Silent(branch), at, out);
     }
     at
 }
@@ -78,10 +83,10 @@ fn list_steps(table: &[u16], node: usize, at: usize, out: &mut [u32]) -> usize
         );
     }
     if node_is(table, node, 2) {
-        return write_label(out, at, 2, node as u32, field3(table, 10, node, 1) as u32);
+        return write_label(table, Step::New(node), at, out);
     }
     if node_is(table, node, 3) {
-        return write_label(out, at, 5, node as u32, 0);
+        return write_label(table, Step::Call(node), at, out);
     }
     at
 }
@@ -194,7 +199,11 @@ fn list_pair(
         receive) (now (out .entry)) at (now (out .exit)) r ⌝ }
 {
     if can_meet(table, homes, definitions, state, send, receive) {
-        return write_label(out, at, 4, send as u32, receive as u32);
+        let pair = Pair {
+            send: send,
+            receive: receive,
+        };
+        return write_label(table, Step::Communicate(pair), at, out);
     }
     at
 }

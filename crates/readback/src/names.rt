@@ -105,7 +105,7 @@ fn mark_held(
         ≡ put 1 (now (held .entry)) (heldHere (scheme (now (table .entry))) (spot node index)) ⌝ }
 {
     let mut names = [0u32; 64];
-    let count = scheme::index::held_names(table, owners, homes, node as u16, &mut names);
+    let count = scheme::index::held_names(table, owners, homes, node as u8, &mut names);
     let kind = field3(table, 10, node, 0);
     if kind == 0 {
         return mark_names(&names, index, count, held);

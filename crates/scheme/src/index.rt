@@ -180,20 +180,20 @@ fn write_span(first: usize, count: usize, out: &mut [u32]) -> usize
 }
 
 // Writes the names that a node holds, as far as `out` reaches, and returns how many there are. By recursion to the
-// owner: the node number falls, since an owner lies below.
-pub fn held_names(table: &[u16], owners: &[u32], homes: &[u32], node: u16, out: &mut [u32]) -> usize
+// owner: the node number falls, since an owner lies below, so whatever owners are lent it is at most 256 calls deep.
+pub fn held_names(table: &[u16], owners: &[u32], homes: &[u32], node: u8, out: &mut [u32]) -> usize
     ensures { λ r. ⌜ HeldNames (heldIn (now (table .entry)) (now (owners .entry)) (now (homes .entry)) node)
         (now (out .entry)) r (now (out .exit)) ⌝ }
 {
     match step_up(owners, homes, node as usize) {
         Parent::Definition(d) => write_span(field4(table, 8, d, 2), field4(table, 8, d, 3), out),
         Parent::New(m) => {
-            let count = held_names(table, owners, homes, m as u16, out);
+            let count = held_names(table, owners, homes, m as u8, out);
             store32(out, count, field3(table, 10, m, 1) as u32);
             count + 1
         }
         Parent::Branch(b, m) => {
-            let count = held_names(table, owners, homes, m as u16, out);
+            let count = held_names(table, owners, homes, m as u8, out);
             if field4(table, 11, b, 0) == 2 {
                 store32(out, count, field4(table, 11, b, 2) as u32);
                 return count + 1;

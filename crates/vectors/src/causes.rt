@@ -1,5 +1,6 @@
 // The rules' numbers for what the library answers.
 use builder::Built;
+use builder::Sized;
 use net::Cause;
 use net::Firing;
 use net::Reason;
@@ -13,6 +14,14 @@ pub fn of_build(built: Built) -> Outcome {
         Built::Words(count) => Outcome(0, count),
         Built::Refused(verdict) => Outcome(table::number(verdict), 0),
         Built::Room => Outcome(10, 0),
+    }
+}
+
+// What asking for the size answered.
+pub fn of_size(sized: Sized) -> Outcome {
+    match sized {
+        Sized::Words(count) => Outcome(0, count),
+        Sized::Refused(verdict) => Outcome(table::number(verdict), 0),
     }
 }
 

@@ -8,6 +8,7 @@
 //   request           what is done                                            answer
 //   t word..          the table is these words, and is checked                cause
 //   b room            builds the table's image into room words                cause, words written, the room words
+//   z                 tells the size of the table's image                     cause, words
 //   w word..          the image is these words                                its length
 //   j length          the image is cut, or lengthened by 0                    its length
 //   i index word      a word of the image is set; nothing past its end        its length
@@ -68,6 +69,7 @@ fn answer(
         b'p' | b'l' | b'm' => changes::marking(request, fields, sizes, marking),
         b'x' | b'y' => changes::state(request, fields, sizes, state),
         b'b' => nets::build(request, sizes, table, image),
+        b'z' => nets::size(sizes, table),
         b'f' | b'r' | b'h' => nets::play(request, fields, sizes, image, marking, history),
         b'u' => nets::run(request, sizes, image, marking, history),
         b'g' | b's' | b'k' => states::next(request, sizes, table, marking, state),

@@ -33,6 +33,13 @@ pub fn build(request: Request, mut sizes: Sizes, table: &[u16], image: &mut [u32
     sizes
 }
 
+// z: tells the size of the table's image.
+pub fn size(sizes: Sizes, table: &[u16]) -> Sizes {
+    let words = cut16(sizes.table, table);
+    text::outcome(causes::of_size(builder::size(&table[..words])));
+    sizes
+}
+
 // Replays the numbers of the request.
 fn replay_given(fields: &[usize], count: usize, image: &[u32], marking: &mut [u8]) -> Replayed {
     let mut numbers = [0u32; 4096];

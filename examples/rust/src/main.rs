@@ -43,17 +43,11 @@ fn read_table(path: &str) -> Vec<u16> {
         .collect()
 }
 
-/// The image of a table, in a buffer that is doubled until it is long enough.
+/// The image of a table, in a buffer of just its size.
 fn build(table: &[u16]) -> Vec<u32> {
-    let mut image = vec![0; 64];
-    loop {
-        let built = dekohuna::build(table, &mut image);
-        if built.code != dekohuna::OUTPUT_SHORT {
-            image.truncate(accepted(built));
-            return image;
-        }
-        image.resize(2 * image.len(), 0);
-    }
+    let mut image = vec![0; accepted(dekohuna::size(table))];
+    accepted(dekohuna::build(table, &mut image));
+    image
 }
 
 /// A firing, by what its label says.

@@ -3,10 +3,7 @@
 
 use std::process::ExitCode;
 
-use oracle::places::Places;
-use oracle::size::Size;
-use oracle::table::accept;
-use oracle::{build, listing::words_of, read, replay, run, Reason, Refusal, RunAnswer};
+use oracle::{build, listing::words_of, read, replay, run, size, Reason, Refusal, RunAnswer};
 
 const USAGE: &str = "usage: run TABLE LIMIT";
 
@@ -46,10 +43,7 @@ fn run_table(table: &[u16], limit: u32) -> Result<String, u32> {
 }
 
 fn image_of(words: &[u16]) -> Result<Vec<u32>, u32> {
-    let table = accept(words)?;
-    let places = Places::of(&table);
-    let initial = places.initial(&table).len();
-    let mut image = vec![0; Size::of(&table, &places).image_words(initial)];
+    let mut image = vec![0; size(words)?];
     build(words, &mut image)?;
     Ok(image)
 }

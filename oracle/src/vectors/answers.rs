@@ -53,6 +53,7 @@ impl Session {
         let fields = match letter {
             "t" => self.take_table(&numbers),
             "b" => self.build(&numbers),
+            "z" => told(crate::size(&self.table)),
             "w" => {
                 self.image = kept(&numbers, IMAGE_ROOM, |number| number as u32);
                 vec![self.image.len().to_string()]
@@ -214,12 +215,17 @@ fn lent_state(room: usize) -> Vec<u16> {
     vec![FILL_16; room.min(STATE_ROOM)]
 }
 
-fn counted(answer: Result<usize, u32>, list: String) -> Vec<String> {
+/// A cause, and a count that is 0 with it.
+fn told(answer: Result<usize, u32>) -> Vec<String> {
     let (cause, count) = match answer {
         Ok(count) => (0, count),
         Err(cause) => (cause, 0),
     };
-    vec![cause.to_string(), count.to_string(), list]
+    vec![cause.to_string(), count.to_string()]
+}
+
+fn counted(answer: Result<usize, u32>, list: String) -> Vec<String> {
+    [told(answer), vec![list]].concat()
 }
 
 /// A refusal's cause, and its firings where it has any.

@@ -61,7 +61,7 @@ fn found_before(session: &Session, line: &str, letter: char) -> Vec<String> {
 
 fn found_after(session: &Session, answer: &[&str], letter: char) -> Vec<String> {
     let mut found = Vec::new();
-    if "tbfrhugsok".contains(letter) {
+    if "tbzfrhugsok".contains(letter) {
         let cause = answer.get(1).unwrap_or(&"");
         found.push(format!("cause {letter} {cause:>2}"));
         found.push(format!("cause all {cause:>2}"));
@@ -80,13 +80,23 @@ fn found_after(session: &Session, answer: &[&str], letter: char) -> Vec<String> 
         }
     }
     if letter == 'b' && answer.get(1) == Some(&"0") {
-        let length = session.image.len();
-        found.push(match length {
-            0..=128 => "image of at most 128 words".to_string(),
-            129..=9_999 => "image of 129 to 9999 words".to_string(),
-            10_000..=49_999 => "image of 10000 to 49999 words".to_string(),
-            _ => "image of 50000 words and more".to_string(),
-        });
+        found.push(format!("image {}", range_of(session.image.len())));
+    }
+    if letter == 'z' && answer.get(1) == Some(&"0") {
+        let length = answer.get(2).and_then(|count| count.parse().ok());
+        found.push(format!("size {}", range_of(length.unwrap_or(0))));
     }
     found
+}
+
+/// Where an image's length lies.
+fn range_of(length: usize) -> &'static str {
+    match length {
+        0..=128 => "of at most 128 words",
+        129..=9_999 => "of 129 to 9999 words",
+        10_000..=49_999 => "of 10000 to 49999 words",
+        50_000..=131_072 => "of 50000 to 131072 words",
+        131_073..=99_999_999 => "of 131073 words and more",
+        _ => "of 100000000 words and more",
+    }
 }

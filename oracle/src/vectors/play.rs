@@ -14,13 +14,14 @@ use crate::generate::{accepted, Shape};
 use crate::net::Image;
 use crate::places::Places;
 use crate::random::Random;
-use crate::size::Size;
+use crate::size::image_words;
 use crate::table::{accept, Table};
 
-/// A table that `cause` refuses, and a call or two with it.
+/// A table that `cause` refuses, its size, and a call or two with it.
 pub fn play_refused(writer: &mut Writer, shape: Shape, cause: u32) {
     let words = damaged(&mut writer.random, shape, cause);
     writer.table(&words);
+    writer.ask('z', &[]);
     for _ in 0..writer.random.between(1, 2) {
         let room = writer.random.below(40) as u64;
         match writer.random.below(5) {
@@ -96,11 +97,6 @@ fn play_any(
     player.walk(steps);
 }
 
-fn image_words(table: &Table) -> usize {
-    let places = Places::of(table);
-    Size::of(table, &places).image_words(places.initial(table).len())
-}
-
 struct Player<'w> {
     writer: &'w mut Writer,
     table: Table,
@@ -131,6 +127,7 @@ impl Player<'_> {
         }
         let more = [0, 0, 0, 1, 7][self.random().below(5)];
         self.ask('b', &[(size + more).min(IMAGE_ROOM)]);
+        self.ask('z', &[]);
     }
 
     /// The initial marking.

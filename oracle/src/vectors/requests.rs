@@ -93,6 +93,7 @@ pub fn requests() -> String {
     for _ in 0..90 {
         play_foreign(&mut writer);
     }
+    writer.ask('z', &[]);
     writer.ask('q', &[1, 2]);
     writer.text
 }

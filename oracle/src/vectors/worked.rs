@@ -1,7 +1,8 @@
 //! Document 01's worked cases: table E, its image, firings, run and states, and the variants that
-//! its paragraph of starred cases names; then small tables written out by hand.
+//! its paragraph of starred cases names; then small tables written out by hand, and a large one.
 
 use super::requests::Writer;
+use crate::generate::encode;
 
 /// Table E.
 const E: [u16; 48] = [
@@ -52,6 +53,7 @@ const REPEATED: [u16; 55] = [
 ];
 
 pub fn play_worked(writer: &mut Writer) {
+    writer.ask('z', &[]);
     play_e(writer);
     play_variants(writer);
     for (table, places) in [
@@ -61,11 +63,39 @@ pub fn play_worked(writer: &mut Writer) {
     ] {
         walk(writer, table, places);
     }
+    writer.table(&large());
+    writer.ask('z', &[]);
+    writer.ask('b', &[0]);
+}
+
+/// K(p0) beside L(p0, p1), K(f) := a choice of receives on f and L(g, h) := a choice of sends of h
+/// on g, as many as the bounds let through: any value on any channel, so an image of more than 400
+/// million words.
+fn large() -> Vec<u16> {
+    let (f, g, h, first_input) = (32, 33, 34, 35);
+    let (receives, sends) = (29, 223);
+    let branches = receives + sends;
+    let names = [vec![2; 3], vec![1; receives]].concat();
+    let definitions = vec![0, 0, 0, 0, 0, 1, f, 1, 1, 2, 0, 0, 1, 3, g, 2];
+    let choices = [3, 1, 0, 1, 0, receives, 3, 3, 1, 1, receives, sends];
+    let mut nodes = choices.map(|word| word as u16).to_vec();
+    nodes.resize(3 * (4 + branches), 0);
+    let branch = |at: usize| match at < receives {
+        true => [2, f, first_input + at as u16, 4 + at as u16],
+        false => [1, g, h, 4 + at as u16],
+    };
+    let branches = (0..branches).flat_map(branch).collect();
+    let arguments = vec![0, 0, 1];
+    encode(
+        32,
+        [names, definitions, vec![0, 2], nodes, branches, arguments],
+    )
 }
 
 fn play_e(writer: &mut Writer) {
     writer.table(&E);
     for room in [115, 114, 0, 120, 115] {
+        writer.ask('z', &[]);
         writer.ask('b', &[room]);
     }
     for (length, number) in [(16, 7), (16, 9), (16, 4_294_967_295), (16, 0), (16, 1)] {
@@ -143,6 +173,7 @@ fn play_variants(writer: &mut Writer) {
     ];
     for words in variants {
         writer.table(&words);
+        writer.ask('z', &[]);
         writer.ask('b', &[115]);
         writer.ask('s', &[4]);
         writer.ask('g', &[4]);
@@ -163,6 +194,7 @@ fn play_variants(writer: &mut Writer) {
 /// Builds a table, runs it firing by firing with a read-back after each, and walks its states.
 fn walk(writer: &mut Writer, table: &[u16], places: u64) {
     writer.table(table);
+    writer.ask('z', &[]);
     writer.ask('b', &[1024]);
     writer.ask('l', &[places]);
     writer.ask('r', &[]);

@@ -5,7 +5,7 @@ use std::collections::HashMap;
 
 use oracle::places::Places;
 use oracle::table::{accept, Table};
-use oracle::{build, fire, open_steps, read, replay, start, step};
+use oracle::{build, fire, open_steps, read, replay, size, start, step};
 
 pub type Label = [u32; 3];
 
@@ -183,10 +183,7 @@ pub fn is_bookkeeping(label: Label) -> bool {
 }
 
 pub fn image_of(words: &[u16]) -> Vec<u32> {
-    let table = accept(words).unwrap();
-    let places = Places::of(&table);
-    let size = oracle::size::Size::of(&table, &places);
-    let mut image = vec![0; size.image_words(places.initial(&table).len())];
+    let mut image = vec![0; size(words).unwrap()];
     assert_eq!(build(words, &mut image), Ok(image.len()));
     image
 }

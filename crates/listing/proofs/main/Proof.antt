@@ -1,18 +1,10 @@
--- The listing program reads and prints within its buffers.
-use mathlib.Core.Path.{_≡_, sym}
-use Prim.Native.Nat.{ℕ}
-use native.Mathlib.Omega.{arith}
-use lib.ListN.{length-replicate}
+-- The listing program reads within its buffer and prints the whole text.
+use mathlib.Core.Path.{sym}
 use lib.Seq.{length-take-le}
 use borrow.Author.Needs.{needs}
+use Rattle.print.proofs.Fits.{printed-within}
 use Rattle.listing.proofs.main.Statement.{statement}
 use Rattle.listing.proofs.main.Tie as tie
-use Rattle.listing.proofs.main.Reads as reads
-use Rattle.listing.proofs.main.Lts as lts
-use Rattle.io.proofs.large_buffer.Reads as large-buffer-reads
-use Rattle.io.proofs.read_full.Reads as read-full-reads
-use Rattle.io.proofs.write_all.Reads as write-all-reads
-use Rattle.print.proofs.list.Reads as list-reads
 
 large-buffer-requires : tie.Need-large-buffer-requires
 large-buffer-requires c κs = search needs
@@ -26,22 +18,19 @@ read-full-requires c κs = search needs
 array-share-prefix-bytes : tie.Need-array-share-prefix-bytes
 array-share-prefix-bytes c = search needs
 
-slice-aggregate-list : tie.Need-slice-aggregate-list
-slice-aggregate-list c = search needs
+slice-aggregate-list-all : tie.Need-slice-aggregate-list-all
+slice-aggregate-list-all c = search needs
 
-slice-aggregate-list-2 : tie.Need-slice-aggregate-list-2
-slice-aggregate-list-2 c = search needs
-
-list-requires : tie.Need-list-requires
-list-requires c κs = search needs
+list-all-requires : tie.Need-list-all-requires
+list-all-requires c κs = search needs
 
 array-share-prefix-text : tie.Need-array-share-prefix-text
-array-share-prefix-text c = omega (arith, c .before .list .ensures .1, c .before .list .kept .1 .0, length-replicate {A = ℕ} 262144 0)
+array-share-prefix-text c = let l = c .list-all in printed-within _ _ (l .last .1 .0) (l .result) (l .ensures)
 
 slice-aggregate-write-all : tie.Need-slice-aggregate-write-all
 slice-aggregate-write-all c =
-    let l = c .before .before .list in
-    sym (length-take-le (l .result) (l .last .1 .0) (omega (arith, l .ensures .1, l .kept .1 .0, length-replicate {A = ℕ} 262144 0)))
+    let l = c .before .list-all in
+    sym (length-take-le (l .result) (l .last .1 .0) (printed-within _ _ (l .last .1 .0) (l .result) (l .ensures)))
 
 write-all-requires : tie.Need-write-all-requires
 write-all-requires c κs = search needs
@@ -57,9 +46,8 @@ main-spec =
     slice-aggregate-read-full
     read-full-requires
     array-share-prefix-bytes
-    slice-aggregate-list
-    slice-aggregate-list-2
-    list-requires
+    slice-aggregate-list-all
+    list-all-requires
     array-share-prefix-text
     slice-aggregate-write-all
     write-all-requires

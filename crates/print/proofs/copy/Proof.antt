@@ -10,10 +10,10 @@ use Rattle.print.proofs.copy.Statement.{statement}
 use Rattle.print.proofs.copy.Tie as tie
 
 abbrev Inv-loop : tie.InvT-loop
-Inv-loop out₀ at text i₀ p₀ out i p = (write (cursorAt out₀ at) text ≡ write (cursorAt out p) (drop i text)) × (length out ≡ length out₀)
+Inv-loop out₀ text i₀ p₀ out i p = (write (cursorAt out₀ p₀) text ≡ write (cursorAt out p) (drop i text)) × (length out ≡ length out₀)
 
 abbrev μ-loop : tie.MeasureT-loop
-μ-loop out₀ at text i₀ p₀ out i p = length text - i
+μ-loop out₀ text i₀ p₀ out i p = length text - i
 
 loop-holds : tie.Need-loop-holds Inv-loop μ-loop
 loop-holds c = (refl, refl)

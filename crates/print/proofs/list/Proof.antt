@@ -1,30 +1,19 @@
 -- `print::list` meets its contract: the first words' image or refusal decides.
-use mathlib.Core.Path.{_≡_, refl, sym, ap, _∙_}
-use mathlib.Core.List.{List}
-use Prim.Native.Nat.{ℕ, _≤_, min}
+use mathlib.Core.Path.{sym}
+use Prim.Native.Nat.{ℕ}
 use native.Mathlib.Omega.{arith}
-use lib.ListN.{length, replicate, length-replicate}
-use lib.Seq.{length-take-le, length-sets}
+use lib.ListN.{replicate, length-replicate}
+use lib.Seq.{length-take-le}
 use borrow.Author.Needs.{needs}
 use Rattle.print.proofs.Programs.{refused-text, listed-text}
 use Rattle.print.proofs.list.Statement.{statement}
 use Rattle.print.proofs.list.Tie as tie
-use Rattle.print.proofs.list.Reads as reads
-use Rattle.print.proofs.list.Lts as lts
-use Rattle.builder.proofs.build.Reads as build-reads
-use Rattle.print.proofs.built_number.Reads as built-number-reads
-use Rattle.print.proofs.built_words.Reads as built-words-reads
-use Rattle.print.proofs.listing.Reads as listing-reads
-use Rattle.print.proofs.number_with.Reads as number-with-reads
-use Rattle.print.proofs.refusal.Reads as refusal-reads
-use Rattle.print.proofs.smaller.Reads as smaller-reads
-use Rattle.print.proofs.words.Reads as words-reads
 
-slice-aggregate-words : tie.Need-slice-aggregate-words
-slice-aggregate-words c = search needs
+slice-aggregate-fill-words : tie.Need-slice-aggregate-fill-words
+slice-aggregate-fill-words c = search needs
 
-words-requires : tie.Need-words-requires
-words-requires c κs = search needs
+fill-words-requires : tie.Need-fill-words-requires
+fill-words-requires c κs = search needs
 
 smaller-requires : tie.Need-smaller-requires
 smaller-requires c κs = search needs
@@ -34,7 +23,9 @@ array-share-prefix-table c = search needs
 
 slice-aggregate-build : tie.Need-slice-aggregate-build
 slice-aggregate-build c =
-    sym (length-take-le (c .before .smaller .result) (c .before .before .before .words .last .1 .0) (omega (arith, c .before .smaller .ensures, c .before .before .before .words .kept .1 .0)))
+    let taken = c .before .smaller in
+    let filled = c .before .before .before .fill-words in
+    sym (length-take-le (taken .result) (filled .last .1 .0) (omega (arith, taken .ensures, filled .kept .1 .0)))
 
 slice-aggregate-build-2 : tie.Need-slice-aggregate-build-2
 slice-aggregate-build-2 c = search needs
@@ -56,11 +47,34 @@ same-length c = search needs
 
 returns : tie.Need-returns
 returns c =
-    let s = c .before .before .before .before .before .before .before .before .before .before .before .before .before .before .before .before .before in
-    let t = refused-text (s .args .bytes .now) (replicate 4096 0) _ (replicate 16384 0) (c .before .before .before .before .before .before .before .before .build .last .1 .0) (c .before .before .before .before .before .before .before .before .build .result) _ _ (length-replicate {A = ℕ} 4096 0) (length-replicate {A = ℕ} 16384 0) (c .before .before .before .before .before .before .before .before .before .before .before .before .before .words .ensures .0) (c .before .before .before .before .before .before .before .before .before .before .before .before .before .words .ensures .1)
-    (c .before .before .before .before .before .before .before .before .before .before .before .smaller .ensures) (c .before .before .before .before .before .before .before .before .build .ensures) _ _ (c .before .before .before .before .before .before .built-number .ensures .0) (c .before .before .before .before .before .number-with .ensures) (c .before .before .before .before .if1 .taken) in
-    let r = c .before .before .refusal .ensures in
-    (rw t at (r .0), rw t at (r .1))
+    let numbered = c .before .before .before .before .before in
+    let built = numbered .before .before .before in
+    let taken = built .before .before .before in
+    let filled = taken .before .before in
+    let bytes = filled .before .before .before .before .args .bytes .now in
+    let tables = length-replicate {A = ℕ} 4096 0 in
+    let images = length-replicate {A = ℕ} 16384 0 in
+    let t = refused-text
+    bytes
+    (replicate 4096 0)
+    _
+    (replicate 16384 0)
+    (built .build .last .1 .0)
+    (built .build .result)
+    _
+    _
+    tables
+    images
+    (filled .fill-words .ensures .0)
+    (filled .fill-words .ensures .1)
+    (taken .smaller .ensures)
+    (built .build .ensures)
+    _
+    _
+    (numbered .before .built-number .ensures .0)
+    (numbered .number-with .ensures)
+    (c .before .before .before .before .if1 .taken) in
+    rw t at (c .before .before .refusal .ensures)
 
 built-words-requires : tie.Need-built-words-requires
 built-words-requires c κs = search needs
@@ -73,7 +87,9 @@ array-share-prefix-image c = search needs
 
 slice-aggregate-listing : tie.Need-slice-aggregate-listing
 slice-aggregate-listing c =
-    sym (length-take-le (c .before .smaller2 .result) (c .before .before .before .before .before .before .before .build .last .1 .0) (omega (arith, c .before .smaller2 .ensures, c .before .before .before .before .before .before .before .build .kept .1 .0)))
+    let size = c .before .smaller2 in
+    let built = c .before .before .before .before .before .before .before .build in
+    sym (length-take-le (size .result) (built .last .1 .0) (omega (arith, size .ensures, built .kept .1 .0)))
 
 listing-requires : tie.Need-listing-requires
 listing-requires c κs = search needs
@@ -83,19 +99,46 @@ same-length-2 c = search needs
 
 returns-2 : tie.Need-returns-2
 returns-2 c =
-    let s = c .before .before .before .before .before .before .before .before .before .before .before .before .before .before .before .before .before .before .before .before in
-    let t = listed-text (s .args .bytes .now) (replicate 4096 0) _ (replicate 16384 0) (c .before .before .before .before .before .before .before .before .before .before .before .build .last .1 .0) (c .before .before .before .before .before .before .before .before .before .before .before .build .result) _ _ (length-replicate {A = ℕ} 4096 0) (length-replicate {A = ℕ} 16384 0) (c .before .before .before .before .before .before .before .before .before .before .before .before .before .before .before .before .words .ensures .0) (c .before .before .before .before .before .before .before .before .before .before .before .before .before .before .before .before .words .ensures .1)
-    (c .before .before .before .before .before .before .before .before .before .before .before .before .before .before .smaller .ensures) (c .before .before .before .before .before .before .before .before .before .before .before .build .ensures) _ _ _ _ (c .before .before .before .before .before .before .before .before .before .built-number .ensures .0) (c .before .before .before .before .before .before .before .before .number-with .ensures) (c .before .before .before .before .before .before .before .if1 .left)
-    (c .before .before .before .before .before .before .built-words .ensures) (c .before .before .before .before .before .smaller2 .ensures) in
-    let r = c .before .before .listing .ensures in
-    (rw t at (r .0), rw t at (r .1))
+    let sized = c .before .before .before .before .before in
+    let numbered = sized .before .before .before in
+    let built = numbered .before .before .before in
+    let taken = built .before .before .before in
+    let filled = taken .before .before in
+    let bytes = filled .before .before .before .before .args .bytes .now in
+    let tables = length-replicate {A = ℕ} 4096 0 in
+    let images = length-replicate {A = ℕ} 16384 0 in
+    let t = listed-text
+    bytes
+    (replicate 4096 0)
+    _
+    (replicate 16384 0)
+    (built .build .last .1 .0)
+    (built .build .result)
+    _
+    _
+    tables
+    images
+    (filled .fill-words .ensures .0)
+    (filled .fill-words .ensures .1)
+    (taken .smaller .ensures)
+    (built .build .ensures)
+    _
+    _
+    _
+    _
+    (numbered .before .built-number .ensures .0)
+    (numbered .number-with .ensures)
+    (sized .before .before .if1 .left)
+    (sized .before .built-words .ensures)
+    (sized .smaller2 .ensures) in
+    rw t at (c .before .before .listing .ensures)
 
 pub list-spec : {M : Type 1} → statement M
 list-spec =
     tie.close
     (tie.spec
-    slice-aggregate-words
-    words-requires
+    slice-aggregate-fill-words
+    fill-words-requires
     smaller-requires
     array-share-prefix-table
     slice-aggregate-build

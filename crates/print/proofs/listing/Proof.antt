@@ -1,30 +1,55 @@
--- `print::listing` meets its contract: the header's line, then the transitions' lines.
+-- `print::listing` meets its contract: counted on a byte of its own, then written if there is room.
+use native.Mathlib.Omega.{arith}
 use borrow.Author.Needs.{needs}
-use Rattle.lists.specs.Lists.{range, flat}
-use Rattle.net.specs.Image.{transitionCount}
-use Rattle.print.specs.Listing.{headerLine, transitionLine, listing}
-use Rattle.print.proofs.Writing.{then, text-stands, text-length}
+use Rattle.print.specs.Listing.{listing}
+use Rattle.print.proofs.Writing.{counted-long, counted-written}
 use Rattle.print.proofs.listing.Statement.{statement}
 use Rattle.print.proofs.listing.Tie as tie
 
-put-header-requires : tie.Need-put-header-requires
-put-header-requires c κs = search needs
+add-stop : tie.Need-add-stop
+add-stop c = search needs
 
-put-transitions-requires : tie.Need-put-transitions-requires
-put-transitions-requires c κs = search needs
+slice-aggregate-put-listing : tie.Need-slice-aggregate-put-listing
+slice-aggregate-put-listing c = search needs
+
+put-listing-requires : tie.Need-put-listing-requires
+put-listing-requires c κs = search needs
+
+returns : tie.Need-returns
+returns c =
+    let counted = c .before .before .before in
+    let start = counted .before .before .before .before in
+    counted-long (listing (start .args .image .now)) (start .args .out .now) _ _ (counted .put-listing .ensures) (omega (arith, c .if1 .taken))
+
+put-listing-requires-2 : tie.Need-put-listing-requires-2
+put-listing-requires-2 c κs = search needs
 
 same-length : tie.Need-same-length
 same-length c = search needs
 
-returns : tie.Need-returns
-unfolding listing
-returns c =
-    let image = c .before .before .before .before .before .before .before .before .before .before .args .image .now in
-    let out = c .before .before .before .before .before .before .before .before .before .before .args .out .now in
-    let lines = flat (transitionLine image) (range (transitionCount image)) in
-    let header = c .before .before .before .before .before .before .put-header in
-    let e = then _ (headerLine image) lines (header .ensures) (c .before .before .put-transitions .ensures) in
-    (text-stands out _ (listing image) _ e, text-length out _ (listing image) _ e)
+returns-2 : tie.Need-returns-2
+returns-2 c =
+    let else = c .before .before .before .before in
+    let counted = else .before .before .before in
+    let start = counted .before .before .before .before in
+    counted-written
+    (listing (start .args .image .now))
+    (start .args .out .now)
+    _
+    _
+    (counted .put-listing .ensures)
+    _
+    (omega (arith, else .if1 .left))
+    (c .before .before .put-listing2 .ensures)
 
 pub listing-spec : {M : Type 1} → statement M
-listing-spec = tie.close (tie.spec put-header-requires put-transitions-requires same-length returns)
+listing-spec =
+    tie.close
+    (tie.spec
+    add-stop
+    slice-aggregate-put-listing
+    put-listing-requires
+    returns
+    put-listing-requires-2
+    same-length
+    returns-2)

@@ -1,4 +1,4 @@
--- `print::put_span` meets its contract. Loop: the words left are still to be written. Measure: words left. A full buffer takes none of them.
+-- `print::put_span` meets its contract. Loop: the words left are still to be written. Measure: words left. From the stop on none of them is written.
 use mathlib.Core.Path.{_≡_, refl, sym, ap, _∙_}
 use Prim.Native.Nat.{_+_, _-_}
 use native.Mathlib.Omega.{arith}
@@ -9,17 +9,17 @@ use Rattle.lists.specs.Lists.{flat}
 use Rattle.print.specs.Text.{numbers, spaced}
 use Rattle.print.specs.Inner.Cursors.{Cursor, cursorAt, write}
 use Rattle.print.proofs.Lines.{span-within, span-more, span-done}
-use Rattle.print.proofs.Writing.{write-full}
+use Rattle.print.proofs.Writing.{write-stopped}
 use Rattle.print.proofs.put_span.Statement.{statement}
 use Rattle.print.proofs.put_span.Tie as tie
 
 abbrev Inv-loop : tie.InvT-loop
-Inv-loop image start end out₀ at last i₀ p₀ out i p =
-    (write (cursorAt out₀ at) (flat spaced (numbers (slice start end image))) ≡ write (cursorAt out p) (flat spaced (numbers (slice i last image))))
+Inv-loop image start end out₀ last i₀ p₀ out i p =
+    (write (cursorAt out₀ p₀) (flat spaced (numbers (slice start end image))) ≡ write (cursorAt out p) (flat spaced (numbers (slice i last image))))
     × (length out ≡ length out₀)
 
 abbrev μ-loop : tie.MeasureT-loop
-μ-loop image start end out₀ at last i₀ p₀ out i p = last - i
+μ-loop image start end out₀ last i₀ p₀ out i p = last - i
 
 smaller-requires : tie.Need-smaller-requires Inv-loop μ-loop
 smaller-requires c κs = search needs
@@ -30,10 +30,10 @@ loop-holds c =
     (rw (span-within (a .image .now) (a .start) (a .end) (c .smaller .result) (c .smaller .ensures)), refl)
 
 same-length : tie.Need-same-length Inv-loop μ-loop
-same-length c = c .before .before .loop .inv .1
+same-length c = c .before .before .before .loop .inv .1
 
 returns : tie.Need-returns Inv-loop μ-loop
-returns c = sym (c .before .before .loop .inv .0 ∙ write-full _ _ _ (c .if1 .taken))
+returns c = sym (c .before .before .before .loop .inv .0 ∙ write-stopped _ _ (c .if1 .taken))
 
 put-word-requires : tie.Need-put-word-requires Inv-loop μ-loop
 put-word-requires c κs = search needs
@@ -46,9 +46,9 @@ loop-less c = search needs
 
 loop-again : tie.Need-loop-again Inv-loop μ-loop
 loop-again c =
-    let l = c .before .before .before .before .before .before .loop in
-    let image = c .before .before .before .before .before .before .before .before .before .before .args .image .now in
-    let last = c .before .before .before .before .before .before .before .smaller .result in
+    let l = c .before .before .before .before .before .before .before .loop in
+    let image = c .before .before .before .before .before .before .before .before .before .before .before .args .image .now in
+    let last = c .before .before .before .before .before .before .before .before .smaller .result in
     let put = c .before .before .put-word in (
       l .inv .0
           ∙ span-more _ image (l .i) last (omega arith) (omega arith)

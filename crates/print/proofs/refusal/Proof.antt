@@ -1,42 +1,55 @@
--- `print::refusal` meets its contract: the word, the number, then the line feed.
+-- `print::refusal` meets its contract: counted on a byte of its own, then written if there is room.
+use native.Mathlib.Omega.{arith}
 use borrow.Author.Needs.{needs}
 use Rattle.print.specs.Text.{refusal}
-use Rattle.print.proofs.Lines.{refusal-written}
-use Rattle.print.proofs.Writing.{text-stands, text-length}
+use Rattle.print.proofs.Writing.{counted-long, counted-written}
 use Rattle.print.proofs.refusal.Statement.{statement}
 use Rattle.print.proofs.refusal.Tie as tie
 
-slice-aggregate-copy : tie.Need-slice-aggregate-copy
-slice-aggregate-copy c = search needs
+add-stop : tie.Need-add-stop
+add-stop c = search needs
 
-copy-requires : tie.Need-copy-requires
-copy-requires c κs = search needs
+slice-aggregate-put-refusal : tie.Need-slice-aggregate-put-refusal
+slice-aggregate-put-refusal c = search needs
 
-put-next-requires : tie.Need-put-next-requires
-put-next-requires c κs = search needs
+put-refusal-requires : tie.Need-put-refusal-requires
+put-refusal-requires c κs = search needs
 
-put-requires : tie.Need-put-requires
-put-requires c κs = search needs
+returns : tie.Need-returns
+returns c =
+    let counted = c .before .before .before in
+    let start = counted .before .before .before in
+    counted-long (refusal (start .args .number)) (start .args .out .now) _ _ (counted .put-refusal .ensures) (omega (arith, c .if1 .taken))
+
+put-refusal-requires-2 : tie.Need-put-refusal-requires-2
+put-refusal-requires-2 c κs = search needs
 
 same-length : tie.Need-same-length
 same-length c = search needs
 
-returns : tie.Need-returns
-returns c =
-    let word = c .before .before .before .before .before .before .before .before .before .before in
-    let number = word .before .before .before .before .args .number in
-    let out = word .before .before .before .before .args .out .now in
-    let next = c .before .before .before .before .before .before .put-next in
-    let e = refusal-written number _ (word .copy .ensures) (next .ensures) (c .before .before .put .ensures) in
-    (text-stands out _ (refusal number) _ e, text-length out _ (refusal number) _ e)
+returns-2 : tie.Need-returns-2
+returns-2 c =
+    let else = c .before .before .before .before in
+    let counted = else .before .before .before in
+    let start = counted .before .before .before in
+    counted-written
+    (refusal (start .args .number))
+    (start .args .out .now)
+    _
+    _
+    (counted .put-refusal .ensures)
+    _
+    (omega (arith, else .if1 .left))
+    (c .before .before .put-refusal2 .ensures)
 
 pub refusal-spec : {M : Type 1} → statement M
 refusal-spec =
     tie.close
     (tie.spec
-    slice-aggregate-copy
-    copy-requires
-    put-next-requires
-    put-requires
+    add-stop
+    slice-aggregate-put-refusal
+    put-refusal-requires
+    returns
+    put-refusal-requires-2
     same-length
-    returns)
+    returns-2)

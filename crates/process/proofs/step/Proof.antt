@@ -71,6 +71,9 @@ slice-aggregate-open-step c = search needs
 slice-aggregate-open-step-2 : tie.Need-slice-aggregate-open-step-2
 slice-aggregate-open-step-2 c = search needs
 
+slice-aggregate-open-step-3 : tie.Need-slice-aggregate-open-step-3
+slice-aggregate-open-step-3 c = search needs
+
 open-step-requires : tie.Need-open-step-requires
 open-step-requires c κs = search needs
 
@@ -82,7 +85,7 @@ enum-told c = search needs
 
 returns-3 : tie.Need-returns-3
 returns-3 c =
-    let w = c .before .before .before .before .before in
+    let w = c .before .before .before .before .before .before in
     let e = table-right (w .before) in
     step-shut _ _ _ _ _ _ _ (sym (e .before .is-accepted .ensures) ∙ not-false _ (e .if1 .left)) (e .before .before .check .ensures)
     (sym (w .before .well-formed .ensures) ∙ not-false _ (w .if2 .left)) (sym (ap opened (c .enum-told .given .1)) ∙ c .before .before .open-step .ensures)
@@ -99,7 +102,7 @@ add-size c = search needs
 returns-4 : tie.Need-returns-4
 returns-4 c =
     let t = c .before .before .before .before in
-    let w = t .before .before .before .before .before in
+    let w = t .before .before .before .before .before .before in
     let e = table-right (w .before) in
     step-short _ _ _ _ _ _ _ (sym (e .before .is-accepted .ensures) ∙ not-false _ (e .if1 .left)) (e .before .before .check .ensures)
     (sym (w .before .well-formed .ensures) ∙ not-false _ (w .if2 .left))
@@ -118,7 +121,7 @@ slice-aggregate-write-state-3 c = search needs
 write-state-requires : tie.Need-write-state-requires
 write-state-requires c κs =
     let t = c .before .before .before .before .before .before .before .before in
-    let w = t .before .before .before .before .before in
+    let w = t .before .before .before .before .before .before in
     let e = table-right (w .before) in
     step-going _ _ _ _ _ (e .before .before .before .before .before .before .args .next .now) _
     (sym (e .before .is-accepted .ensures) ∙ not-false _ (e .if1 .left)) (e .before .before .check .ensures)
@@ -133,7 +136,7 @@ returns-5 : tie.Need-returns-5
 returns-5 c =
     let r = c .before .before .before .before .before .before .before in
     let t = r .before .before .before .before in
-    let w = t .before .before .before .before .before in
+    let w = t .before .before .before .before .before .before in
     let e = table-right (w .before) in
     step-written _ _ _ _ _ _ _ (sym (e .before .is-accepted .ensures) ∙ not-false _ (e .if1 .left)) (e .before .before .check .ensures)
     (sym (w .before .well-formed .ensures) ∙ not-false _ (w .if2 .left))
@@ -161,6 +164,7 @@ step-spec =
     returns-2
     slice-aggregate-open-step
     slice-aggregate-open-step-2
+    slice-aggregate-open-step-3
     open-step-requires
     enum-known-taken
     enum-told

@@ -11,7 +11,7 @@ use Rattle.scheme.specs.Words.{branches, branchKind}
 use Rattle.scheme.specs.Scheme.{Scheme, scheme}
 use Rattle.scheme.specs.Kinds.{isSilent}
 use Rattle.process.specs.States.{State}
-use Rattle.process.specs.Steps.{communication, isOpen, standsAt}
+use Rattle.process.specs.Steps.{silentStep, communication, isOpen, standsAt}
 use Rattle.process.specs.Labels.{labelOf, stepsOfNode}
 use Rattle.process.specs.Inner.Index.{Indexed}
 
@@ -31,7 +31,7 @@ near = 100000000000000
 module _ (S : Scheme) where
   -- the label of a branch, if it is silent
   unfoldable pub silentWords : ℕ → List ℕ
-  silentWords b = pick (isSilent (S .branch b)) (3 ∷ b ∷ 0 ∷ []) []
+  silentWords b = pick (isSilent (S .branch b)) (labelOf S (silentStep b)) []
 
   -- the labels of a node's steps
   unfoldable pub stepWords : ℕ → List ℕ
@@ -44,7 +44,7 @@ module _ (S : Scheme) where
 
     -- the label of a communication, if it is open
     unfoldable pub pairWords : ℕ → ℕ → List ℕ
-    pairWords b c = pick (isOpen S s (communication b c)) (4 ∷ b ∷ c ∷ []) []
+    pairWords b c = pick (isOpen S s (communication b c)) (labelOf S (communication b c)) []
 
     -- the labels of a send with each of the receives, and of each of the sends
     unfoldable pub pairsWords : List ℕ → ℕ → List ℕ

@@ -1,23 +1,49 @@
 -- `process::formed::is_held` meets its contract.
-use mathlib.Core.Path.{_≡_, refl, sym, ap, _∙_}
-use native.Mathlib.Omega.{arith}
+-- `cN` is the place N steps before `c`.
+use mathlib.Core.Path.{sym, _∙_}
 use Rattle.process.specs.StateWords.{stateOf}
 use borrow.Author.Needs.{needs}
 use Rattle.process.proofs.formed.is_held.Statement.{statement}
 use Rattle.process.proofs.formed.is_held.Tie as tie
 
 name-thread-requires : tie.Need-name-thread-requires
-name-thread-requires c κs = c .before .before .before .before .before .before .pre .bound
+name-thread-requires c κs =
+    let c6 = c .before .before .before .before .before .before in
+    c6 .pre .bound
 
 word16-requires : tie.Need-word16-requires
 word16-requires c κs = search needs
 
-holds-requires : tie.Need-holds-requires
-holds-requires c κs = (c .before .before .before .before .before .before .before .before .pre .owned, c .word16 .ensures .small)
+is-stop-requires : tie.Need-is-stop-requires
+is-stop-requires c κs = search needs
 
 returns : tie.Need-returns
 unfolding stateOf
-returns c = c .holds .ensures ∙ rw (c .before .word16 .ensures .is, c .before .before .name-thread .ensures)
+returns c =
+    let c1 = c .before in
+    let c2 = c1 .before in
+    let c3 = c2 .before in
+    rw (← c3 .name-thread .ensures, ← c2 .word16 .ensures .is, sym (c1 .is-stop .ensures) ∙ c .if1 .taken)
+
+holds-requires : tie.Need-holds-requires
+holds-requires c κs = search needs
+
+returns-2 : tie.Need-returns-2
+unfolding stateOf
+returns-2 c =
+    let c1 = c .before in
+    let c2 = c1 .before in
+    let c3 = c2 .before in
+    let c4 = c3 .before in
+    rw (← c4 .name-thread .ensures, ← c3 .word16 .ensures .is, sym (c2 .is-stop .ensures) ∙ c1 .if1 .left) (c .holds .ensures)
 
 pub is-held-spec : {M : Type 1} → statement M
-is-held-spec = tie.close (tie.spec name-thread-requires word16-requires holds-requires returns)
+is-held-spec =
+    tie.close
+    (tie.spec
+    name-thread-requires
+    word16-requires
+    is-stop-requires
+    returns
+    holds-requires
+    returns-2)

@@ -11,9 +11,6 @@ use Rattle.process.proofs.listing.list_branch.Tie as tie
 branch-is-requires : tie.Need-branch-is-requires
 branch-is-requires c κs = search needs
 
-cast-write-label : tie.Need-cast-write-label
-cast-write-label c = search needs
-
 write-label-requires : tie.Need-write-label-requires
 write-label-requires c κs = search needs
 
@@ -42,11 +39,4 @@ returns-2 c =
 
 pub list-branch-spec : {M : Type 1} → statement M
 list-branch-spec =
-    tie.close
-    (tie.spec
-    branch-is-requires
-    cast-write-label
-    write-label-requires
-    same-length
-    returns
-    returns-2)
+    tie.close (tie.spec branch-is-requires write-label-requires same-length returns returns-2)

@@ -11,12 +11,6 @@ use Rattle.process.proofs.listing.list_pair.Tie as tie
 can-meet-requires : tie.Need-can-meet-requires
 can-meet-requires c κs = search needs
 
-cast-write-label : tie.Need-cast-write-label
-cast-write-label c = search needs
-
-cast-write-label-2 : tie.Need-cast-write-label-2
-cast-write-label-2 c = search needs
-
 write-label-requires : tie.Need-write-label-requires
 write-label-requires c κs = search needs
 
@@ -47,12 +41,4 @@ returns-2 c =
 
 pub list-pair-spec : {M : Type 1} → statement M
 list-pair-spec =
-    tie.close
-    (tie.spec
-    can-meet-requires
-    cast-write-label
-    cast-write-label-2
-    write-label-requires
-    same-length
-    returns
-    returns-2)
+    tie.close (tie.spec can-meet-requires write-label-requires same-length returns returns-2)

@@ -2,6 +2,7 @@
 -- `cN` is the place N steps before `c`.
 use mathlib.Core.Path.{sym, _∙_}
 use native.Mathlib.Omega.{arith}
+use Rattle.process.proofs.Decoding.{new-there}
 use Rattle.process.proofs.Listed.{none-listed, listed-more, steps-choice, steps-new, steps-call, steps-none}
 use borrow.Author.Needs.{needs}
 use Rattle.process.proofs.listing.list_steps.Statement.{statement}
@@ -37,17 +38,12 @@ returns c =
 node-is-requires-2 : tie.Need-node-is-requires-2
 node-is-requires-2 c κs = search needs
 
-cast-write-label : tie.Need-cast-write-label
-cast-write-label c = search needs
-
-field3-requires-3 : tie.Need-field3-requires-3
-field3-requires-3 c κs = search needs
-
-cast-write-label-2 : tie.Need-cast-write-label-2
-cast-write-label-2 c = search needs
-
 write-label-requires : tie.Need-write-label-requires
-write-label-requires c κs = search needs
+write-label-requires c κs =
+    let c1 = c .before in
+    let c2 = c1 .before in
+    let c7 = c2 .before .before .before .before .before in
+    ((new-there _ _ ∙ sym (c2 .node-is2 .ensures) ∙ c1 .if2 .taken, omega (arith, c7 .pre .0)), omega (arith, c7 .pre .1))
 
 same-length-2 : tie.Need-same-length-2
 same-length-2 c = search needs
@@ -55,20 +51,15 @@ same-length-2 c = search needs
 returns-2 : tie.Need-returns-2
 returns-2 c =
     let c2 = c .before .before in
-    let c3 = c2 .before in
-    let c5 = c3 .before .before in
-    let c6 = c5 .before in
-    let c11 = c6 .before .before .before .before .before in
-    let a = c11 .args in
-    rw (steps-new (a .table .now) (a .node) (sym (c6 .node-is2 .ensures) ∙ c5 .if2 .taken), ← c3 .field33 .ensures .is)
-    (listed-more _ _ _ _ _ 3 196608 (omega arith)
-    (c2 .write-label .ensures))
+    let c4 = c2 .before .before in
+    let c5 = c4 .before in
+    let c10 = c5 .before .before .before .before .before in
+    let a = c10 .args in
+    rw (steps-new (a .table .now) (a .node) (sym (c5 .node-is2 .ensures) ∙ c4 .if2 .taken))
+    (listed-more _ _ _ _ _ 3 196608 (omega arith) (c2 .write-label .ensures))
 
 node-is-requires-3 : tie.Need-node-is-requires-3
 node-is-requires-3 c κs = search needs
-
-cast-write-label-3 : tie.Need-cast-write-label-3
-cast-write-label-3 c = search needs
 
 write-label-requires-2 : tie.Need-write-label-requires-2
 write-label-requires-2 c κs = search needs
@@ -110,14 +101,10 @@ list-steps-spec =
     same-length
     returns
     node-is-requires-2
-    cast-write-label
-    field3-requires-3
-    cast-write-label-2
     write-label-requires
     same-length-2
     returns-2
     node-is-requires-3
-    cast-write-label-3
     write-label-requires-2
     same-length-3
     returns-3
