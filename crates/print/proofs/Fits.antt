@@ -12,7 +12,7 @@ use borrow.Author.Tests.{lt-ltb, le-ltb}
 use Rattle.lists.specs.Lists.{pick, same}
 use Rattle.lists.proofs.Tests.{true-or-false, same-true}
 use Rattle.scheme.specs.Scheme.{Scheme, scheme}
-use Rattle.table.specs.Causes.{firstFailed, tests, cause}
+use Rattle.table.specs.Causes.{firstFailed, tests, causeSparing, cause}
 use Rattle.table.proofs.Accepted.{accepted}
 use Rattle.net.specs.Image.{Label, labelOf}
 use Rattle.net.specs.Net.{transitionAt, encode}
@@ -43,8 +43,8 @@ failed-few (t ∷ ts) h = go (t .1) (failed-few ts (h .1))
     go false l = h .0
 
 cause-few : (w : List ℕ) → cause w ≤ 9
-unfolding cause
-cause-few w = failed-few (tests w)
+unfolding cause causeSparing
+cause-few w = failed-few (tests w false)
     (omega arith, (omega arith, (omega arith, (omega arith, (omega arith, (omega arith, (omega arith, (omega arith, (omega arith, tt)))))))))
 
 with-few : (odd : Bool) (c : ℕ) → c ≤ 9 → causeWith odd c ≤ 9
