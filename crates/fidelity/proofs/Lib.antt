@@ -38,3 +38,4 @@ pub mod Whole
 pub mod Theorem
 pub mod Refusing
 pub mod WrongClaims
+pub mod SelfCalls

@@ -1,3 +1,4 @@
 pub mod Calls
 pub mod Demand
+pub mod SelfCalls
 pub mod Inner
