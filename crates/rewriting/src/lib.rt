@@ -5,7 +5,7 @@
 // table is within the bounds, and last what it is asked for; a refusal leaves the output as it was.
 mod belonging;
 mod copies;
-mod places;
+mod numbering;
 mod words;
 
 ghost use mathlib.Core.Path.{_≡_};

@@ -17,12 +17,12 @@ ghost use Rattle.rewriting.specs.Inner.Writing.{copyWords, Writable, Cou
 ghost use Rattle.rewriting.specs.Inner.Writing.{frontWords, backWords};
 use crate::copies::Counts;
 use crate::copies::calls_itself;
-use crate::places::copy_argument;
-use crate::places::copy_branch;
-use crate::places::copy_definition;
-use crate::places::copy_name;
-use crate::places::copy_node;
-use crate::places::number_copies;
+use crate::numbering::copy_argument;
+use crate::numbering::copy_branch;
+use crate::numbering::copy_definition;
+use crate::numbering::copy_name;
+use crate::numbering::copy_node;
+use crate::numbering::number_copies;
 use lists::store16;
 use lists::word16;
 use lists::word32;

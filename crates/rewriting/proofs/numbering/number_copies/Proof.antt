@@ -1,8 +1,8 @@
--- `rewriting::places::number_copies` meets its contract.
+-- `rewriting::numbering::number_copies` meets its contract.
 use Rattle.rewriting.proofs.Placed.{all-placed}
 use borrow.Author.Needs.{needs}
-use Rattle.rewriting.proofs.places.number_copies.Statement.{statement}
-use Rattle.rewriting.proofs.places.number_copies.Tie as tie
+use Rattle.rewriting.proofs.numbering.number_copies.Statement.{statement}
+use Rattle.rewriting.proofs.numbering.number_copies.Tie as tie
 
 number-requires : tie.Need-number-requires
 number-requires c κs = search needs

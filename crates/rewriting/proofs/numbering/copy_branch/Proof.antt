@@ -1,8 +1,8 @@
--- `rewriting::places::copy_branch` meets its contract.
+-- `rewriting::numbering::copy_branch` meets its contract.
 use Rattle.rewriting.proofs.Placed.{branch-number}
 use borrow.Author.Needs.{needs}
-use Rattle.rewriting.proofs.places.copy_branch.Statement.{statement}
-use Rattle.rewriting.proofs.places.copy_branch.Tie as tie
+use Rattle.rewriting.proofs.numbering.copy_branch.Statement.{statement}
+use Rattle.rewriting.proofs.numbering.copy_branch.Tie as tie
 
 word16-requires : tie.Need-word16-requires
 word16-requires c κs = search needs

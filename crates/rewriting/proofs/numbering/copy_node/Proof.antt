@@ -1,8 +1,8 @@
--- `rewriting::places::copy_node` meets its contract.
+-- `rewriting::numbering::copy_node` meets its contract.
 use Rattle.rewriting.proofs.Placed.{node-number}
 use borrow.Author.Needs.{needs}
-use Rattle.rewriting.proofs.places.copy_node.Statement.{statement}
-use Rattle.rewriting.proofs.places.copy_node.Tie as tie
+use Rattle.rewriting.proofs.numbering.copy_node.Statement.{statement}
+use Rattle.rewriting.proofs.numbering.copy_node.Tie as tie
 
 word16-requires : tie.Need-word16-requires
 word16-requires c κs = search needs

@@ -1,8 +1,8 @@
--- `rewriting::places::copy_name` meets its contract.
+-- `rewriting::numbering::copy_name` meets its contract.
 use Rattle.rewriting.proofs.Placed.{public-number, name-number}
 use borrow.Author.Needs.{needs}
-use Rattle.rewriting.proofs.places.copy_name.Statement.{statement}
-use Rattle.rewriting.proofs.places.copy_name.Tie as tie
+use Rattle.rewriting.proofs.numbering.copy_name.Statement.{statement}
+use Rattle.rewriting.proofs.numbering.copy_name.Tie as tie
 
 word16-requires : tie.Need-word16-requires
 word16-requires c κs = search needs

@@ -1,4 +1,4 @@
--- `rewriting::places::fill` meets its contract. Loop: the places left are still to be written. Measure: places left.
+-- `rewriting::numbering::fill` meets its contract. Loop: the places left are still to be written. Measure: places left.
 use mathlib.Core.Path.{_≡_, refl, sym, _∙_}
 use Prim.Native.Nat.{_+_, _-_}
 use native.Mathlib.Nat.{sub-zero, add-zero}
@@ -7,8 +7,8 @@ use lib.ListN.{length, replicate}
 use lib.Seq.{sets}
 use Rattle.rewriting.proofs.Stored.{set-long, fill-more, fill-done}
 use borrow.Author.Needs.{needs}
-use Rattle.rewriting.proofs.places.fill.Statement.{statement}
-use Rattle.rewriting.proofs.places.fill.Tie as tie
+use Rattle.rewriting.proofs.numbering.fill.Statement.{statement}
+use Rattle.rewriting.proofs.numbering.fill.Tie as tie
 
 abbrev Inv-loop : tie.InvT-loop
 Inv-loop at count v out₀ i₀ out i =

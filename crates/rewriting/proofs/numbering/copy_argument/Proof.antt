@@ -1,8 +1,8 @@
--- `rewriting::places::copy_argument` meets its contract.
+-- `rewriting::numbering::copy_argument` meets its contract.
 use Rattle.rewriting.proofs.Placed.{argument-number}
 use borrow.Author.Needs.{needs}
-use Rattle.rewriting.proofs.places.copy_argument.Statement.{statement}
-use Rattle.rewriting.proofs.places.copy_argument.Tie as tie
+use Rattle.rewriting.proofs.numbering.copy_argument.Statement.{statement}
+use Rattle.rewriting.proofs.numbering.copy_argument.Tie as tie
 
 word16-requires : tie.Need-word16-requires
 word16-requires c κs = search needs

@@ -1,4 +1,4 @@
--- `rewriting::places::number` meets its contract. Loop: the words passed stand at their places, counted from where the loop is. Measure: words left.
+-- `rewriting::numbering::number` meets its contract. Loop: the words passed stand at their places, counted from where the loop is. Measure: words left.
 use mathlib.Core.Path.{_≡_, refl, _∙_}
 use mathlib.Core.Logic.{_⊎_}
 use Prim.Native.Nat.{ℕ, suc, _+_, _-_, _≤_, _<_}
@@ -11,8 +11,8 @@ use Rattle.process.specs.StateWords.{place}
 use Rattle.rewriting.proofs.Stored.{set-long}
 use Rattle.rewriting.proofs.Placed.{filled-long, filled-here, filled-others, place-end, place-turn, others-turn}
 use borrow.Author.Needs.{needs}
-use Rattle.rewriting.proofs.places.number.Statement.{statement}
-use Rattle.rewriting.proofs.places.number.Tie as tie
+use Rattle.rewriting.proofs.numbering.number.Statement.{statement}
+use Rattle.rewriting.proofs.numbering.number.Tie as tie
 
 abbrev Inv-loop : tie.InvT-loop
 Inv-loop list first count at out₀ i₀ out i =

@@ -1,9 +1,9 @@
--- `rewriting::places::place` meets its contract.
+-- `rewriting::numbering::place` meets its contract.
 use borrow.Author.Tests.{lt-ltb, le-ltb}
 use Rattle.rewriting.specs.Inner.Placing.{placeAt}
 use borrow.Author.Needs.{needs}
-use Rattle.rewriting.proofs.places.place.Statement.{statement}
-use Rattle.rewriting.proofs.places.place.Tie as tie
+use Rattle.rewriting.proofs.numbering.place.Statement.{statement}
+use Rattle.rewriting.proofs.numbering.place.Tie as tie
 
 add-word32 : tie.Need-add-word32
 add-word32 c = search needs

@@ -1,8 +1,8 @@
--- `rewriting::places::copy_definition` meets its contract.
+-- `rewriting::numbering::copy_definition` meets its contract.
 use Rattle.rewriting.proofs.Placed.{definition-number}
 use borrow.Author.Needs.{needs}
-use Rattle.rewriting.proofs.places.copy_definition.Statement.{statement}
-use Rattle.rewriting.proofs.places.copy_definition.Tie as tie
+use Rattle.rewriting.proofs.numbering.copy_definition.Statement.{statement}
+use Rattle.rewriting.proofs.numbering.copy_definition.Tie as tie
 
 word16-requires : tie.Need-word16-requires
 word16-requires c κs = search needs
