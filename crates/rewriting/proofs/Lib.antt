@@ -13,11 +13,5 @@ pub mod Bindings
 pub mod Scopes
 pub mod Origins
 pub mod Unchanged
-pub mod Stored
-pub mod Marks
-pub mod Placed
-pub mod Sections
-pub mod Belongs
-pub mod Rowed
-pub mod Preparation
+pub mod Laws
 pub mod Theorem

@@ -8,7 +8,7 @@ ghost use Rattle.lists.specs.Lists.{word, from, range, flat};
 ghost use Rattle.scheme.specs.Words.{nodes};
 ghost use Rattle.scheme.specs.Inner.Spans.{Number};
 ghost use Rattle.process.specs.Inner.Listed.{Listed, far, near};
-ghost use Rattle.rewriting.specs.Rewriting.{nodeWords, definitionCopy, nodeCopy, branchCopy, rewritten};
+ghost use Rattle.rewriting.specs.Rewriting.{nodeWords, definitionCopy, nodeCopy, branchCopy, nodePart, rewritten};
 ghost use Rattle.rewriting.specs.Inner.Belonging.{Bodies};
 ghost use Rattle.rewriting.specs.Inner.Counting.{Small, headerWith, sizeWith};
 ghost use Rattle.rewriting.specs.Inner.Placing.{Placing};
@@ -353,8 +353,8 @@ fn write_front(
     write_words(table, word16(table, 9), word16(table, 3), at, out)
 }
 
-// Writes the nodes, the branches and the arguments.
-fn write_back(
+// Writes the nodes.
+fn write_bodies(
     table: &[u16],
     definitions: &[u16],
     list: &[u32],
@@ -364,10 +364,10 @@ fn write_back(
     out: &mut [u16],
 ) -> usize
     requires { ⌜ Back (now table) (now definitions) (now list) copies (now places) × (start ≤ 1048576) ⌝ }
-    ensures { λ r. ⌜ Listed 1048576 (backWords (now (table .entry))) (now (out .entry)) start (now (out .exit)) r ⌝ }
+    ensures { λ r. ⌜ Listed 263168 (nodePart (now (table .entry))) (now (out .entry)) start (now (out .exit)) r ⌝ }
 {
-    let mut at = write_nodes(table, definitions, places, start, out);
-    at = write_copies(
+    let at = write_nodes(table, definitions, places, start, out);
+    write_copies(
         table,
         Part::Nodes,
         list,
@@ -377,8 +377,23 @@ fn write_back(
         places,
         at,
         out,
-    );
-    at = write_words(table, word16(table, 11), 4 * word16(table, 5), at, out);
+    )
+}
+
+// Writes the branches and the arguments.
+fn write_back(
+    table: &[u16],
+    definitions: &[u16],
+    list: &[u32],
+    copies: Counts,
+    places: &[u32],
+    start: usize,
+    out: &mut [u16],
+) -> usize
+    requires { ⌜ Back (now table) (now definitions) (now list) copies (now places) × (start ≤ 1311744) ⌝ }
+    ensures { λ r. ⌜ Listed 1048576 (backWords (now (table .entry))) (now (out .entry)) start (now (out .exit)) r ⌝ }
+{
+    let mut at = write_words(table, word16(table, 11), 4 * word16(table, 5), start, out);
     at = write_copies(
         table,
         Part::Branches,
@@ -418,6 +433,7 @@ pub(crate) fn write_table(
 {
     let mut places = [0u32; 1285];
     number_copies(list, copies, &mut places);
-    let at = write_front(table, definitions, list, copies, counts, &places, out);
+    let mut at = write_front(table, definitions, list, copies, counts, &places, out);
+    at = write_bodies(table, definitions, list, copies, &places, at, out);
     write_back(table, definitions, list, copies, &places, at, out);
 }

@@ -1,5 +1,5 @@
 -- `rewriting::original` meets its contract.
-use Rattle.rewriting.proofs.Preparation.{itself, of-copy, missing}
+use Rattle.rewriting.proofs.Laws.Preparation.{itself, of-copy, missing}
 use borrow.Author.Needs.{needs}
 use Rattle.rewriting.proofs.original.Statement.{statement}
 use Rattle.rewriting.proofs.original.Tie as tie

@@ -2,7 +2,7 @@
 use mathlib.Core.Path.{ap, _∙_}
 use native.Mathlib.Omega.{arith}
 use Rattle.rewriting.specs.Outcomes.{originAt}
-use Rattle.rewriting.proofs.Preparation.{prepared-ready, prepared-refused, refused-origin, ready-origin, branch-origins}
+use Rattle.rewriting.proofs.Laws.Preparation.{prepared-ready, prepared-refused, refused-origin, ready-origin, branch-origins}
 use borrow.Author.Needs.{needs}
 use Rattle.rewriting.proofs.original_branch.Statement.{statement}
 use Rattle.rewriting.proofs.original_branch.Tie as tie

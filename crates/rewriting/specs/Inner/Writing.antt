@@ -6,7 +6,7 @@ use Rattle.lists.specs.Lists.{pick, same}
 use Rattle.scheme.specs.Words.{nameKind, firstFormal, formalCount, nodeFirst, nodeSecond}
 use Rattle.scheme.specs.Words.{isChoice, isNew, isSilent, argument, argumentCount}
 use Rattle.rewriting.specs.Rewriting.{copyName, copyDefinition, copyNode, copyBranch, copyArgument, definitionCopy, nodeCopy, branchCopy}
-use Rattle.rewriting.specs.Rewriting.{rewrittenHeader, namePart, definitionPart, threadPart, nodePart, branchPart, argumentPart}
+use Rattle.rewriting.specs.Rewriting.{rewrittenHeader, namePart, definitionPart, threadPart, branchPart, argumentPart}
 use Rattle.rewriting.specs.Inner.Belonging.{Bodies}
 use Rattle.rewriting.specs.Inner.Copying.{selfCall, Rows}
 use Rattle.rewriting.specs.Inner.Counting.{Summed, Small}
@@ -63,9 +63,9 @@ pub record Back (w defs list : List ℕ) (copies : Counts) (words : List ℕ) : 
   pub rows : Rows w list copies
   pub writable : Writable w defs words
 
--- the sections up to the threads, with the header, and those from the nodes on
+-- the header and the sections up to the threads, and the sections from the branches on
 unfoldable pub frontWords : List ℕ → List ℕ
 frontWords w = rewrittenHeader w ++ (namePart w ++ (definitionPart w ++ threadPart w))
 
 unfoldable pub backWords : List ℕ → List ℕ
-backWords w = nodePart w ++ (branchPart w ++ argumentPart w)
+backWords w = branchPart w ++ argumentPart w

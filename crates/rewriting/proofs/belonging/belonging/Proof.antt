@@ -1,6 +1,6 @@
 -- `rewriting::belonging::belonging` meets its contract.
 use Rattle.rewriting.specs.Inner.Belonging.{Indexed}
-use Rattle.rewriting.proofs.Belongs.{indexed}
+use Rattle.rewriting.proofs.Laws.Belongs.{indexed}
 use borrow.Author.Needs.{needs}
 use Rattle.rewriting.proofs.belonging.belonging.Statement.{statement}
 use Rattle.rewriting.proofs.belonging.belonging.Tie as tie

@@ -8,8 +8,8 @@ use Rattle.scheme.specs.Words.{publics as publicCount, names}
 use Rattle.table.proofs.Inside.{counted}
 use Rattle.rewriting.specs.Rewriting.{nameDefinition}
 use Rattle.rewriting.proofs.Family.{sound}
-use Rattle.rewriting.proofs.Stored.{set-long}
-use Rattle.rewriting.proofs.Belongs.{name-definition-is, name-definition-small, named-next}
+use Rattle.rewriting.proofs.Laws.Stored.{set-long}
+use Rattle.rewriting.proofs.Laws.Belongs.{name-definition-is, name-definition-small, named-next}
 use borrow.Author.Needs.{needs}
 use Rattle.rewriting.proofs.belonging.name_definitions.Statement.{statement}
 use Rattle.rewriting.proofs.belonging.name_definitions.Tie as tie

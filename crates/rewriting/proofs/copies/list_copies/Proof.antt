@@ -1,6 +1,6 @@
 -- `rewriting::copies::list_copies` meets its contract.
 use native.Mathlib.Omega.{arith}
-use Rattle.rewriting.proofs.Rowed.{OneRow, TwoRows, ThreeRows, FourRows, one-row, two-rows, three-rows, four-rows, all-rows}
+use Rattle.rewriting.proofs.Laws.Rowed.{OneRow, TwoRows, ThreeRows, FourRows, one-row, two-rows, three-rows, four-rows, all-rows}
 use borrow.Author.Needs.{needs}
 use Rattle.rewriting.proofs.copies.list_copies.Statement.{statement}
 use Rattle.rewriting.proofs.copies.list_copies.Tie as tie

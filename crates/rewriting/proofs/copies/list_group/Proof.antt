@@ -5,7 +5,7 @@ use native.Mathlib.Omega.{arith}
 use Rattle.lists.specs.Lists.{from}
 use Rattle.process.proofs.Listed.{Left, left-start, left-more, left-end}
 use Rattle.rewriting.specs.Inner.Copying.{grouped}
-use Rattle.rewriting.proofs.Stored.{grouped-more, grouped-done}
+use Rattle.rewriting.proofs.Laws.Stored.{grouped-more, grouped-done}
 use Rattle.rewriting.proofs.copies.list_group.Statement.{statement}
 use Rattle.rewriting.proofs.copies.list_group.Tie as tie
 

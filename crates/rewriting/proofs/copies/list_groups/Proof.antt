@@ -7,7 +7,7 @@ use lib.Seq.{slice}
 use Rattle.lists.specs.Lists.{word, from, flat}
 use Rattle.process.proofs.Listed.{Left, left-start, left-more, left-end, slice-more, slice-done}
 use Rattle.rewriting.specs.Inner.Copying.{grouped}
-use Rattle.rewriting.proofs.Stored.{listed-low}
+use Rattle.rewriting.proofs.Laws.Stored.{listed-low}
 use borrow.Author.Needs.{needs}
 use Rattle.rewriting.proofs.copies.list_groups.Statement.{statement}
 use Rattle.rewriting.proofs.copies.list_groups.Tie as tie

@@ -7,7 +7,7 @@ use lib.Seq.{slice}
 use Rattle.lists.specs.Lists.{word, flat}
 use Rattle.scheme.specs.Inner.Spans.{spanOf}
 use Rattle.process.proofs.Listed.{Left, left-start, left-more, left-end}
-use Rattle.rewriting.proofs.Stored.{listed-low, row-more, row-done}
+use Rattle.rewriting.proofs.Laws.Stored.{listed-low, row-more, row-done}
 use borrow.Author.Needs.{needs}
 use Rattle.rewriting.proofs.copies.list_spans.Statement.{statement}
 use Rattle.rewriting.proofs.copies.list_spans.Tie as tie

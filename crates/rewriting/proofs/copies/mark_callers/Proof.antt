@@ -6,7 +6,7 @@ use lib.ListN.{length}
 use Rattle.lists.specs.Lists.{pick, word, from, range, some}
 use Rattle.scheme.specs.Words.{nodes as nodeCount}
 use Rattle.rewriting.specs.Inner.Copying.{calledByItself}
-use Rattle.rewriting.proofs.Marks.{mark-next, mark-length}
+use Rattle.rewriting.proofs.Laws.Marks.{mark-next, mark-length}
 use borrow.Author.Needs.{needs}
 use Rattle.rewriting.proofs.copies.mark_callers.Statement.{statement}
 use Rattle.rewriting.proofs.copies.mark_callers.Tie as tie

@@ -1,7 +1,7 @@
 -- `rewriting::copies::prepare` meets its contract.
 use mathlib.Core.Path.{sym, _∙_}
 use borrow.Author.Tests.{not-false}
-use Rattle.rewriting.proofs.Preparation.{accepted-here, refused-here, ready-here, beyond-here, within-is}
+use Rattle.rewriting.proofs.Laws.Preparation.{accepted-here, refused-here, ready-here, beyond-here, within-is}
 use borrow.Author.Needs.{needs}
 use Rattle.rewriting.proofs.copies.prepare.Statement.{statement}
 use Rattle.rewriting.proofs.copies.prepare.Tie as tie

@@ -1,5 +1,5 @@
 -- `rewriting::numbering::copy_argument` meets its contract.
-use Rattle.rewriting.proofs.Placed.{argument-number}
+use Rattle.rewriting.proofs.Laws.Placed.{argument-number}
 use borrow.Author.Needs.{needs}
 use Rattle.rewriting.proofs.numbering.copy_argument.Statement.{statement}
 use Rattle.rewriting.proofs.numbering.copy_argument.Tie as tie

@@ -1,5 +1,5 @@
 -- `rewriting::numbering::copy_branch` meets its contract.
-use Rattle.rewriting.proofs.Placed.{branch-number}
+use Rattle.rewriting.proofs.Laws.Placed.{branch-number}
 use borrow.Author.Needs.{needs}
 use Rattle.rewriting.proofs.numbering.copy_branch.Statement.{statement}
 use Rattle.rewriting.proofs.numbering.copy_branch.Tie as tie

@@ -1,5 +1,5 @@
 -- `rewriting::numbering::copy_definition` meets its contract.
-use Rattle.rewriting.proofs.Placed.{definition-number}
+use Rattle.rewriting.proofs.Laws.Placed.{definition-number}
 use borrow.Author.Needs.{needs}
 use Rattle.rewriting.proofs.numbering.copy_definition.Statement.{statement}
 use Rattle.rewriting.proofs.numbering.copy_definition.Tie as tie

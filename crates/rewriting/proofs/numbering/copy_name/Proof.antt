@@ -1,5 +1,5 @@
 -- `rewriting::numbering::copy_name` meets its contract.
-use Rattle.rewriting.proofs.Placed.{public-number, name-number}
+use Rattle.rewriting.proofs.Laws.Placed.{public-number, name-number}
 use borrow.Author.Needs.{needs}
 use Rattle.rewriting.proofs.numbering.copy_name.Statement.{statement}
 use Rattle.rewriting.proofs.numbering.copy_name.Tie as tie

@@ -1,5 +1,5 @@
 -- `rewriting::numbering::copy_node` meets its contract.
-use Rattle.rewriting.proofs.Placed.{node-number}
+use Rattle.rewriting.proofs.Laws.Placed.{node-number}
 use borrow.Author.Needs.{needs}
 use Rattle.rewriting.proofs.numbering.copy_node.Statement.{statement}
 use Rattle.rewriting.proofs.numbering.copy_node.Tie as tie

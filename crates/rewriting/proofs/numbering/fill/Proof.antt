@@ -5,7 +5,7 @@ use native.Mathlib.Nat.{sub-zero, add-zero}
 use native.Mathlib.Omega.{arith}
 use lib.ListN.{length, replicate}
 use lib.Seq.{sets}
-use Rattle.rewriting.proofs.Stored.{set-long, fill-more, fill-done}
+use Rattle.rewriting.proofs.Laws.Stored.{set-long, fill-more, fill-done}
 use borrow.Author.Needs.{needs}
 use Rattle.rewriting.proofs.numbering.fill.Statement.{statement}
 use Rattle.rewriting.proofs.numbering.fill.Tie as tie

@@ -8,8 +8,8 @@ use lib.ListN.{length}
 use lib.Seq.{slice}
 use Rattle.lists.specs.Lists.{word}
 use Rattle.process.specs.StateWords.{place}
-use Rattle.rewriting.proofs.Stored.{set-long}
-use Rattle.rewriting.proofs.Placed.{filled-long, filled-here, filled-others, place-end, place-turn, others-turn}
+use Rattle.rewriting.proofs.Laws.Stored.{set-long}
+use Rattle.rewriting.proofs.Laws.Placed.{filled-long, filled-here, filled-others, place-end, place-turn, others-turn}
 use borrow.Author.Needs.{needs}
 use Rattle.rewriting.proofs.numbering.number.Statement.{statement}
 use Rattle.rewriting.proofs.numbering.number.Tie as tie

@@ -1,5 +1,5 @@
 -- `rewriting::numbering::number_copies` meets its contract.
-use Rattle.rewriting.proofs.Placed.{all-placed}
+use Rattle.rewriting.proofs.Laws.Placed.{all-placed}
 use borrow.Author.Needs.{needs}
 use Rattle.rewriting.proofs.numbering.number_copies.Statement.{statement}
 use Rattle.rewriting.proofs.numbering.number_copies.Tie as tie

@@ -1,5 +1,5 @@
 -- `rewriting::words::write3` meets its contract.
-use Rattle.rewriting.proofs.Stored.{three-stored}
+use Rattle.rewriting.proofs.Laws.Stored.{three-stored}
 use borrow.Author.Needs.{needs}
 use Rattle.rewriting.proofs.words.write3.Statement.{statement}
 use Rattle.rewriting.proofs.words.write3.Tie as tie

@@ -1,5 +1,5 @@
 -- `rewriting::words::write4` meets its contract.
-use Rattle.rewriting.proofs.Stored.{four-stored}
+use Rattle.rewriting.proofs.Laws.Stored.{four-stored}
 use borrow.Author.Needs.{needs}
 use Rattle.rewriting.proofs.words.write4.Statement.{statement}
 use Rattle.rewriting.proofs.words.write4.Tie as tie

@@ -6,7 +6,7 @@ use lib.Seq.{slice}
 use Rattle.lists.specs.Lists.{flat}
 use Rattle.process.proofs.Listed.{Left, left-start, left-more, left-end}
 use Rattle.rewriting.specs.Inner.Writing.{copyWords}
-use Rattle.rewriting.proofs.Stored.{row-more, row-done}
+use Rattle.rewriting.proofs.Laws.Stored.{row-more, row-done}
 use borrow.Author.Needs.{needs}
 use Rattle.rewriting.proofs.words.write_copies.Statement.{statement}
 use Rattle.rewriting.proofs.words.write_copies.Tie as tie

@@ -3,7 +3,7 @@ use native.Mathlib.Omega.{arith}
 use Rattle.process.specs.Inner.Listed.{Listed}
 use Rattle.process.proofs.Listed.{listed-length}
 use Rattle.rewriting.specs.Inner.Writing.{frontWords}
-use Rattle.rewriting.proofs.Sections.{front-listed}
+use Rattle.rewriting.proofs.Laws.Sections.{front-listed}
 use borrow.Author.Needs.{needs}
 use Rattle.rewriting.proofs.words.write_front.Statement.{statement}
 use Rattle.rewriting.proofs.words.write_front.Tie as tie

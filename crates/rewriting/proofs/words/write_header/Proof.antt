@@ -1,6 +1,6 @@
 -- `rewriting::words::write_header` meets its contract.
 use native.Mathlib.Omega.{arith}
-use Rattle.rewriting.proofs.Sections.{header-listed}
+use Rattle.rewriting.proofs.Laws.Sections.{header-listed}
 use borrow.Author.Needs.{needs}
 use Rattle.rewriting.proofs.words.write_header.Statement.{statement}
 use Rattle.rewriting.proofs.words.write_header.Tie as tie

@@ -1,7 +1,7 @@
 -- `rewriting::words::write_node` meets its contract.
 use Rattle.rewriting.specs.Rewriting.{nodeWords}
 use Rattle.rewriting.specs.Inner.Writing.{targetIn}
-use Rattle.rewriting.proofs.Marks.{self-call}
+use Rattle.rewriting.proofs.Laws.Marks.{self-call}
 use borrow.Author.Needs.{needs}
 use Rattle.rewriting.proofs.words.write_node.Statement.{statement}
 use Rattle.rewriting.proofs.words.write_node.Tie as tie

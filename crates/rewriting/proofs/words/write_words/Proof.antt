@@ -6,7 +6,7 @@ use native.Mathlib.Nat.{sub-zero, add-zero}
 use native.Mathlib.Omega.{arith}
 use Rattle.lists.specs.Lists.{word, from}
 use Rattle.process.proofs.Listed.{Left, left-start, left-end}
-use Rattle.rewriting.proofs.Stored.{left-image, images-none, words-from}
+use Rattle.rewriting.proofs.Laws.Stored.{left-image, images-none, words-from}
 use borrow.Author.Needs.{needs}
 use Rattle.rewriting.proofs.words.write_words.Statement.{statement}
 use Rattle.rewriting.proofs.words.write_words.Tie as tie

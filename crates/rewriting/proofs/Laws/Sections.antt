@@ -149,30 +149,33 @@ module _ (w list : List ℕ) (copies : Counts) (R : Rows w list copies) where
   unfolding nodePart
   nodes-stay = refl
 
-  pub back-listed : (s1 n1 s2 n2 : ℕ) → s1 ≡ word w 11 → n1 ≡ branches w → s2 ≡ word w 12 → n2 ≡ arguments w → (out o1 o2 o3 o4 o5 after : List ℕ)
-      (r0 r1 r2 r3 r4 r5 r : ℕ) → Listed 262144 (flat (nodeWords w) (range (nodes w))) out r0 o1 r1
-      → Listed 1024 (flat (copyWords w Nodes) (slice 512 (512 + copies .nodes) list)) o1 r1 o2 r2
-      → Listed 262144 (map (word w) (from s1 (4 * n1))) o2 r2 o3 r3
-      → Listed 1024 (flat (copyWords w Branches) (slice 768 (768 + copies .branches) list)) o3 r3 o4 r4
-      → Listed 262144 (map (word w) (from s2 n2)) o4 r4 o5 r5
-      → Listed 1024 (flat (copyWords w Arguments) (slice 1024 (1024 + copies .arguments) list)) o5 r5 after r
+  pub bodies-listed : (out one after : List ℕ) (a b r : ℕ) → Listed 262144 (flat (nodeWords w) (range (nodes w))) out a one b
+      → Listed 1024 (flat (copyWords w Nodes) (slice 512 (512 + copies .nodes) list)) one b after r → Listed 263168 (nodePart w) out a after r
+  bodies-listed out one after a b r A B =
+      section w list (nodeCopies w) _ (nodePart w) (copyWords w Nodes) 512 (copies .nodes) (R .node-row) nodes-stay out one after a b r A B
+
+  pub back-listed : (s1 n1 s2 n2 : ℕ) → s1 ≡ word w 11 → n1 ≡ branches w → s2 ≡ word w 12 → n2 ≡ arguments w → (out o1 o2 o3 after : List ℕ)
+      (r0 r1 r2 r3 r : ℕ) → Listed 262144 (map (word w) (from s1 (4 * n1))) out r0 o1 r1
+      → Listed 1024 (flat (copyWords w Branches) (slice 768 (768 + copies .branches) list)) o1 r1 o2 r2
+      → Listed 262144 (map (word w) (from s2 n2)) o2 r2 o3 r3
+      → Listed 1024 (flat (copyWords w Arguments) (slice 1024 (1024 + copies .arguments) list)) o3 r3 after r
       → Listed 1048576 (backWords w) out r0 after r
   unfolding backWords
-  back-listed s1 n1 s2 n2 e1 f1 e2 f2 out o1 o2 o3 o4 o5 after r0 r1 r2 r3 r4 r5 r A B C D E F =
-      let n = section w list (nodeCopies w) _ (nodePart w) (copyWords w Nodes) 512 (copies .nodes) (R .node-row) nodes-stay _ _ _ _ _ _ A B in
-      let b = section w list (branchCopies w) _ (branchPart w) (copyWords w Branches) 768 (copies .branches) (R .branch-row)
-      (branches-stay w s1 n1 e1 f1) _ _ _ _ _ _ C D in
-      let a = section w list (argumentCopies w) _ (argumentPart w) (copyWords w Arguments) 1024 (copies .arguments) (R .argument-row)
+  back-listed s1 n1 s2 n2 e1 f1 e2 f2 out o1 o2 o3 after r0 r1 r2 r3 r C D E F =
+      let b =
+      section w list (branchCopies w) _ (branchPart w) (copyWords w Branches) 768 (copies .branches) (R .branch-row) (branches-stay w s1 n1 e1 f1)
+      _ _ _ _ _ _ C D in
+      let a =
+      section w list (argumentCopies w) _ (argumentPart w) (copyWords w Arguments) 1024 (copies .arguments) (R .argument-row)
       (arguments-stay w s2 n2 e2 f2) _ _ _ _ _ _ E F in
-      let x = listed-append 263168 263168 (branchPart w) (argumentPart w) _ _ _ _ _ _ b a in
-      listed-more _ _ _ _ _ (263168 + 526336) 1048576 (omega arith) (listed-append 263168 526336 (nodePart w) _ _ _ _ _ _ _ n x)
+      listed-more _ _ _ _ _ (263168 + 263168) 1048576 (omega arith) (listed-append 263168 263168 (branchPart w) (argumentPart w) _ _ _ _ _ _ b a)
 
 -- all words
-pub all-listed : (w out one after : List ℕ) (i r : ℕ) → Listed 1048576 (frontWords w) out 0 one i → Listed 1048576 (backWords w) one i after r
-    → after ≡ sets out 0 (rewritten w)
+pub all-listed : (w out one two after : List ℕ) (i j r : ℕ) → Listed 1048576 (frontWords w) out 0 one i → Listed 263168 (nodePart w) one i two j
+    → Listed 1048576 (backWords w) two j after r → after ≡ sets out 0 (rewritten w)
 unfolding frontWords backWords rewritten
-all-listed w out one after i r A B =
-    listed-append 1048576 1048576 _ _ out 0 one i after r A B .written
+all-listed w out one two after i j r A B C =
+    listed-append 1048576 1311744 _ _ out 0 one i after r A (listed-append 263168 1048576 _ _ one i two j after r B C) .written
     ∙ ap (sets out 0)
     (append-assoc (rewrittenHeader w) (namePart w ++ (definitionPart w ++ threadPart w)) (nodePart w ++ (branchPart w ++ argumentPart w))
     ∙ ap (λ (l : List ℕ). rewrittenHeader w ++ l)

@@ -30,7 +30,7 @@ use Rattle.rewriting.specs.declared.copies.Prepared.{Prepared}
 use Rattle.rewriting.specs.declared.copies.Prepared.the-variants.{Ready, Refused}
 use Rattle.rewriting.proofs.Family.{sound}
 use Rattle.rewriting.proofs.Reading
-use Rattle.rewriting.proofs.Stored.{slice-word}
+use Rattle.rewriting.proofs.Laws.Stored.{slice-word}
 
 -- ---- causes
 

@@ -25,9 +25,9 @@ use Rattle.rewriting.specs.Inner.Copying.{calledByItself, Marked, groupe
 use Rattle.rewriting.proofs.Family
 use Rattle.rewriting.proofs.Family.{Sound, sound, copied-distinct, copied-inside, names-distinct, nodes-distinct, branches-distinct, arguments-distinct}
 use Rattle.rewriting.proofs.Family.{name-of, node-of, branch-of, argument-of}
-use Rattle.rewriting.proofs.Marks.{self-call}
+use Rattle.rewriting.proofs.Laws.Marks.{self-call}
 use Rattle.rewriting.proofs.Shapes
-use Rattle.rewriting.proofs.Stored.{slice-alike, slice-stored, listed-low}
+use Rattle.rewriting.proofs.Laws.Stored.{slice-alike, slice-stored, listed-low}
 
 some-same : (p q : ℕ → Bool) (xs : List ℕ) → ((x : ℕ) → member x xs ≡ true → p x ≡ q x) → some p xs ≡ some q xs
 unfolding some

@@ -24,7 +24,7 @@ use Rattle.rewriting.specs.Inner.Placing.{placeAt, SmallWords, Numbered,
 use Rattle.rewriting.specs.Inner.Copying.{Row, Rows}
 use Rattle.rewriting.specs.declared.copies.Counts.{Counts}
 use Rattle.rewriting.proofs.Appended.{place-hit, place-miss, place-most, place-absent}
-use Rattle.rewriting.proofs.Stored.{word-low, word-high, word-in, slice-word}
+use Rattle.rewriting.proofs.Laws.Stored.{word-low, word-high, word-in, slice-word}
 use Rattle.rewriting.proofs.Family.{sound}
 
 module _ (w words : List ℕ) (p : Placing w words) where
