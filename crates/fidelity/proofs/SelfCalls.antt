@@ -1,4 +1,5 @@
--- The net of a rewritten table shows exactly the sequences of steps that the college's table allows: demand 3 of the rewritten table, and what rewriting keeps.
+-- The net of a rewritten table shows exactly the sequences of steps that the college's table allows: by demand 3 of the rewritten table, and by what rewriting
+-- keeps.
 use mathlib.Core.Path.{_≡_, refl, sym, ap, _∙_, subst}
 use mathlib.Core.Logic.{_⊎_, inl, inr}
 use mathlib.Core.Bool.{Bool, true, false, _||_}

@@ -1,5 +1,5 @@
-// Definitions that call themselves: the table without self-calls that stands for a college's table, and the originals of
-// its nodes, branches and names (document 02, Item 1).
+// Definitions that call themselves: the table without self-calls that stands for a college's table, and the originals
+// of its nodes, branches and names (document 02, Item 1).
 //
 // Each call takes the college's own table. It checks causes 1 to 9 with self-calls spared, then that the rewritten
 // table is within the bounds, and last what it is asked for; a refusal leaves the output as it was.

@@ -1,6 +1,7 @@
 -- `rewriting::rewrite` meets its contract: what was prepared decides, then the room.
 use mathlib.Core.Path.{_∙_}
-use Rattle.rewriting.proofs.Laws.Preparation.{prepared-ready, prepared-refused, few-copies, small-counts, size-is, refused-rewriting, no-room, all-written}
+use Rattle.rewriting.proofs.Laws.Preparation.{prepared-ready, prepared-refused, few-copies, small-counts, size-is, refused-rewriting, no-room}
+use Rattle.rewriting.proofs.Laws.Preparation.{all-written}
 use borrow.Author.Needs.{needs}
 use Rattle.rewriting.proofs.rewrite.Statement.{statement}
 use Rattle.rewriting.proofs.rewrite.Tie as tie

@@ -22,7 +22,8 @@ returns-2 : tie.Need-returns-2
 unfolding targetIn
 returns-2 c =
     let c2 = c .before .before in
-    rw (c2 .before .if1 .left, sym (c2 .calls-itself .ensures) ∙ c .before .if2 .taken, ← c2 .before .before .field3 .ensures .is) (c .copy-definition .ensures)
+    rw (c2 .before .if1 .left, sym (c2 .calls-itself .ensures) ∙ c .before .if2 .taken, ← c2 .before .before .field3 .ensures .is)
+    (c .copy-definition .ensures)
 
 returns-3 : tie.Need-returns-3
 unfolding targetIn
