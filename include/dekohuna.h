@@ -30,6 +30,10 @@
  * the places, so it is the length of a marking. A replay of no numbers leaves the initial marking. A firing and a run
  * start at the marking that is lent, whatever it is; a run fires the lowest enabled transition each time. Read tells
  * which state a marking stands for.
+ *
+ * Definitions that call themselves. Rewrite and the calls for originals take a table with such definitions, and every
+ * other call refuses it by 9: rewrite it first, and lend the rewritten table to the others. There each such definition
+ * has a copy, and the two call each other. A table without self-calls is rewritten to itself.
  */
 #ifndef DEKOHUNA_H
 #define DEKOHUNA_H
@@ -50,13 +54,14 @@ enum dekohuna_code {
 
     /* a table under 13 words */
     DEKOHUNA_TABLE_SHORT = 1,
-    /* a count beyond its bound */
+    /* a count beyond its bound, of the table or of the rewritten one */
     DEKOHUNA_TABLE_COUNTS = 2,
     /* an offset or the table's length not as the counts give */
     DEKOHUNA_TABLE_LAYOUT = 3,
     /* unknown kind; a field that must be 0 is not; choice of 0 branches */
     DEKOHUNA_TABLE_KINDS = 4,
-    /* a number or range outside its section; New, receive or formal names no bound name */
+    /* a number or range outside its section; New, receive or formal names no bound name; a number that the rewritten
+       table does not have */
     DEKOHUNA_TABLE_RANGES = 5,
     /* a node not exactly once a root or child; child not above its parent; branch ranges, or non-empty argument
        ranges, not consecutive from 0 to the count in node order */
@@ -66,7 +71,7 @@ enum dekohuna_code {
     /* a name used where not held (publics are held everywhere) */
     DEKOHUNA_TABLE_SCOPE = 8,
     /* entry definition of another thread or with formals; call into another thread or to the caller's own
-       definition */
+       definition, which rewrite and the calls for originals spare */
     DEKOHUNA_TABLE_CALLS = 9,
     /* lent output shorter than the answer */
     DEKOHUNA_OUTPUT_SHORT = 10,
@@ -144,6 +149,18 @@ uint64_t dekohuna_open_steps(const uint16_t *table, size_t table_words, const ui
  * Causes 1 to 9, 18, 19, then 10. */
 uint64_t dekohuna_step(const uint16_t *table, size_t table_words, const uint16_t *state, size_t state_words,
                        uint32_t kind, uint32_t a, uint32_t b, uint16_t *next, size_t next_words);
+
+/* Writes the rewritten table, in which no definition calls itself, to the start of `out`; the value is the words
+ * written, at most 2,229. Causes 1 to 9, with self-calls spared, then 2 where the rewritten table is beyond a bound,
+ * then 10. */
+uint64_t dekohuna_rewrite(const uint16_t *table, size_t table_words, uint16_t *out, size_t out_words);
+
+/* Tell which node, branch or name of the table one of the rewritten table is, or is a copy of; the value is its
+ * number. The table is the one that was rewritten, not the rewritten one. Public names are themselves. Causes 1 to 9
+ * and 2, as of dekohuna_rewrite, then 5 where the rewritten table does not have the number. */
+uint64_t dekohuna_original_node(const uint16_t *table, size_t table_words, uint32_t number);
+uint64_t dekohuna_original_branch(const uint16_t *table, size_t table_words, uint32_t number);
+uint64_t dekohuna_original_name(const uint16_t *table, size_t table_words, uint32_t number);
 
 #ifdef __cplusplus
 }

@@ -1,4 +1,5 @@
-/* Builds the net of a table, runs it from its initial marking, and reads the state back.
+/* Rewrites a table whose definitions call themselves, builds its net, runs it from its initial marking, and reads the
+ * state back. What is a copy is shown with the number in the table that it is a copy of.
  *
  *     run [TABLE-FILE [LIMIT]]
  *
@@ -69,6 +70,13 @@ static struct table read_table(const char *path) {
     return table;
 }
 
+/* The table in which no definition calls itself; one that is so already is rewritten to itself. */
+static struct table rewrite(struct table table) {
+    static uint16_t words[2229]; /* the longest table */
+    struct table rewritten = {words, accepted(dekohuna_rewrite(table.words, table.count, words, 2229))};
+    return rewritten;
+}
+
 /* The image of a table, in a buffer of just its size. */
 static struct image build(struct table table) {
     size_t words = accepted(dekohuna_size(table.words, table.count));
@@ -77,19 +85,49 @@ static struct image build(struct table table) {
     return image;
 }
 
-/* A firing, by what its label says. */
-static void print_firing(struct image image, uint32_t number) {
+/* A number of the rewritten table behind a text, and, of a copy, the number that it is a copy of. */
+static void print_number(const char *text, uint32_t number, uint64_t original) {
+    size_t first = accepted(original);
+    printf("%s%" PRIu32, text, number);
+    if (first != number)
+        printf(" (copy of %zu)", first);
+}
+
+static void print_node(const char *text, struct table table, uint32_t node) {
+    print_number(text, node, dekohuna_original_node(table.words, table.count, node));
+}
+
+static void print_branch(const char *text, struct table table, uint32_t branch) {
+    print_number(text, branch, dekohuna_original_branch(table.words, table.count, branch));
+}
+
+static void print_name(const char *text, struct table table, uint32_t name) {
+    print_number(text, name, dekohuna_original_name(table.words, table.count, name));
+}
+
+/* What a label says, by the table that was rewritten. */
+static void print_label(struct table table, uint32_t kind, uint32_t a, uint32_t b) {
+    static const char *names[3] = {" copies a value to formal ", " releases name ", " makes a new value for name "};
+    if (kind == 3 || kind == 4)
+        print_branch("branch ", table, a);
+    else
+        print_node("node ", table, a);
+    if (kind == 3)
+        printf(" goes on silently");
+    else if (kind == 4)
+        print_branch(" sends to branch ", table, b);
+    else if (kind < 3)
+        print_name(names[kind], table, b);
+    else
+        printf(" calls its definition");
+}
+
+/* A firing, by its label. */
+static void print_firing(struct table table, struct image image, uint32_t number) {
     const uint32_t *label = image.words + image.words[6] + 6 * (size_t)number;
-    uint32_t a = label[1], b = label[2];
-    printf("fired %" PRIu32 " (%" PRIu32 " %" PRIu32 " %" PRIu32 "): ", number, label[0], a, b);
-    switch (label[0]) {
-    case 0: printf("node %" PRIu32 " copies a value to formal %" PRIu32 "\n", a, b); break;
-    case 1: printf("node %" PRIu32 " releases name %" PRIu32 "\n", a, b); break;
-    case 2: printf("node %" PRIu32 " makes a new value for name %" PRIu32 "\n", a, b); break;
-    case 3: printf("branch %" PRIu32 " goes on silently\n", a); break;
-    case 4: printf("branch %" PRIu32 " sends to branch %" PRIu32 "\n", a, b); break;
-    default: printf("node %" PRIu32 " calls its definition\n", a); break;
-    }
+    printf("fired %" PRIu32 " (%" PRIu32 " %" PRIu32 " %" PRIu32 "): ", number, label[0], label[1], label[2]);
+    print_label(table, label[0], label[1], label[2]);
+    printf("\n");
 }
 
 static const char *reason(unsigned code) {
@@ -101,21 +139,25 @@ static const char *reason(unsigned code) {
     }
 }
 
-/* The node of each thread, then the value of each bound name. */
-static void print_state(struct table table, const uint16_t *state) {
-    size_t publics = table.words[0], bounds = table.words[1], threads = table.words[3];
-    for (size_t t = 0; t < threads; t++)
-        printf("thread %zu stands at node %u\n", t, state[t]);
-    for (size_t i = 0; i < bounds; i++) {
-        unsigned value = state[threads + i];
-        if (value == 65535)
-            printf("name %zu is not held\n", publics + i);
+/* The node of each thread, then the value of each bound name; of a state of so many words. */
+static void print_state(struct table table, const uint16_t *state, size_t words) {
+    size_t publics = table.words[0], threads = table.words[3];
+    for (size_t t = 0; t < threads; t++) {
+        printf("thread %zu stands at", t);
+        print_node(" node ", table, state[t]);
+        printf("\n");
+    }
+    for (size_t i = threads; i < words; i++) {
+        print_name("name ", table, (uint32_t)(publics + i - threads));
+        if (state[i] == 65535)
+            printf(" is not held\n");
         else
-            printf("name %zu has the %s value %u\n", publics + i, value < publics ? "public" : "private", value);
+            printf(" has the %s value %u\n", state[i] < publics ? "public" : "private", state[i]);
     }
 }
 
-static void run(struct table table, uint64_t limit) {
+static void run(struct table own, uint64_t limit) {
+    struct table table = rewrite(own);
     struct image image = build(table);
     printf("table of %zu words: net of %" PRIu32 " places and %" PRIu32 " transitions in %zu words\n", table.count,
            image.words[0], image.words[1], image.count);
@@ -127,12 +169,12 @@ static void run(struct table table, uint64_t limit) {
     uint64_t word = dekohuna_run(image.words, image.count, marking, places, limit, history, (size_t)limit);
     size_t firings = (size_t)DEKOHUNA_VALUE(word);
     for (size_t i = 0; i < firings; i++)
-        print_firing(image, history[i]);
+        print_firing(own, image, history[i]);
     printf("firings made: %zu, %s (%u)\n", firings, reason(DEKOHUNA_CODE(word)), DEKOHUNA_CODE(word));
 
     uint16_t state[40]; /* at most 8 threads and 32 bound names */
-    accepted(dekohuna_read(table.words, table.count, marking, places, state, 40));
-    print_state(table, state);
+    size_t words = accepted(dekohuna_read(table.words, table.count, marking, places, state, 40));
+    print_state(own, state, words);
     free(history);
     free(marking);
     free(image.words);

@@ -149,8 +149,8 @@ impl Table {
         })
     }
 
-    /// Cause 9: "entry definition of another thread or with formals; call into another thread
-    /// or to the caller's own definition".
+    /// Cause 9: "entry definition of another thread or with formals; call into another thread",
+    /// a call "to the caller's own definition" spared.
     pub(crate) fn entries_and_calls_are_allowed(&self) -> bool {
         let entry_allowed = |(thread, &entry): (usize, &usize)| {
             let definition = &self.definitions[entry];
@@ -159,7 +159,6 @@ impl Table {
         let call_allowed = |node: usize| match self.nodes[node] {
             Node::Call { definition, .. } => {
                 self.definitions[definition].thread == self.thread(node)
-                    && definition != self.owners[node]
             }
             _ => true,
         };

@@ -2,21 +2,23 @@
 
 use crate::generate::{accepted, Shape};
 use crate::random::Random;
-use crate::table::{accept, Branch, Node, Table, BOUNDS};
+use crate::table::{accept_sparing, Branch, Node, Table, BOUNDS};
 
-/// A table that document 01 refuses by `cause`, 1 to 9.
+/// A table that document 01 refuses by `cause`, 1 to 9; one with self-calls, where the shape has
+/// them, is so refused when they are spared.
 pub fn damaged(random: &mut Random, shape: Shape, cause: u32) -> Vec<u16> {
     loop {
         let mut words = accepted(random, shape);
-        if spoil(random, &mut words, cause) {
+        if spoil(random, &mut words, cause, shape.self_calls) {
             return words;
         }
     }
 }
 
-/// Spoils an accepted table so that it fails by `cause`; false where it has nothing to spoil so.
-fn spoil(random: &mut Random, words: &mut Vec<u16>, cause: u32) -> bool {
-    let Ok(table) = accept(words) else {
+/// Spoils an accepted table so that it fails by `cause`, with self-calls spared or not; false where
+/// it has nothing to spoil so.
+pub fn spoil(random: &mut Random, words: &mut Vec<u16>, cause: u32, spared: bool) -> bool {
+    let Ok(table) = accept_sparing(words) else {
         return false;
     };
     match cause {
@@ -28,7 +30,7 @@ fn spoil(random: &mut Random, words: &mut Vec<u16>, cause: u32) -> bool {
         6 => put(random, words, &misplaced_nodes(&table)),
         7 => put(random, words, &misbound_names(&table)),
         8 => put(random, words, &unheld_names(&table)),
-        9 => put(random, words, &misdirected_calls(&table)),
+        9 => put(random, words, &misdirected_calls(&table, spared)),
         _ => false,
     }
 }
@@ -273,8 +275,8 @@ fn unheld_names(table: &Table) -> Vec<Change> {
 }
 
 /// Cause 9: an entry becomes a definition of another thread or with formals; a call is aimed at
-/// its own definition or into another thread, with as many formals.
-fn misdirected_calls(table: &Table) -> Vec<Change> {
+/// its own definition, unless that is spared, or into another thread, with as many formals.
+fn misdirected_calls(table: &Table, spared: bool) -> Vec<Change> {
     let offsets = offsets(table);
     let mut changes: Vec<Change> = Vec::new();
     for thread in 0..table.entries.len() {
@@ -288,7 +290,8 @@ fn misdirected_calls(table: &Table) -> Vec<Change> {
         if let Node::Call { definition, .. } = *node {
             let formals = table.definitions[definition].formal_count;
             for (other, called) in table.definitions.iter().enumerate() {
-                let barred = other == table.owners[number] || called.thread != table.thread(number);
+                let itself = other == table.owners[number] && !spared;
+                let barred = itself || called.thread != table.thread(number);
                 if barred && called.formal_count == formals {
                     changes.push((offsets.nodes + 3 * number + 1, other as u16));
                 }

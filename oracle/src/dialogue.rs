@@ -11,7 +11,7 @@ pub fn dialogue(random: &mut Random, shape: Shape) -> Vec<u16> {
     let least = usize::from(random.chance(90)).min(shape.publics);
     let publics = random.between(least, shape.publics);
     let threads = random.between(shape.threads.min(2), shape.threads);
-    let draft = Draft::new(publics, threads);
+    let draft = Draft::new(publics, threads, shape.self_calls);
     let mut course = Course {
         draft,
         shape,

@@ -2,6 +2,7 @@
 
 use std::ops::Range;
 
+use crate::encode::encode;
 use crate::random::Random;
 
 /// A name before numbering.
@@ -64,13 +65,16 @@ pub(crate) struct Draft {
     pub nodes: Vec<Node>,
     /// Arguments of all calls.
     pub arguments: usize,
+    /// Whether a definition may call itself.
+    self_calls: bool,
 }
 
 impl Draft {
-    pub fn new(publics: usize, threads: usize) -> Draft {
+    pub fn new(publics: usize, threads: usize, self_calls: bool) -> Draft {
         Draft {
             publics,
             threads,
+            self_calls,
             ..Draft::default()
         }
     }
@@ -95,7 +99,7 @@ impl Draft {
     pub fn callable(&self, caller: usize, names: bool) -> Vec<usize> {
         let allowed = |&called: &usize| {
             let count = self.definitions[called].formals.len();
-            called != caller
+            (called != caller || self.self_calls)
                 && self.definitions[called].thread == self.definitions[caller].thread
                 && (count == 0 || names)
                 && self.arguments + count <= 256
@@ -272,19 +276,4 @@ impl Writer {
             }
         }
     }
-}
-
-/// A table's words from P and its six sections.
-pub fn encode(publics: usize, sections: [Vec<u16>; 6]) -> Vec<u16> {
-    let widths = [1, 4, 1, 3, 4, 1];
-    let count = |(section, width): (&Vec<u16>, usize)| (section.len() / width) as u16;
-    let mut words = vec![publics as u16];
-    words.extend(sections.iter().zip(widths).map(count));
-    let mut offset = 13;
-    for section in &sections {
-        words.push(offset as u16);
-        offset += section.len();
-    }
-    words.extend(sections.into_iter().flatten());
-    words
 }

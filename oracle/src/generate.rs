@@ -3,8 +3,9 @@
 use crate::dialogue::dialogue;
 use crate::draft::{Branch, Definition, Draft, Name, Node, FORMAL, INPUT, RESTRICTED};
 use crate::random::Random;
+use crate::table::check;
 
-pub use crate::draft::encode;
+pub use crate::encode::encode;
 
 /// The most a table may have of each thing, within document 01's bounds.
 #[derive(Clone, Copy, Debug)]
@@ -20,6 +21,8 @@ pub struct Shape {
     /// Branches of one choice.
     pub branches: usize,
     pub depth: usize,
+    /// Whether definitions call themselves, which document 02's rewriting accepts.
+    pub self_calls: bool,
 }
 
 impl Shape {
@@ -32,6 +35,7 @@ impl Shape {
         nodes: 24,
         branches: 3,
         depth: 6,
+        self_calls: false,
     };
 
     pub const WIDE: Shape = Shape {
@@ -43,6 +47,7 @@ impl Shape {
         nodes: 60,
         branches: 4,
         depth: 9,
+        self_calls: false,
     };
 
     /// Up to document 01's own bounds.
@@ -55,16 +60,22 @@ impl Shape {
         nodes: 256,
         branches: 8,
         depth: 14,
+        self_calls: false,
     };
 }
 
-/// The words of a random table that document 01 accepts: of bodies grown at random, or of a
-/// dialogue.
+/// The words of a random table that document 01 accepts, or in which some definition calls itself
+/// and all else is right: of bodies grown at random, or of a dialogue.
 pub fn accepted(random: &mut Random, shape: Shape) -> Vec<u16> {
-    if random.chance(40) {
-        dialogue(random, shape)
-    } else {
-        grown(random, shape)
+    loop {
+        let words = if random.chance(40) {
+            dialogue(random, shape)
+        } else {
+            grown(random, shape)
+        };
+        if !shape.self_calls || check(&words) == 9 {
+            return words;
+        }
     }
 }
 
@@ -75,7 +86,7 @@ pub fn grown(random: &mut Random, shape: Shape) -> Vec<u16> {
     // Now and then a table without bound names.
     let bound = if random.chance(5) { 0 } else { shape.bound };
     let mut grower = Grower {
-        draft: Draft::new(publics, threads),
+        draft: Draft::new(publics, threads, shape.self_calls),
         shape: Shape { bound, ..shape },
         random,
         roots: 0,

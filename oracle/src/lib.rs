@@ -1,6 +1,6 @@
-//! A second reading of document 01: the table check, the image builder and its size, firing,
-//! replay, run, reading back, and the plain process, written from the document and sharing no code
-//! with the project it is compared with.
+//! A second reading of document 01 and of document 02's item 1: the table check, the rewriting of
+//! self-calls, the image builder and its size, firing, replay, run, reading back, and the plain
+//! process, written from the documents and sharing no code with the project it is compared with.
 //!
 //! The calls exported here are total. A refusal changes no lent buffer, except that a replay or run
 //! stopped on its way leaves exactly the firings made.
@@ -8,12 +8,14 @@
 #![forbid(unsafe_code)]
 
 mod arcs;
+pub mod bounds;
 pub mod builder;
 mod causes;
 pub mod damage;
 mod decode;
 mod dialogue;
 mod draft;
+mod encode;
 pub mod generate;
 pub mod listing;
 pub mod net;
@@ -22,6 +24,7 @@ pub mod process;
 pub mod program;
 pub mod random;
 pub mod readback;
+pub mod rewrite;
 pub mod size;
 pub mod table;
 pub mod vectors;
@@ -31,5 +34,6 @@ pub use listing::listing;
 pub use net::{fire, replay, run, Reason, Refusal, RunAnswer};
 pub use process::{open_steps, start, step};
 pub use readback::read;
+pub use rewrite::{original_branch, original_name, original_node, rewrite};
 pub use size::size;
 pub use table::check;

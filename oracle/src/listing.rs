@@ -4,6 +4,7 @@ use std::fmt::Write;
 
 use crate::builder::build;
 use crate::net::Image;
+use crate::rewrite::rewritten;
 use crate::table::check;
 
 /// "an image above 16,384 words 10".
@@ -32,8 +33,9 @@ pub fn listing(bytes: &[u8]) -> String {
     }
 }
 
+/// "the listing, which rewrites first" (document 02, item 1).
 fn list(bytes: &[u8]) -> Result<String, u32> {
-    let words = words_of(bytes)?;
+    let words = rewritten(&words_of(bytes)?)?;
     let mut out = vec![0; LISTED_WORDS];
     let length = build(&words, &mut out)?;
     let mut text = numbers(&out[..5]);

@@ -51,8 +51,8 @@ pub fn step(
 ) -> Result<usize, u32> {
     let table = accept(table)?;
     let state = State::parse(&table, state).ok_or(18u32)?;
-    let step = state.open_step(&table, [kind, a, b]).ok_or(19u32)?;
-    write_words(&state.after(&table, step).words(&table), next)
+    let after = state.stepped(&table, [kind, a, b]).ok_or(19u32)?;
+    write_words(&after.words(&table), next)
 }
 
 /// Cause 10: "lent output shorter than the answer"; "Of a longer output only the answer's part
@@ -262,6 +262,12 @@ impl State {
         labels
     }
 
+    /// The state after the step of a label; `None` where it is not open.
+    pub fn stepped(&self, table: &Table, label: Label) -> Option<State> {
+        let step = self.open_step(table, label)?;
+        Some(self.after(table, step))
+    }
+
     /// The state after an open step.
     fn after(&self, table: &Table, step: Step) -> State {
         let mut next = self.clone();
@@ -298,7 +304,8 @@ impl State {
         }
     }
 
-    /// "Call: all formals take the arguments' values, the caller's names end."
+    /// "Call: all formals take the arguments' values, the caller's names end." "There a self-call
+    /// reads all its arguments before any name ends." (document 02, item 1)
     fn call(&mut self, table: &Table, node: usize) {
         if let Node::Call { definition, .. } = table.nodes[node] {
             let arguments = &table.arguments[table.argument_range(node)];

@@ -137,6 +137,17 @@ pub fn check(words: &[u16]) -> u32 {
 
 /// "Checked in number order save as said below, each over the whole table before the next."
 pub fn accept(words: &[u16]) -> Result<Table, u32> {
+    let table = accept_sparing(words)?;
+    require(
+        !(0..table.nodes.len()).any(|node| table.calls_itself(node)),
+        9,
+    )?;
+    Ok(table)
+}
+
+/// A college's own table: "Only here and in the listing, which rewrites first, does cause 9 spare
+/// self-calls." (document 02, item 1)
+pub fn accept_sparing(words: &[u16]) -> Result<Table, u32> {
     let sections = Sections::cut(words)?;
     let mut table = sections.decode().ok_or(4u32)?;
     require(table.numbers_lie_in_sections(), 5)?;
@@ -159,7 +170,7 @@ pub(crate) fn require(holds: bool, cause: u32) -> Result<(), u32> {
 impl Table {
     /// "A node's held names are its definition's formals in order, then the names bound by New
     /// and receive on the way down from the root." A parent's number is below its children's.
-    fn descend(&mut self) {
+    pub(crate) fn descend(&mut self) {
         self.owners = vec![0; self.nodes.len()];
         self.held = vec![Vec::new(); self.nodes.len()];
         self.standing = vec![0; self.branches.len()];
@@ -234,6 +245,22 @@ impl Table {
                 .map(|branch| (branch.next(), branch.binds()))
                 .collect(),
         }
+    }
+
+    /// Whether a node is a Call of the definition that it is in.
+    pub fn calls_itself(&self, node: usize) -> bool {
+        matches!(self.nodes[node], Node::Call { definition, .. } if definition == self.owners[node])
+    }
+
+    /// The definitions "with a direct self-call", in order.
+    pub fn self_calling(&self) -> Vec<usize> {
+        let mut definitions: Vec<usize> = (0..self.nodes.len())
+            .filter(|&node| self.calls_itself(node))
+            .map(|node| self.owners[node])
+            .collect();
+        definitions.sort_unstable();
+        definitions.dedup();
+        definitions
     }
 
     /// The thread a node belongs to.

@@ -7,9 +7,12 @@ mod foreign;
 mod markings;
 mod play;
 mod requests;
+mod rewriting;
+mod self_calls;
 mod shapes;
 mod worked;
 
 pub use answers::answers;
 pub use count::counts;
-pub use requests::requests;
+pub use requests::{requests, rewriting_requests};
+pub use self_calls::SELF_CALL_SHAPES;

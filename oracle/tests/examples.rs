@@ -1,17 +1,23 @@
 //! The tables of examples/: what their processes can do.
 
-use std::collections::HashMap;
+use std::collections::{HashMap, HashSet};
 use std::path::Path;
 
 use oracle::listing::words_of;
-use oracle::{check, open_steps, start, step};
+use oracle::rewrite::rewritten;
+use oracle::table::accept_sparing;
+use oracle::{check, open_steps, process, start, step};
 
 type State = Vec<u16>;
 
-fn table_of(example: &str) -> Vec<u16> {
+fn words_in(example: &str, file: &str) -> Vec<u16> {
     let folder = Path::new(env!("CARGO_MANIFEST_DIR")).join("../examples");
-    let bytes = std::fs::read(folder.join(example).join("table")).expect("the table file");
-    let table = words_of(&bytes).expect("an even number of bytes");
+    let bytes = std::fs::read(folder.join(example).join(file)).expect("the table file");
+    words_of(&bytes).expect("an even number of bytes")
+}
+
+fn table_of(example: &str) -> Vec<u16> {
+    let table = words_in(example, "table");
     assert_eq!(check(&table), 0);
     table
 }
@@ -113,5 +119,40 @@ fn sessions_are_handed_over() {
     ];
     for names in shared {
         assert!(share_a_private_value(&table, names), "{names:?}");
+    }
+}
+
+/// How many states a college's own table can reach.
+fn own_states(words: &[u16]) -> usize {
+    let table = accept_sparing(words).expect("a table with self-calls");
+    let mut found = HashSet::new();
+    let mut waiting = vec![process::State::starting(&table).words(&table)];
+    while let Some(words) = waiting.pop() {
+        let state = process::State::parse(&table, &words).expect("a state");
+        let after = |label| {
+            state
+                .stepped(&table, label)
+                .expect("an open step")
+                .words(&table)
+        };
+        if found.insert(words) {
+            waiting.extend(state.open_labels(&table).into_iter().map(after));
+        }
+    }
+    found.len()
+}
+
+#[test]
+fn the_next_script_is_called_for() {
+    let table = words_in("next-script", "table");
+    assert_eq!(check(&table), 9);
+    let copied = words_in("next-script", "rewritten");
+    assert_eq!(rewritten(&table), Ok(copied.clone()));
+    let states = reachable(&copied);
+    assert_eq!((own_states(&table), states.len()), (16, 23));
+    assert!(states.values().all(|next| !next.is_empty()));
+    let (s, m, f, x, copy) = (2, 3, 4, 5, 4);
+    for names in [[s, x], [m, f], [s + copy, x + copy], [m + copy, f + copy]] {
+        assert!(share_a_private_value(&copied, &names), "{names:?}");
     }
 }

@@ -5,7 +5,9 @@ mod common;
 use common::{Label, Net};
 use oracle::generate::{accepted, Shape};
 use oracle::random::Random;
+use oracle::rewrite::rewritten;
 use oracle::{build, check, fire, listing, open_steps, read, replay, run, size, start, step};
+use oracle::{original_branch, original_name, original_node};
 use oracle::{Reason, Refusal, RunAnswer};
 
 /// Numbers likely to be at an edge.
@@ -32,6 +34,7 @@ fn edge(random: &mut Random, word: u64, most: u64) -> u64 {
 fn spoilt_tables_have_one_cause_in_every_call() {
     let mut random = Random::new(31);
     let mut causes = [0; 10];
+    let mut spared = 0;
     for _ in 0..30_000 {
         let mut words = accepted(&mut random, Shape::SMALL);
         for _ in 0..random.between(1, 3) {
@@ -59,10 +62,30 @@ fn spoilt_tables_have_one_cause_in_every_call() {
         }
         let bytes: Vec<u8> = words.iter().flat_map(|word| word.to_le_bytes()).collect();
         let text = listing(&bytes);
-        assert_eq!(cause != 0, text == format!("refused {cause}\n"));
+        match rewritten(&words) {
+            // The rewriting spares self-calls, which are 9 elsewhere.
+            Ok(table) => {
+                assert!(cause == 0 && table == words || cause == 9 && table != words);
+                assert!(text == "refused 10\n" || !text.starts_with("refused"));
+                spared += usize::from(cause == 9);
+            }
+            Err(other) => {
+                assert!(other == cause || other == 2 && cause == 9);
+                assert_eq!(text, format!("refused {other}\n"));
+            }
+        }
+        let most = u64::from(u32::MAX);
+        let number = edge(&mut random, u64::from(words[4]), most) as u32;
+        for original in [original_node, original_branch, original_name] {
+            match (original(&words, number), rewritten(&words)) {
+                (Ok(_), rewritten) => assert!(rewritten.is_ok()),
+                (Err(last), Ok(_)) => assert_eq!(last, 5),
+                (Err(other), Err(cause)) => assert_eq!(other, cause),
+            }
+        }
     }
-    println!("{causes:?}");
-    assert!(causes[2..].iter().all(|&count| count > 100));
+    println!("{causes:?}, {spared} spared");
+    assert!(causes[2..].iter().all(|&count| count > 100) && spared > 20);
 }
 
 #[test]
@@ -72,7 +95,7 @@ fn arbitrary_words_are_refused() {
         let length = random.below(60);
         let high = [2, 16, 65536][random.below(3)];
         let words: Vec<u16> = (0..length).map(|_| random.below(high) as u16).collect();
-        assert!(check(&words) != 0);
+        assert!(check(&words) != 0 && rewritten(&words).is_err());
     }
 }
 

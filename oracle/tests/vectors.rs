@@ -1,16 +1,26 @@
-//! The requests and answers of crates/vectors.
+//! The requests and answers of crates/vectors: how long the requests are, what they hold, and how
+//! they are answered.
 
 mod common;
 
+use std::collections::HashMap;
+
 use common::E;
-use oracle::vectors::{answers, counts, requests};
+use oracle::vectors::{answers, counts, requests, rewriting_requests, SELF_CALL_SHAPES};
 
 /// How many bytes of its input the program crates/vectors reads.
 const READ: usize = 1_048_576;
 
+const CALLER: &str = "t 0 0 1 1 1 0 0 13 13 17 18 21 21 0 0 0 0 0 3 0 0";
+
+fn answer_to(requests: &[&str]) -> Vec<String> {
+    let text = answers(&[&[CALLER], requests].concat().join("\n")).unwrap();
+    text.lines().skip(1).map(str::to_string).collect()
+}
+
 #[test]
-fn requests_fit_the_program() {
-    assert!(requests().len() <= READ);
+fn the_requests_leave_a_twentieth_of_the_input_to_spare() {
+    assert!(requests().len() <= READ / 20 * 19);
 }
 
 #[test]
@@ -33,5 +43,66 @@ fn every_call_meets_every_cause_of_a_table() {
                 "{found}"
             );
         }
+    }
+}
+
+#[test]
+fn a_rewriting_is_answered_with_the_words_lent() {
+    let written = "0 0 2 1 2 0 0 13 13 21 22 28 28 0 0 0 0 0 1 0 0 0 3 1 0 3 0 0";
+    let left = ["43690"; 27].join(" ");
+    assert_eq!(
+        answer_to(&["v 28", "v 29", "v 27", "v 0", "v", "b 9"]),
+        [
+            &format!("v 0 28 28:{written}"),
+            &format!("v 0 28 29:{written} 43690"),
+            &format!("v 10 0 27:{left}"),
+            "v 10 0 0:",
+            "v 10 0 0:",
+            // Nothing is kept: the table still calls itself.
+            "b 9 0 9:2863311530 2863311530 2863311530 2863311530 2863311530 2863311530 \
+             2863311530 2863311530 2863311530",
+        ]
+    );
+    let [most, more] = ["v 4096", "v 4097"].map(|request| answer_to(&[request]));
+    assert!(most == more && most[0].starts_with("v 0 28 4096#"));
+}
+
+#[test]
+fn a_number_is_read_back_by_its_kind() {
+    assert_eq!(
+        answer_to(&["a 0 0", "a 0 1", "a 0 2", "a 1 0", "a 2 0", "a"]),
+        ["a 0 0", "a 0 0", "a 5 0", "a 5 0", "a 5 0", "a 0 0"]
+    );
+    // The kind modulo 3, the number modulo 2³².
+    assert_eq!(
+        answer_to(&["a 3 1", "a 4 0", "a 5 0", "a 0 65536", "a 0 4294967297"]),
+        ["a 0 0", "a 5 0", "a 5 0", "a 5 0", "a 0 0"]
+    );
+}
+
+#[test]
+fn every_shape_and_cause_is_asked_for() {
+    let counts = counts(&rewriting_requests()).unwrap();
+    let counts: HashMap<&str, usize> = counts
+        .lines()
+        .filter_map(|line| line.rsplit_once(' '))
+        .map(|(found, count)| (found, count.parse().unwrap()))
+        .collect();
+    let at_least = |least: usize, found: &str| {
+        let count = counts.get(found).copied().unwrap_or(0);
+        assert!(count >= least, "{found}: {count}");
+    };
+    for shape in SELF_CALL_SHAPES {
+        at_least(10, &format!("shape {shape}"));
+    }
+    for cause in 0..=10 {
+        at_least(5, &format!("cause v {cause:>2}"));
+    }
+    for cause in 0..=9 {
+        at_least(15, &format!("cause a {cause:>2}"));
+    }
+    // What follows on the rewritten tables.
+    for letter in ["b", "f", "r", "u", "g", "o", "k"] {
+        at_least(100, &format!("cause {letter}  0"));
     }
 }

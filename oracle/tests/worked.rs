@@ -124,7 +124,7 @@ fn the_stopped_table_builds_its_nine_words() {
     let mut call = STOPPED;
     call[18..21].copy_from_slice(&[3, 0, 0]);
     assert_eq!(check(&call), 9);
-    assert_eq!(listing(&bytes(&call)), "refused 9\n");
+    assert_eq!(build(&call, &mut []), Err(9));
 }
 
 #[test]

@@ -91,6 +91,15 @@ extern "C" {
         next: *mut u16,
         next_words: usize,
     ) -> u64;
+    fn dekohuna_rewrite(
+        table: *const u16,
+        table_words: usize,
+        out: *mut u16,
+        out_words: usize,
+    ) -> u64;
+    fn dekohuna_original_node(table: *const u16, table_words: usize, number: u32) -> u64;
+    fn dekohuna_original_branch(table: *const u16, table_words: usize, number: u32) -> u64;
+    fn dekohuna_original_name(table: *const u16, table_words: usize, number: u32) -> u64;
 }
 
 // In every call below each pointer and length are those of one slice, and slices that are written are borrowed alone.
@@ -192,4 +201,20 @@ pub fn step(table: &[u16], state: &[u16], label: Label, next: &mut [u16]) -> Ans
             next.len(),
         )
     })
+}
+
+pub fn rewrite(table: &[u16], out: &mut [u16]) -> Answer {
+    answer(unsafe { dekohuna_rewrite(table.as_ptr(), table.len(), out.as_mut_ptr(), out.len()) })
+}
+
+pub fn original_node(table: &[u16], number: u32) -> Answer {
+    answer(unsafe { dekohuna_original_node(table.as_ptr(), table.len(), number) })
+}
+
+pub fn original_branch(table: &[u16], number: u32) -> Answer {
+    answer(unsafe { dekohuna_original_branch(table.as_ptr(), table.len(), number) })
+}
+
+pub fn original_name(table: &[u16], number: u32) -> Answer {
+    answer(unsafe { dekohuna_original_name(table.as_ptr(), table.len(), number) })
 }

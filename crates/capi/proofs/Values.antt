@@ -1,19 +1,26 @@
--- A word has its whole value where the value fits 56 bits, and what `build`, `size`, `start`, `step` and `read` count always does. The other calls count no
--- more than the elements of a buffer.
+-- A word has its whole value where the value fits 56 bits, and what `build`, `size`, `start`, `step`, `read`, `rewrite` and the calls for originals tell
+-- always does. The other calls count no more than the elements of a buffer.
 use mathlib.Core.Path.{_≡_, refl}
 use mathlib.Core.Bool.{Bool, true, false, not}
-use mathlib.Core.List.{List, _++_}
-use Prim.Native.Nat.{ℕ, _+_, _*_, _<_, _^_}
+use mathlib.Core.Logic.{_⊎_, inl, inr}
+use mathlib.Core.Option.{some}
+use mathlib.Core.List.{List, [], _++_}
+use Prim.Native.Nat.{ℕ, _+_, _*_, _≤_, _<_, _^_}
 use native.Mathlib.Nat.{mod-eq-of-lt}
 use native.Mathlib.Omega.{arith}
 use lib.Dec.{ltb}
 use lib.ListN.{length, drop}
-use Rattle.lists.specs.Lists.{pick, same}
+use borrow.Author.Tests.{ltb-true}
+use Rattle.lists.specs.Lists.{pick, same, word, range, member}
 use Rattle.lists.proofs.Tests.{same-true}
+use Rattle.lists.proofs.Ranges.{from-member}
+use Rattle.lists.proofs.Members.{member-getD, append-member}
 use Rattle.scheme.specs.Words.{threads, bounds}
 use Rattle.table.specs.Causes.{cause}
 use Rattle.scheme.specs.Scheme.{scheme}
 use Rattle.table.proofs.Accepted.{accepted}
+use Rattle.table.proofs.Passed.{passed}
+use Rattle.table.proofs.Inside.{Counted, counted}
 use Rattle.net.specs.Firing.{isMarking}
 use Rattle.places.specs.Values.{allValues}
 use Rattle.places.specs.Places.{places}
@@ -30,6 +37,11 @@ use Rattle.process.proofs.Stepping.{state-words-length}
 use Rattle.readback.specs.Answers.{readInto, readOutcome}
 use Rattle.readback.specs.Configurations.{stateShown}
 use Rattle.readback.specs.Reading.{refused, words, marked, configuration, standsForState, readBack}
+use Rattle.rewriting.specs.Rewriting.{rewritten, nodeOrigins, branchOrigins, nameOrigins}
+use Rattle.rewriting.specs.Outcomes.{rewriteCause, rewriteOutcome, originOutcome, originAt, originalNode, originalBranch, originalName}
+use Rattle.rewriting.proofs.Reading
+use Rattle.rewriting.proofs.Family.{node-of, branch-of, name-of}
+use Rattle.rewriting.proofs.Theorem.{rewritten-accepted}
 use Rattle.capi.specs.Returned.{packed, valueOr0}
 
 pub whole : (value code : ℕ) → value < 2 ^ 56 → packed value code ≡ value * 256 + code
@@ -116,3 +128,82 @@ read-fits w m lent =
     let shown = stateShown S (S .publics + U .privates) (configuration S U ms) in
     checked-fits w lent (readInto lent (readBack w m)) (λ h.
     into lent (not (isMarking (length (places S U)) m)) (not (standsForState S U ms)) (stateWords S shown) (words-fit w shown h))
+
+-- ---- rewriting
+
+few : (w : List ℕ) → rewriteCause w ≡ 0 → Counted (rewritten w)
+few w h = counted (rewritten w) (passed (rewritten w) (rewritten-accepted w h) .counts)
+
+-- the room that holds every rewritten table
+pub rewritten-longest : (w : List ℕ) → rewriteCause w ≡ 0 → length (rewritten w) ≤ 2229
+rewritten-longest w h =
+    let c = few w h in
+    omega (
+      arith,
+      Reading.whole-length w,
+      Reading.bounds-new w,
+      Reading.definitions-new w,
+      Reading.threads-new w,
+      Reading.nodes-new w,
+      Reading.branches-new w,
+      Reading.arguments-new w,
+      c .few-bounds,
+      c .few-definitions,
+      c .few-threads,
+      c .few-nodes,
+      c .few-branches,
+      c .few-arguments,
+    )
+
+pub rewrite-fits : (w lent : List ℕ) → Fits (rewriteOutcome w lent)
+unfolding rewriteOutcome
+rewrite-fits w lent = go (same (rewriteCause w) 0) refl
+  where
+    go : (b : Bool) → same (rewriteCause w) 0 ≡ b
+        → Fits (pick b (answered (length (rewritten w)) (rewritten w) lent) (refusal (rewriteCause w) lent))
+    go true e = answered-fits (length (rewritten w)) (rewritten w) lent (omega (arith, rewritten-longest w (same-true (rewriteCause w) 0 e)))
+    go false e = refusal-fits (rewriteCause w) lent
+
+-- originals: the numbers below a count, and copies of such
+module _ (n : ℕ) (copies : List ℕ) (small : n ≤ 256) (old : (x : ℕ) → member x copies ≡ true → x < n) where
+  original-below : (i : ℕ) → i < length (range n ++ copies) → word (range n ++ copies) i < 256
+  original-below i l = go (append-member (word (range n ++ copies) i) (range n) copies (member-getD (range n ++ copies) i l))
+    where
+      go : (member (word (range n ++ copies) i) (range n) ≡ true) ⊎ (member (word (range n ++ copies) i) copies ≡ true) → word (range n ++ copies) i < 256
+      go (inl m) = omega (arith, from-member (word (range n ++ copies) i) 0 n m .1)
+      go (inr m) = omega (arith, old (word (range n ++ copies) i) m)
+
+  original-fits : (number : ℕ) → Fits (originAt (range n ++ copies) number)
+  unfolding originAt
+  original-fits number = go (ltb number (length (range n ++ copies))) refl
+    where
+      go : (b : Bool) → ltb number (length (range n ++ copies)) ≡ b
+          → Fits (pick b (record { number = 0; value = some (word (range n ++ copies) number); left = [] }) (refusal 5 []))
+      go true e = record { fits = omega (arith, original-below number (ltb-true number (length (range n ++ copies)) e)) }
+      go false e = refusal-fits 5 []
+
+checked-origin : (w origins : List ℕ) (number : ℕ) → (rewriteCause w ≡ 0 → Fits (originAt origins number)) → Fits (originOutcome w origins number)
+unfolding originOutcome
+checked-origin w origins number f = go (same (rewriteCause w) 0) refl
+  where
+    go : (b : Bool) → same (rewriteCause w) 0 ≡ b → Fits (pick b (originAt origins number) (refusal (rewriteCause w) []))
+    go true e = f (same-true (rewriteCause w) 0 e)
+    go false e = refusal-fits (rewriteCause w) []
+
+pub original-node-fits : (w : List ℕ) (number : ℕ) → Fits (originalNode w number)
+unfolding nodeOrigins
+original-node-fits w number =
+    checked-origin w (nodeOrigins w) number (λ h.
+    original-fits _ _ (omega (arith, few w h .few-nodes, Reading.nodes-new w)) (λ x m. node-of w x m .0) number)
+
+pub original-branch-fits : (w : List ℕ) (number : ℕ) → Fits (originalBranch w number)
+unfolding branchOrigins
+original-branch-fits w number =
+    checked-origin w (branchOrigins w) number (λ h.
+    original-fits _ _ (omega (arith, few w h .few-branches, Reading.branches-new w)) (λ x m. branch-of w x m .0) number)
+
+pub original-name-fits : (w : List ℕ) (number : ℕ) → Fits (originalName w number)
+unfolding nameOrigins
+original-name-fits w number =
+    checked-origin w (nameOrigins w) number (λ h.
+    original-fits _ _ (omega (arith, few w h .few-publics, few w h .few-bounds, Reading.names-new w)) (λ x m. name-of w x m .1) number)

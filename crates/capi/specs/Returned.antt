@@ -38,7 +38,7 @@ abbrev pub valueOr0 : Option ℕ → ℕ
 valueOr0 none = 0
 valueOr0 (some n) = n
 
--- code 0 is success, 1 to 10, 13 and 17 to 19 the cause; value is the words written, or the labels listed
+-- code 0 is success, 1 to 10, 13 and 17 to 19 the cause; value is the words written, the labels listed, or the number read back
 abbrev pub ofOutcome : Outcome → Returned
 ofOutcome o = returned (packed (valueOr0 (o .value)) (o .number)) (o .left)
 

@@ -13,6 +13,8 @@ ghost use Rattle.process.specs.Answers.{answerNumber, answerValue};
 ghost use Rattle.process.specs.Outcomes.{startOutcome, openOutcome, stepOutcome};
 ghost use Rattle.readback.specs.Answers.{readOutcome};
 ghost use Rattle.readback.specs.Answers as Read;
+ghost use Rattle.rewriting.specs.Answers as Rewriting;
+ghost use Rattle.rewriting.specs.Outcomes.{rewriteOutcome, originalNode, originalBranch, originalName};
 ghost use Rattle.capi.specs.Returned.{packed, valueOr0, endingCode, ofSize};
 ghost use Rattle.capi.specs.Returned.{returned, ofBuild, ofFirings, ofOutcome, RunReturned};
 use builder::Built;
@@ -109,6 +111,18 @@ fn read_word(answer: readback::Answer) -> u64
         readback::Answer::NoMarking => pack(0, 13),
         readback::Answer::NoState => pack(0, 17),
         readback::Answer::NoRoom => pack(0, 10),
+    }
+}
+
+// The word of what rewriting a table, or reading a number back, answered.
+fn rewriting_word(answer: rewriting::Answer) -> u64
+    ensures { λ r. ⌜ r ≡ packed (valueOr0 (Rewriting.answerValue answer)) (Rewriting.answerNumber answer) ⌝ }
+{
+    match answer {
+        rewriting::Answer::Done(value) => pack(value, 0),
+        rewriting::Answer::Refused(verdict) => pack(0, table::number(verdict)),
+        rewriting::Answer::NoRoom => pack(0, 10),
+        rewriting::Answer::Missing => pack(0, 5),
     }
 }
 
@@ -224,4 +238,37 @@ pub extern "C" fn dekohuna_step(
         ≡ ofOutcome (stepOutcome (now (table .entry)) (now (state .entry)) kind a b (now (next .entry))) ⌝ }
 {
     answer_word(process::step(table, state, kind, a, b, next))
+}
+
+// Writes the rewritten table, in which no definition calls itself, to the start of `out`.
+#[no_mangle]
+pub extern "C" fn dekohuna_rewrite(table: &[u16], out: &mut [u16]) -> u64
+    ensures { λ r. ⌜ returned r (now (out .exit))
+        ≡ ofOutcome (rewriteOutcome (now (table .entry)) (now (out .entry))) ⌝ }
+{
+    rewriting_word(rewriting::rewrite(table, out))
+}
+
+// Tells the node of the table that a node of the rewritten table is, or is a copy of.
+#[no_mangle]
+pub extern "C" fn dekohuna_original_node(table: &[u16], number: u32) -> u64
+    ensures { λ r. ⌜ r ≡ ofOutcome (originalNode (now (table .entry)) number) .word ⌝ }
+{
+    rewriting_word(rewriting::original_node(table, number))
+}
+
+// Tells the branch of the table that a branch of the rewritten table is, or is a copy of.
+#[no_mangle]
+pub extern "C" fn dekohuna_original_branch(table: &[u16], number: u32) -> u64
+    ensures { λ r. ⌜ r ≡ ofOutcome (originalBranch (now (table .entry)) number) .word ⌝ }
+{
+    rewriting_word(rewriting::original_branch(table, number))
+}
+
+// Tells the name of the table that a name of the rewritten table is, or is a copy of.
+#[no_mangle]
+pub extern "C" fn dekohuna_original_name(table: &[u16], number: u32) -> u64
+    ensures { λ r. ⌜ r ≡ ofOutcome (originalName (now (table .entry)) number) .word ⌝ }
+{
+    rewriting_word(rewriting::original_name(table, number))
 }

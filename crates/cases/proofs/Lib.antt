@@ -1,1 +1,2 @@
+mod Computing
 pub mod AllRight

@@ -1,29 +1,46 @@
--- The starred cases of document 01 (Table E and its listing) as one table, and what is asked in each, by the definitions that the promises cite.
+-- The starred cases of document 01 (Table E and its listing), and a definition that calls itself (document 02, Item 1), as one table, and what is asked in
+-- each, by the definitions that the promises cite.
 use mathlib.Core.Path.{_≡_}
+use mathlib.Core.Option.{Option, none, some}
 use mathlib.Core.List.{List, [], _∷_, _++_}
-use Prim.Native.Nat.{ℕ}
+use Prim.Native.Nat.{ℕ, _/_, _%_}
 use lib.ListN.{length, take, replicate}
+use Rattle.lists.specs.Lists.{flat}
 use Rattle.table.specs.Causes.{cause}
 use Rattle.net.specs.Firing as Firing
 use Rattle.net.specs.Firing.{Ending, limitReached, nothingEnabled, initialMarking}
 use Rattle.places.specs.Image.{imageOf}
 use Rattle.builder.specs.Answer.{buildOutcome}
 use Rattle.readback.specs.Answers.{readOutcome}
+use Rattle.rewriting.specs.Outcomes.{rewriteOutcome, originalNode, originalBranch}
+use Rattle.print.specs.Program.{programText}
 
 -- what is asked of a table: its cause; a build into so many words; a firing after others from the initial marking; reading back after firings, into four
--- words; a run from the initial marking, with its limit and the words of its history
+-- words; a run from the initial marking, with its limit and the words of its history; a rewriting into so many words; what a node or a branch of the
+-- rewritten table was; what the listing program prints
 pub data Question : Type 0 where
   checks : Question
   builds : ℕ → Question
   fires : List ℕ → ℕ → Question
   reads : List ℕ → Question
   runs : ℕ → ℕ → Question
+  rewrites : ℕ → Question
+  wasNode : ℕ → Question
+  wasBranch : ℕ → Question
+  lists : Question
 
--- a cause, 0 for none; a cause with the words of the lent buffer afterwards; a run's reason, count and history
+-- a cause, 0 for none; a cause with the words of the lent buffer afterwards; a run's reason, count and history; a cause and the number read back, if any;
+-- a text
 pub data Reply : Type 0 where
   number : ℕ → Reply
   buffer : ℕ → List ℕ → Reply
   ran : Ending → ℕ → List ℕ → Reply
+  was : ℕ → Option ℕ → Reply
+  text : List ℕ → Reply
+
+-- the bytes of a table file, the low byte of each word first
+abbrev pub bytesOf : List ℕ → List ℕ
+bytesOf words = flat (λ x. (x % 256) ∷ (x / 256) ∷ []) words
 
 module _ (w : List ℕ) where
   abbrev pub markingAfter : List ℕ → List ℕ
@@ -35,6 +52,10 @@ module _ (w : List ℕ) where
   reply (fires numbers n) = number (Firing.fire (imageOf w) (markingAfter numbers) n .cause)
   reply (reads numbers) = let o = readOutcome w (markingAfter numbers) (replicate 4 0) in buffer (o .number) (o .left)
   reply (runs limit room) = let r = Firing.run (imageOf w) (initialMarking (imageOf w)) limit room in ran (r .reason) (r .firings) (r .history)
+  reply (rewrites room) = let o = rewriteOutcome w (replicate room 0) in buffer (o .number) (o .left)
+  reply (wasNode n) = let o = originalNode w n in was (o .number) (o .value)
+  reply (wasBranch b) = let o = originalBranch w b in was (o .number) (o .value)
+  reply lists = text (programText (bytesOf w))
 
 -- a table's words, what is asked of it, and the answer
 pub record Case : Type 0 where
@@ -73,6 +94,41 @@ imageE =
 abbrev pub oneNode : ℕ → List ℕ
 oneNode kind = 0 ∷ 0 ∷ 1 ∷ 1 ∷ 1 ∷ 0 ∷ 0 ∷ 13 ∷ 13 ∷ 17 ∷ 18 ∷ 21 ∷ 21 ∷ 0 ∷ 0 ∷ 0 ∷ 0 ∷ 0 ∷ kind ∷ 0 ∷ 0 ∷ []
 
+-- the last of these rewritten: its definition, and a copy of it, which call each other
+abbrev pub inTurns : List ℕ
+inTurns =
+    0 ∷ 0 ∷ 2 ∷ 1 ∷ 2 ∷ 0 ∷ 0 ∷ 13 ∷ 13 ∷ 21 ∷ 22 ∷ 28 ∷ 28 ∷ 0 ∷ 0 ∷ 0 ∷ 0 ∷ 0 ∷ 1 ∷ 0 ∷ 0 ∷ 0 ∷ 3 ∷ 1 ∷ 0 ∷ 3 ∷ 0 ∷ 0 ∷ []
+
+-- its image: two places, and two transitions, the calls, each of which moves the token from one place to the other
+abbrev pub imageInTurns : List ℕ
+imageInTurns = 2 ∷ 2 ∷ 2 ∷ 2 ∷ 1 ∷ 8 ∷ 9 ∷ 21 ∷ 0 ∷ 5 ∷ 0 ∷ 0 ∷ 21 ∷ 1 ∷ 1 ∷ 5 ∷ 1 ∷ 0 ∷ 23 ∷ 1 ∷ 1 ∷ 0 ∷ 1 ∷ 1 ∷ 0 ∷ []
+
+-- its listing, in ASCII: `2 2 2 2 1`, `0 5 0 0 : 0 > 1` and `1 5 1 0 : 1 > 0`, each with a line feed
+abbrev pub listingInTurns : List ℕ
+listingInTurns =
+    50 ∷ 32 ∷ 50 ∷ 32 ∷ 50 ∷ 32 ∷ 50 ∷ 32 ∷ 49 ∷ 10
+    ∷ 48 ∷ 32 ∷ 53 ∷ 32 ∷ 48 ∷ 32 ∷ 48 ∷ 32 ∷ 58 ∷ 32 ∷ 48 ∷ 32 ∷ 62 ∷ 32 ∷ 49 ∷ 10
+    ∷ 49 ∷ 32 ∷ 53 ∷ 32 ∷ 49 ∷ 32 ∷ 48 ∷ 32 ∷ 58 ∷ 32 ∷ 49 ∷ 32 ∷ 62 ∷ 32 ∷ 48 ∷ 10
+    ∷ []
+
+-- a definition that calls itself (document 02, Item 1)
+abbrev pub rewritingCases : List Case
+rewritingCases =
+    -- "Self-calls of the original go to the copy, those of the copy to the original." "one that doesn't fit the lent table with 10"
+    case (oneNode 3) (rewrites 28) (buffer 0 inTurns)
+    ∷ case (oneNode 3) (rewrites 27) (buffer 10 (replicate 27 0))
+    ∷ case inTurns (builds 25) (buffer 0 imageInTurns)
+    -- "the listing, which rewrites first"
+    ∷ case (oneNode 3) lists (text listingInTurns)
+    -- "a copy's nodes, branches and names can be read back as their originals, others as themselves; a number the rewritten table doesn't have is refused
+    -- with 5"
+    ∷ case (oneNode 3) (wasNode 0) (was 0 (some 0))
+    ∷ case (oneNode 3) (wasNode 1) (was 0 (some 0))
+    ∷ case (oneNode 3) (wasNode 2) (was 5 none)
+    ∷ case (oneNode 3) (wasBranch 0) (was 5 none)
+    ∷ []
+
+-- all of them: those of document 01, then the others
 abbrev pub cases : List Case
 cases =
     -- "E in 115 words builds, in 114 gives 10."
@@ -99,7 +155,7 @@ cases =
     -- "Run from the initial marking with limit 5 and 5 history words: 0 7 2 5, count 4, nothing enabled; limit 4: limit reached."
     ∷ case tableE (runs 5 5) (ran nothingEnabled 4 (0 ∷ 7 ∷ 2 ∷ 5 ∷ []))
     ∷ case tableE (runs 4 5) (ran limitReached 4 (0 ∷ 7 ∷ 2 ∷ 5 ∷ []))
-    ∷ []
+    ∷ rewritingCases
 
 -- every case has its answer
 abbrev pub AllRight : List Case → Type 0

@@ -1,6 +1,6 @@
 -- Every text that the listing program prints has room in 262,144 bytes: an image of at most 16,384 words is listed in six bytes a word and thirty more.
 use mathlib.Core.Path.{_≡_, refl, sym, ap, subst, _∙_}
-use mathlib.Core.Bool.{Bool, true, false}
+use mathlib.Core.Bool.{Bool, true, false, _||_}
 use mathlib.Core.List.{List, [], _∷_}
 use mathlib.Core.Logic.{_⊎_, inl, inr}
 use mathlib.Core.Option.{some}
@@ -12,8 +12,11 @@ use borrow.Author.Tests.{lt-ltb, le-ltb}
 use Rattle.lists.specs.Lists.{pick, same}
 use Rattle.lists.proofs.Tests.{true-or-false, same-true}
 use Rattle.scheme.specs.Scheme.{Scheme, scheme}
-use Rattle.table.specs.Causes.{firstFailed, tests, causeSparing, cause}
+use Rattle.table.specs.Causes.{countsRight, firstFailed, tests, causeSparing, cause}
 use Rattle.table.proofs.Accepted.{accepted}
+use Rattle.rewriting.specs.Rewriting.{rewritten}
+use Rattle.rewriting.specs.Outcomes.{rewriteCause}
+use Rattle.rewriting.proofs.Theorem.{rewritten-accepted}
 use Rattle.net.specs.Image.{Label, labelOf}
 use Rattle.net.specs.Net.{transitionAt, encode}
 use Rattle.net.proofs.Encode as Encode
@@ -26,10 +29,10 @@ use Rattle.places.proofs.Ascends.{net-ascends, transition-count, label-is, imag
 use Rattle.print.specs.Answers.{Outcome, done, written, answered}
 use Rattle.print.specs.Words.{wordsOf}
 use Rattle.print.specs.Listing.{listing}
-use Rattle.print.specs.Program.{isOdd, causeWith, imageText, programText}
+use Rattle.print.specs.Program.{isOdd, oddCause, programCause, imageText, programText}
 use Rattle.print.proofs.Lengths.{Each, SmallLabel, refusal-length, listing-length}
 use Rattle.print.proofs.Labels.{label-of, labels-small}
-use Rattle.print.proofs.Programs.{with-none}
+use Rattle.print.proofs.Programs.{odd-some}
 
 -- ---- refusals
 
@@ -42,19 +45,32 @@ failed-few (t ∷ ts) h = go (t .1) (failed-few ts (h .1))
     go true l = l
     go false l = h .0
 
-cause-few : (w : List ℕ) → cause w ≤ 9
-unfolding cause causeSparing
-cause-few w = failed-few (tests w false)
+cause-few : (w : List ℕ) → causeSparing w true ≤ 9
+unfolding causeSparing
+cause-few w = failed-few (tests w true)
     (omega arith, (omega arith, (omega arith, (omega arith, (omega arith, (omega arith, (omega arith, (omega arith, (omega arith, tt)))))))))
 
-with-few : (odd : Bool) (c : ℕ) → c ≤ 9 → causeWith odd c ≤ 9
-with-few false c h = h
-with-few true c h = go (true-or-false (same c 1)) (true-or-false (same c 2))
+pick-few : (b : Bool) (m n : ℕ) → m ≤ 9 → n ≤ 9 → pick b m n ≤ 9
+pick-few true m n k l = k
+pick-few false m n k l = l
+
+program-few : (bytes : List ℕ) → programCause bytes ≤ 9
+unfolding programCause rewriteCause
+program-few bytes =
+    let w = wordsOf bytes in
+    let c = causeSparing w true in
+    let l = cause-few w in
+    pick-few (isOdd bytes) _ _ (pick-few (same c 1 || same c 2) c 3 l (omega arith))
+    (pick-few (same c 0) _ c (pick-few (countsRight (rewritten w)) 0 2 (omega arith) (omega arith)) l)
+
+-- nothing refused: no odd byte, and the rewritten table is accepted
+program-none : (bytes : List ℕ) → programCause bytes ≡ 0 → rewriteCause (wordsOf bytes) ≡ 0
+unfolding programCause
+program-none bytes h = go (isOdd bytes) h
   where
-    go : (same c 1 ≡ true) ⊎ (same c 1 ≡ false) → (same c 2 ≡ true) ⊎ (same c 2 ≡ false) → causeWith true c ≤ 9
-    go (inl p) q = rw p h
-    go (inr p) (inl q) = rw (p, q) h
-    go (inr p) (inr q) = rw (p, q) (omega arith)
+    go : (b : Bool) → pick b (oddCause (causeSparing (wordsOf bytes) true)) (rewriteCause (wordsOf bytes)) ≡ 0 → rewriteCause (wordsOf bytes) ≡ 0
+    go true e = absurd (odd-some _ e)
+    go false e = e
 
 -- ---- listings
 
@@ -94,18 +110,14 @@ module _ (w : List ℕ) (h : cause w ≡ 0) where
 -- the buffer of the listing program holds every text that it prints
 pub program-fits : (bytes : List ℕ) → length (programText bytes) ≤ 262144
 unfolding programText
-program-fits bytes = go (true-or-false (same number 0))
+program-fits bytes = go (true-or-false (same (programCause bytes) 0))
   where
-    number : ℕ
-    number = causeWith (isOdd bytes) (cause (wordsOf bytes))
-
-    go : (same number 0 ≡ true) ⊎ (same number 0 ≡ false) → length (programText bytes) ≤ 262144
+    go : (same (programCause bytes) 0 ≡ true) ⊎ (same (programCause bytes) 0 ≡ false) → length (programText bytes) ≤ 262144
     go (inl p) =
-        let h = with-none (isOdd bytes) (cause (wordsOf bytes)) (same-true number 0 p) .1 in
-        rw p (omega (arith, image-few (wordsOf bytes) h))
-    go (inr p) =
-        let l = with-few (isOdd bytes) (cause (wordsOf bytes)) (cause-few (wordsOf bytes)) in
-        rw p (omega (arith, refusal-length number (omega arith)))
+        let w = wordsOf bytes in
+        let h = rewritten-accepted w (program-none bytes (same-true _ _ p)) in
+        rw p (omega (arith, image-few (rewritten w) h))
+    go (inr p) = let l = program-few bytes in rw p (omega (arith, refusal-length (programCause bytes) (omega arith)))
 
 -- so the answer is never that there is no room
 pub whole-text : (bytes lent : List ℕ) → length lent ≡ 262144 → {o : Outcome} → o ≡ answered (programText bytes) lent → o ≡ written (programText bytes) lent

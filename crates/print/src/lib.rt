@@ -14,14 +14,14 @@ ghost use Rattle.print.specs.Text.{decimal, numbers, spaced, refusal};
 ghost use Rattle.print.specs.Listing.{headerLine, transitionLine, listing};
 ghost use Rattle.print.specs.Words.{wordsOf};
 ghost use Rattle.print.specs.Inner.Cursors.{cursorAt, write};
-ghost use Rattle.print.specs.Inner.Parts.{labelText, arcsText, RecordAt};
-ghost use Rattle.builder.specs.Answer.{builtOutcome};
-ghost use Rattle.print.specs.Program.{causeWith, programText};
+ghost use Rattle.print.specs.Inner.Parts.{labelText, arcsText, netText, RecordAt};
+ghost use Rattle.print.specs.Program.{oddCause, programText};
 use builder::Built;
 use lists::store8;
 use lists::store16;
 use lists::word8;
 use lists::word32;
+use rewriting::Answer;
 
 // What a call did: how many bytes or words it wrote, or that the output is too short for them (10).
 pub enum Printed {
@@ -298,35 +298,22 @@ pub fn refusal(number: usize, out: &mut [u8]) -> Printed
     Printed::Done(end.place)
 }
 
-// The number that a table is refused with, 0 where its image was built.
-fn built_number(built: Built) -> usize
-    ensures { λ r. ⌜ (r ≡ builtOutcome built [] .number) × (r < 11) ⌝ }
+// What is printed of a table as it stands: its net, or the table's refusal.
+fn list_net(table: &[u16], out: &mut [u8]) -> Printed
+    ensures { λ r. ⌜ outcomeOf r (now (out .exit)) ≡ answered (netText (now (table .entry))) (now (out .entry)) ⌝ }
 {
-    match built {
-        Built::Words(_) => 0,
-        Built::Refused(verdict) => table::number(verdict),
-        Built::Room => 10,
-    }
-}
-
-// The words that were written, 0 where the table is refused.
-fn built_words(built: Built) -> usize
-    ensures { λ r. ⌜ r ≡ builtOutcome built [] .words ⌝ }
-{
-    match built {
-        Built::Words(words) => words,
-        Built::Refused(_) => 0,
-        Built::Room => 0,
+    let mut image = [0u32; 16384];
+    match builder::build(table, &mut image) {
+        Built::Words(size) => listing(&image[..size], out),
+        Built::Refused(verdict) => refusal(table::number(verdict), out),
+        Built::Room => refusal(10, out),
     }
 }
 
 // The number with an odd last byte: 3 after 1 and 2.
-fn number_with(odd: bool, number: usize) -> usize
-    ensures { λ r. ⌜ r ≡ causeWith odd number ⌝ }
+fn odd_number(number: usize) -> usize
+    ensures { λ r. ⌜ r ≡ oddCause number ⌝ }
 {
-    if !odd {
-        return number;
-    }
     if number == 1 {
         return 1;
     }
@@ -336,20 +323,24 @@ fn number_with(odd: bool, number: usize) -> usize
     3
 }
 
-// What the listing program prints of its input. Input longer than any table is told by its first words.
+// What the listing program prints of its input. Input longer than any table is told by its first words; a rewritten
+// table within the bounds has at most 2,229.
 pub fn list(bytes: &[u8], out: &mut [u8]) -> Printed
     ensures { λ r. ⌜ outcomeOf r (now (out .exit)) ≡ answered (programText (now (bytes .entry))) (now (out .entry)) ⌝ }
 {
     let mut table = [0u16; 4096];
     let count = smaller(fill_words(bytes, &mut table), 4096);
-    let mut image = [0u32; 16384];
-    let built = builder::build(&table[..count], &mut image);
-    let number = number_with(bytes.len() % 2 == 1, built_number(built));
-    if number != 0 {
-        return refusal(number, out);
+    if bytes.len() % 2 == 1 {
+        let verdict = table::check_sparing(&table[..count], true);
+        return refusal(odd_number(table::number(verdict)), out);
     }
-    let size = smaller(built_words(built), 16384);
-    listing(&image[..size], out)
+    let mut rewritten = [0u16; 2229];
+    match rewriting::rewrite(&table[..count], &mut rewritten) {
+        Answer::Done(size) => list_net(&rewritten[..size], out),
+        Answer::Refused(verdict) => refusal(table::number(verdict), out),
+        Answer::NoRoom => refusal(10, out),
+        Answer::Missing => refusal(5, out),
+    }
 }
 
 // The same into bytes that hold every text that the program prints (`program-fits`), so there is always room; the

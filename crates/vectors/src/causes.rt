@@ -5,7 +5,7 @@ use net::Cause;
 use net::Firing;
 use net::Reason;
 
-// A cause's number, or 0, and what was counted.
+// A cause's number, or 0, and what was counted or read back.
 pub struct Outcome(pub usize, pub usize);
 
 // What building answered.
@@ -22,6 +22,16 @@ pub fn of_size(sized: Sized) -> Outcome {
     match sized {
         Sized::Words(count) => Outcome(0, count),
         Sized::Refused(verdict) => Outcome(table::number(verdict), 0),
+    }
+}
+
+// What rewriting, or reading a number of the rewritten table back, answered.
+pub fn of_rewriting(answer: rewriting::Answer) -> Outcome {
+    match answer {
+        rewriting::Answer::Done(value) => Outcome(0, value),
+        rewriting::Answer::Refused(verdict) => Outcome(table::number(verdict), 0),
+        rewriting::Answer::NoRoom => Outcome(10, 0),
+        rewriting::Answer::Missing => Outcome(5, 0),
     }
 }
 

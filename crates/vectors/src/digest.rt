@@ -1,5 +1,6 @@
 // The 64-bit FNV-1a digest, as two halves of 32 bits.
 use lists::word8;
+use lists::word16;
 use lists::word32;
 
 pub struct Digest {
@@ -26,6 +27,12 @@ fn joined(digest: Digest, byte: usize) -> Digest {
     }
 }
 
+// The digest with the two bytes of a 16-bit word more, the low byte first.
+fn joined_half(digest: Digest, half: usize) -> Digest {
+    let one = joined(digest, half % 256);
+    joined(one, half / 256 % 256)
+}
+
 // The digest with the four bytes of a word more, the low byte first.
 fn joined_word(digest: Digest, word: usize) -> Digest {
     let one = joined(digest, word % 256);
@@ -40,6 +47,17 @@ pub fn of_bytes(bytes: &[u8], count: usize) -> Digest {
     let mut i: usize = 0;
     while i < count {
         digest = joined(digest, word8(bytes, i));
+        i += 1;
+    }
+    digest
+}
+
+// The digest of the first 16-bit words.
+pub fn of_halves(words: &[u16], count: usize) -> Digest {
+    let mut digest = empty();
+    let mut i: usize = 0;
+    while i < count {
+        digest = joined_half(digest, word16(words, i));
         i += 1;
     }
     digest

@@ -25,11 +25,14 @@
 //   y index word      a word of the state is set; nothing past its end        its length
 //   o room            lists the open steps of the state in room words         cause, labels written, the room words
 //   k kind a b room   takes a step of the state into room words               cause, words written, the room words
+//   v room            rewrites the table into room words                      cause, words written, the room words
+//   a kind number     reads a number of the rewritten table back              cause, number
 //
 // A cause is its number, or 0. A reason is 1 for limit reached, 2 for history full, 3 for nothing enabled, 0 with a
-// cause. What a refusal does not count is 0. After b the image is the words written, none if it was refused; after g,
-// s and k the state is the words written, and stays as it was if they were refused. Words that are lent to be written
-// are first filled with 43690 (16 bits) or 2863311530 (32 bits).
+// cause. A kind of the request a, taken modulo 3, is 0 for a node, 1 for a branch, 2 for a name. What a refusal does
+// not count or read back is 0. After b the image is the words written, none if it was refused; after g, s and k the
+// state is the words written, and stays as it was if they were refused; after v and a nothing is changed. Words that
+// are lent to be written are first filled with 43690 (16 bits) or 2863311530 (32 bits).
 //
 // There is room for 4,096 words of a table, 131,072 of an image, 32,768 bytes of a marking, 64 words of a state, 4,096
 // of a history and of labels, and 4,095 numbers of a request: more than that is not kept or lent. Numbers of a request
@@ -45,6 +48,7 @@ mod line;
 mod nets;
 mod sizes;
 mod states;
+mod tables;
 mod text;
 
 use crate::sizes::Sizes;
@@ -74,6 +78,8 @@ fn answer(
         b'u' => nets::run(request, sizes, image, marking, history),
         b'g' | b's' | b'k' => states::next(request, sizes, table, marking, state),
         b'o' => states::open_steps(request, sizes, table, state),
+        b'v' => tables::rewrite(request, sizes, table),
+        b'a' => tables::original(request, sizes, table),
         _ => sizes,
     }
 }

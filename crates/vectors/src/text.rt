@@ -2,6 +2,7 @@
 use crate::causes::Outcome;
 use crate::digest::Digest;
 use crate::digest::of_bytes;
+use crate::digest::of_halves;
 use crate::digest::of_words;
 use libc::STDOUT_FILENO;
 use lists::word8;
@@ -56,9 +57,13 @@ pub fn list8(list: &[u8], count: usize) {
     }
 }
 
-// A space and the list of the first 16-bit words, at most 64.
+// A space and the list of the first 16-bit words.
 pub fn list16(list: &[u16], count: usize) {
     number(count);
+    if count > 128 {
+        digest(of_halves(list, count));
+        return;
+    }
     byte(b':');
     let mut i: usize = 0;
     while i < count {

@@ -1,4 +1,5 @@
-//! Builds the net of a table, runs it from its initial marking, and reads the state back.
+//! Rewrites a table whose definitions call themselves, builds its net, runs it from its initial marking, and reads the
+//! state back. What is a copy is shown with the number in the table that it is a copy of.
 //!
 //!     run [TABLE-FILE [LIMIT]]
 //!
@@ -43,6 +44,14 @@ fn read_table(path: &str) -> Vec<u16> {
         .collect()
 }
 
+/// The table in which no definition calls itself; one that is so already is rewritten to itself.
+fn rewrite(table: &[u16]) -> Vec<u16> {
+    let mut rewritten = vec![0; 2229]; // the longest table
+    let words = accepted(dekohuna::rewrite(table, &mut rewritten));
+    rewritten.truncate(words);
+    rewritten
+}
+
 /// The image of a table, in a buffer of just its size.
 fn build(table: &[u16]) -> Vec<u32> {
     let mut image = vec![0; accepted(dekohuna::size(table))];
@@ -50,19 +59,48 @@ fn build(table: &[u16]) -> Vec<u32> {
     image
 }
 
-/// A firing, by what its label says.
-fn print_firing(image: &[u32], number: u32) {
+/// A number of the rewritten table, and, of a copy, the number that it is a copy of.
+fn with_original(number: u32, original: Answer) -> String {
+    let first = accepted(original);
+    if first == number as usize {
+        return number.to_string();
+    }
+    format!("{number} (copy of {first})")
+}
+
+/// What a label says, by the table that was rewritten.
+fn label_text(table: &[u16], kind: u32, a: u32, b: u32) -> String {
+    let node = |n| {
+        format!(
+            "node {}",
+            with_original(n, dekohuna::original_node(table, n))
+        )
+    };
+    let branch = |n| {
+        format!(
+            "branch {}",
+            with_original(n, dekohuna::original_branch(table, n))
+        )
+    };
+    let name = |n| with_original(n, dekohuna::original_name(table, n));
+    match kind {
+        0 => format!("{} copies a value to formal {}", node(a), name(b)),
+        1 => format!("{} releases name {}", node(a), name(b)),
+        2 => format!("{} makes a new value for name {}", node(a), name(b)),
+        3 => format!("{} goes on silently", branch(a)),
+        4 => format!("{} sends to {}", branch(a), branch(b)),
+        _ => format!("{} calls its definition", node(a)),
+    }
+}
+
+/// A firing, by its label.
+fn print_firing(table: &[u16], image: &[u32], number: u32) {
     let record = image[6] as usize + 6 * number as usize;
     let (kind, a, b) = (image[record], image[record + 1], image[record + 2]);
-    let what = match kind {
-        0 => format!("node {a} copies a value to formal {b}"),
-        1 => format!("node {a} releases name {b}"),
-        2 => format!("node {a} makes a new value for name {b}"),
-        3 => format!("branch {a} goes on silently"),
-        4 => format!("branch {a} sends to branch {b}"),
-        _ => format!("node {a} calls its definition"),
-    };
-    println!("fired {number} ({kind} {a} {b}): {what}");
+    println!(
+        "fired {number} ({kind} {a} {b}): {}",
+        label_text(table, kind, a, b)
+    );
 }
 
 fn reason(code: u8) -> &'static str {
@@ -77,10 +115,12 @@ fn reason(code: u8) -> &'static str {
 /// The node of each thread, then the value of each bound name.
 fn print_state(table: &[u16], state: &[u16]) {
     let (publics, threads) = (table[0], table[3] as usize);
-    for (thread, node) in state[..threads].iter().enumerate() {
+    for (thread, &number) in state[..threads].iter().enumerate() {
+        let node = with_original(number.into(), dekohuna::original_node(table, number.into()));
         println!("thread {thread} stands at node {node}");
     }
-    for (name, &value) in (publics..).zip(&state[threads..]) {
+    for (number, &value) in (publics.into()..).zip(&state[threads..]) {
+        let name = with_original(number, dekohuna::original_name(table, number));
         if value == 65535 {
             println!("name {name} is not held");
         } else {
@@ -90,8 +130,9 @@ fn print_state(table: &[u16], state: &[u16]) {
     }
 }
 
-fn run(table: &[u16], limit: usize) {
-    let image = build(table);
+fn run(own: &[u16], limit: usize) {
+    let table = rewrite(own);
+    let image = build(&table);
     let (places, transitions) = (image[0], image[1]);
     let (words, written) = (table.len(), image.len());
     println!("table of {words} words: net of {places} places and {transitions} transitions in {written} words");
@@ -101,7 +142,7 @@ fn run(table: &[u16], limit: usize) {
     let mut history = vec![0; limit];
     let ran = dekohuna::run(&image, &mut marking, limit as u64, &mut history);
     for &number in &history[..ran.value as usize] {
-        print_firing(&image, number);
+        print_firing(own, &image, number);
     }
     println!(
         "firings made: {}, {} ({})",
@@ -111,8 +152,8 @@ fn run(table: &[u16], limit: usize) {
     );
 
     let mut state = [0; 40]; // at most 8 threads and 32 bound names
-    let held = accepted(dekohuna::read(table, &marking, &mut state));
-    print_state(table, &state[..held]);
+    let held = accepted(dekohuna::read(&table, &marking, &mut state));
+    print_state(own, &state[..held]);
 }
 
 fn main() {

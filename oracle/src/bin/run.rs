@@ -1,9 +1,12 @@
-//! `run TABLE LIMIT` builds the net of a table file, runs it from its initial marking for at most
-//! LIMIT firings, and reads the state back. It prints what examples/c/run.c prints with the library.
+//! `run TABLE LIMIT` rewrites a table file, builds the net, runs it from its initial marking for at
+//! most LIMIT firings, and reads the state back. What is a copy is shown with the number in the
+//! table that it is a copy of. It prints what examples/c/run.c prints with the library.
 
 use std::process::ExitCode;
 
-use oracle::{build, listing::words_of, read, replay, run, size, Reason, Refusal, RunAnswer};
+use oracle::rewrite::{original_branch, original_name, original_node, rewritten};
+use oracle::{build, listing::words_of, read, replay};
+use oracle::{run, size, Reason, Refusal, RunAnswer};
 
 const USAGE: &str = "usage: run TABLE LIMIT";
 
@@ -25,7 +28,8 @@ fn run_file(path: &str, limit: &str) -> Result<String, String> {
 }
 
 /// The text of a run, or the cause of a refusal.
-fn run_table(table: &[u16], limit: u32) -> Result<String, u32> {
+fn run_table(own: &[u16], limit: u32) -> Result<String, u32> {
+    let table = &rewritten(own)?;
     let image = image_of(table)?;
     let alone = |refusal: Refusal| refusal.cause;
     let mut marking = vec![0; image[0] as usize];
@@ -36,9 +40,11 @@ fn run_table(table: &[u16], limit: u32) -> Result<String, u32> {
     read(table, &marking, &mut state)?;
     let mut lines = vec![net_line(table, &image)];
     let made = &history[..answer.firings as usize];
-    lines.extend(made.iter().map(|&number| firing_line(&image, number)));
+    for &number in made {
+        lines.push(firing_line(own, &image, number)?);
+    }
     lines.push(ending_line(answer));
-    lines.extend(state_lines(table, &state));
+    lines.extend(state_lines(own, &state)?);
     Ok(lines.join("\n") + "\n")
 }
 
@@ -58,19 +64,49 @@ fn net_line(table: &[u16], image: &[u32]) -> String {
     )
 }
 
+/// A number of the rewritten table, and, of a copy, the number that it is a copy of.
+fn with_original(number: u32, original: u32) -> String {
+    if original == number {
+        return number.to_string();
+    }
+    format!("{number} (copy of {original})")
+}
+
+fn node(own: &[u16], number: u32) -> Result<String, u32> {
+    let original = original_node(own, number)?;
+    Ok(format!("node {}", with_original(number, original)))
+}
+
+fn branch(own: &[u16], number: u32) -> Result<String, u32> {
+    let original = original_branch(own, number)?;
+    Ok(format!("branch {}", with_original(number, original)))
+}
+
+fn name(own: &[u16], number: u32) -> Result<String, u32> {
+    Ok(with_original(number, original_name(own, number)?))
+}
+
 /// A firing, by what its label says.
-fn firing_line(image: &[u32], number: u32) -> String {
+fn firing_line(own: &[u16], image: &[u32], number: u32) -> Result<String, u32> {
     let record = image[6] as usize + 6 * number as usize;
     let (kind, a, b) = (image[record], image[record + 1], image[record + 2]);
     let what = match kind {
-        0 => format!("node {a} copies a value to formal {b}"),
-        1 => format!("node {a} releases name {b}"),
-        2 => format!("node {a} makes a new value for name {b}"),
-        3 => format!("branch {a} goes on silently"),
-        4 => format!("branch {a} sends to branch {b}"),
-        _ => format!("node {a} calls its definition"),
+        0 => format!(
+            "{} copies a value to formal {}",
+            node(own, a)?,
+            name(own, b)?
+        ),
+        1 => format!("{} releases name {}", node(own, a)?, name(own, b)?),
+        2 => format!(
+            "{} makes a new value for name {}",
+            node(own, a)?,
+            name(own, b)?
+        ),
+        3 => format!("{} goes on silently", branch(own, a)?),
+        4 => format!("{} sends to {}", branch(own, a)?, branch(own, b)?),
+        _ => format!("{} calls its definition", node(own, a)?),
     };
-    format!("fired {number} ({kind} {a} {b}): {what}")
+    Ok(format!("fired {number} ({kind} {a} {b}): {what}"))
 }
 
 fn ending_line(answer: RunAnswer) -> String {
@@ -83,18 +119,21 @@ fn ending_line(answer: RunAnswer) -> String {
 }
 
 /// The node of each thread, then the value of each bound name.
-fn state_lines(table: &[u16], state: &[u16]) -> Vec<String> {
-    let publics = table[0];
-    let (nodes, values) = state.split_at(usize::from(table[3]));
-    let thread_line =
-        |(thread, node): (usize, &u16)| format!("thread {thread} stands at node {node}");
-    let name_line = |(name, &value): (u16, &u16)| match value {
-        65535 => format!("name {name} is not held"),
-        _ if value < publics => format!("name {name} has the public value {value}"),
-        _ => format!("name {name} has the private value {value}"),
-    };
-    let threads = nodes.iter().enumerate().map(thread_line);
-    threads
-        .chain((publics..).zip(values).map(name_line))
-        .collect()
+fn state_lines(own: &[u16], state: &[u16]) -> Result<Vec<String>, u32> {
+    let publics = own[0];
+    let (nodes, values) = state.split_at(usize::from(own[3]));
+    let mut lines = Vec::new();
+    for (thread, &number) in nodes.iter().enumerate() {
+        let place = node(own, number.into())?;
+        lines.push(format!("thread {thread} stands at {place}"));
+    }
+    for (number, &value) in (publics..).zip(values) {
+        let held = match value {
+            65535 => "is not held".to_string(),
+            _ if value < publics => format!("has the public value {value}"),
+            _ => format!("has the private value {value}"),
+        };
+        lines.push(format!("name {} {held}", name(own, number.into())?));
+    }
+    Ok(lines)
 }

@@ -113,6 +113,8 @@ impl Session {
             }
             "o" => self.open_steps(&numbers),
             "k" => self.step(&numbers),
+            "v" => self.rewrite(&numbers),
+            "a" => self.original(&numbers),
             _ => vec![],
         };
         let start = letter.to_string();
@@ -176,6 +178,28 @@ impl Session {
         let mut room = lent_state(at(numbers, 3));
         let answer = crate::step(&self.table, &self.state, kind, a, b, &mut room);
         self.keep_state(answer, &room)
+    }
+
+    /// `v room` rewrites the table into so many words and keeps nothing.
+    fn rewrite(&self, numbers: &[u64]) -> Vec<String> {
+        let mut room = vec![FILL_16; at(numbers, 0).min(TABLE_ROOM)];
+        let answer = crate::rewrite(&self.table, &mut room);
+        counted(answer, list16(&room))
+    }
+
+    /// `a kind number` reads a number of the rewritten table back, of a node, a branch or a name by
+    /// the kind modulo 3; with a cause the answer's number is 0.
+    fn original(&self, numbers: &[u64]) -> Vec<String> {
+        let original = match number(numbers, 0) % 3 {
+            0 => crate::original_node,
+            1 => crate::original_branch,
+            _ => crate::original_name,
+        };
+        let (cause, original) = match original(&self.table, number(numbers, 1) as u32) {
+            Ok(original) => (0, original),
+            Err(cause) => (cause, 0),
+        };
+        vec![cause.to_string(), original.to_string()]
     }
 
     /// The answer of a call that writes a state, which is kept unless it was refused.

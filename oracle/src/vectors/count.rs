@@ -3,8 +3,9 @@
 use std::collections::BTreeMap;
 
 use super::answers::Session;
+use super::self_calls::self_call_shapes;
 use super::shapes::shapes;
-use crate::table::accept;
+use crate::table::{accept, accept_sparing};
 
 /// Counts, a line each.
 pub fn counts(requests: &str) -> Result<String, String> {
@@ -61,7 +62,7 @@ fn found_before(session: &Session, line: &str, letter: char) -> Vec<String> {
 
 fn found_after(session: &Session, answer: &[&str], letter: char) -> Vec<String> {
     let mut found = Vec::new();
-    if "tbzfrhugsok".contains(letter) {
+    if "tbzfrhugsokva".contains(letter) {
         let cause = answer.get(1).unwrap_or(&"");
         found.push(format!("cause {letter} {cause:>2}"));
         found.push(format!("cause all {cause:>2}"));
@@ -77,6 +78,9 @@ fn found_after(session: &Session, answer: &[&str], letter: char) -> Vec<String> 
         if let Ok(table) = accept(&session.table) {
             found.push("shape any".to_string());
             found.extend(shapes(&table).iter().map(|shape| format!("shape {shape}")));
+        } else if let Ok(table) = accept_sparing(&session.table) {
+            let shapes = self_call_shapes(&table);
+            found.extend(shapes.iter().map(|shape| format!("shape {shape}")));
         }
     }
     if letter == 'b' && answer.get(1) == Some(&"0") {

@@ -70,15 +70,19 @@ fn play_any(
     steps: usize,
     mut draw: impl FnMut(&mut Random) -> Option<Vec<u16>>,
 ) {
-    let (words, table) = loop {
+    loop {
         if let Some(words) = draw(&mut writer.random) {
             if let Ok(table) = accept(&words) {
-                break (words, table);
+                return play_table(writer, &words, table, calls, steps);
             }
         }
-    };
+    }
+}
+
+/// An accepted table, `calls` calls, and `steps` steps from the starting state.
+pub fn play_table(writer: &mut Writer, words: &[u16], table: Table, calls: usize, steps: usize) {
     let places = Places::of(&table);
-    writer.table(&words);
+    writer.table(words);
     let size = image_words(&table);
     let mut player = Player {
         writer,

@@ -1,9 +1,10 @@
-//! The requests: the worked cases, tables refused by each cause, accepted tables played with, and
-//! foreign images.
+//! The requests: the worked cases, tables refused by each cause, accepted tables played with,
+//! foreign images, and tables whose definitions call themselves.
 
 use super::answers::Session;
 use super::foreign::play_foreign;
 use super::play::{play, play_dialogue, play_like, play_refused};
+use super::rewriting::play_rewriting;
 use super::shapes::SHAPES;
 use super::worked::play_worked;
 use crate::generate::Shape;
@@ -37,7 +38,7 @@ impl Writer {
 }
 
 /// A table small enough that its markings, and often its image, are written whole.
-const TINY: Shape = Shape {
+pub const TINY: Shape = Shape {
     publics: 2,
     bound: 3,
     threads: 2,
@@ -46,6 +47,7 @@ const TINY: Shape = Shape {
     nodes: 10,
     branches: 2,
     depth: 4,
+    self_calls: false,
 };
 
 /// All requests.
@@ -94,6 +96,18 @@ pub fn requests() -> String {
         play_foreign(&mut writer);
     }
     writer.ask('z', &[]);
+    play_rewriting(&mut writer);
     writer.ask('q', &[1, 2]);
+    writer.text
+}
+
+/// Those on definitions that call themselves.
+pub fn rewriting_requests() -> String {
+    let mut writer = Writer {
+        random: Random::new(1),
+        session: Session::default(),
+        text: String::new(),
+    };
+    play_rewriting(&mut writer);
     writer.text
 }

@@ -13,6 +13,15 @@ abbrev μ-loop : tie.MeasureT-loop
 number-requires : tie.Need-number-requires Inv-loop μ-loop
 number-requires c κs = search needs
 
+of-halves-requires : tie.Need-of-halves-requires Inv-loop μ-loop
+of-halves-requires c κs = search needs
+
+digest-requires : tie.Need-digest-requires Inv-loop μ-loop
+digest-requires c κs = search needs
+
+returns : tie.Need-returns Inv-loop μ-loop
+returns c = search needs
+
 byte-requires : tie.Need-byte-requires Inv-loop μ-loop
 byte-requires c κs = search needs
 
@@ -34,8 +43,8 @@ loop-less c = search needs
 loop-again : tie.Need-loop-again Inv-loop μ-loop
 loop-again c = search needs
 
-returns : tie.Need-returns Inv-loop μ-loop
-returns c = search needs
+returns-2 : tie.Need-returns-2 Inv-loop μ-loop
+returns-2 c = search needs
 
 pub list16-spec : {M : Type 1} → statement M
 list16-spec =
@@ -44,6 +53,9 @@ list16-spec =
     Inv-loop
     μ-loop
     number-requires
+    of-halves-requires
+    digest-requires
+    returns
     byte-requires
     loop-holds
     word16-requires
@@ -51,4 +63,4 @@ list16-spec =
     add-i
     loop-less
     loop-again
-    returns)
+    returns-2)

@@ -1,0 +1,83 @@
+-- What the cases open. `unfolding` of one of these names opens all that stands on its own line.
+use Rattle.lists.specs.Lists.{same, from, every, some, keep, flat, member, times, firstFrom, positionsFrom, total, ascends}
+use Rattle.scheme.specs.Words.{formals, branchesOf, argumentsOf}
+use Rattle.scheme.specs.Owners.{home, owner, pickOwner, heldBy, definitionBy, held, definition}
+use Rattle.scheme.specs.Scheme.{scheme, nodeAt, branchAt, argumentsAt, pickBinder, binderOf}
+use Rattle.table.specs.Causes.{firstFailed, longEnough, countsRight, layoutRight, causeSparing, cause}
+use Rattle.table.specs.Causes.{nameKindRight, formalsZero, callZero, nodeKindRight, branchKindRight, kindsRight}
+use Rattle.table.specs.Causes.{formalsInside, definitionInside, entryInside, nodeInside, branchInside, argumentInside, rangesRight}
+use Rattle.table.specs.Causes.{rootNodes, newChildren, nextNodes, ownedOnce, childrenAbove, consecutive, shapeRight}
+use Rattle.table.specs.Causes.{newNames, receivedNames, formalNames, boundRight, bindingRight, usable, branchScoped, nodeScoped, scopeRight}
+use Rattle.table.specs.Causes.{entryRight, callRightIn, callRight, callsRight}
+use Rattle.net.specs.Image.{headerRight, recordRight}
+use Rattle.net.specs.Net.{recordsFrom, encode, isAscending}
+use Rattle.net.specs.Firing as Firing
+use Rattle.net.specs.Firing.{isMarking, isEnabled, hasContact, step, inTurn, initialMarking, searchFrom, lowestEnabled, runFrom}
+use Rattle.places.specs.Values.{allValues, valuesOf, privateValuesOf}
+use Rattle.places.specs.Places.{controls, controlPlaces, row, rows, places}
+use Rattle.places.specs.Transitions.{isInput, isOutput, releases, copies, descriptions}
+use Rattle.places.specs.Image.{netWith, netOf, imageOf}
+use Rattle.builder.specs.Answer.{buildOutcome}
+use Rattle.process.specs.States as States
+use Rattle.process.specs.StateWords.{stateWords, place, noted, valueWords}
+use Rattle.process.specs.Outcomes.{answered}
+use Rattle.readback.specs.Configurations.{stateShown}
+use Rattle.readback.specs.Reading.{marked, has, spots, values, configuration, standsForState, readBack}
+use Rattle.readback.specs.Answers.{readOutcome}
+use Rattle.rewriting.specs.Rewriting.{headerOf, callsItself, copied, caller, appended, definitionWords, definitionCopy, nodeWords, nodeCopy, branchWords}
+use Rattle.rewriting.specs.Rewriting.{branchCopy, namePart, definitionPart, threadPart, nodePart, branchPart, argumentPart, rewrittenHeader, rewritten}
+use Rattle.rewriting.specs.Rewriting.{nodeOrigins, branchOrigins}
+use Rattle.rewriting.specs.Outcomes.{rewriteCause, rewriteOutcome, originAt, originOutcome}
+use Rattle.print.specs.Text.{digitsOf, line, refusal}
+use Rattle.print.specs.Words.{wordsOf}
+use Rattle.print.specs.Listing.{headerLine, transitionLine, listing}
+use Rattle.print.specs.Program.{isOdd, programCause, programText}
+
+unfoldable pub lists : Unit {0}
+unfolding same from every some keep flat member times firstFrom positionsFrom total ascends
+lists = tt
+
+unfoldable pub decoding : Unit {0}
+unfolding formals branchesOf argumentsOf home owner pickOwner heldBy definitionBy held definition scheme nodeAt branchAt argumentsAt pickBinder binderOf
+decoding = tt
+
+unfoldable pub kinds : Unit {0}
+unfolding firstFailed longEnough countsRight layoutRight nameKindRight formalsZero callZero nodeKindRight branchKindRight kindsRight causeSparing cause
+kinds = tt
+
+unfoldable pub shapes : Unit {0}
+unfolding formalsInside definitionInside entryInside nodeInside branchInside argumentInside rangesRight rootNodes newChildren nextNodes ownedOnce
+    childrenAbove consecutive shapeRight
+shapes = tt
+
+unfoldable pub scopes : Unit {0}
+unfolding newNames receivedNames formalNames boundRight bindingRight usable branchScoped nodeScoped scopeRight entryRight callRightIn callRight callsRight
+scopes = tt
+
+unfoldable pub nets : Unit {0}
+unfolding allValues valuesOf privateValuesOf controls controlPlaces row rows places isInput isOutput releases copies descriptions netWith netOf imageOf
+    buildOutcome
+nets = tt
+
+unfoldable pub firings : Unit {0}
+unfolding recordsFrom encode isAscending headerRight recordRight isMarking isEnabled hasContact Firing.put Firing.stepOf step inTurn initialMarking
+    Firing.fire Firing.replay searchFrom lowestEnabled runFrom Firing.run
+firings = tt
+
+unfoldable pub readings : Unit {0}
+unfolding States.put stateWords place noted valueWords answered marked has spots values configuration standsForState readBack stateShown readOutcome
+readings = tt
+
+unfoldable pub rewritings : Unit {0}
+unfolding headerOf callsItself copied caller appended definitionWords definitionCopy nodeWords nodeCopy branchWords branchCopy namePart definitionPart
+    threadPart nodePart branchPart argumentPart rewrittenHeader rewritten nodeOrigins branchOrigins rewriteCause rewriteOutcome originAt originOutcome
+rewritings = tt
+
+unfoldable pub texts : Unit {0}
+unfolding digitsOf line refusal wordsOf headerLine transitionLine listing isOdd programCause programText
+texts = tt
+
+-- all of them
+unfoldable pub everything : Unit {0}
+unfolding lists decoding kinds shapes scopes nets firings readings rewritings texts
+everything = tt
