@@ -1,7 +1,7 @@
 -- What rewriting a table keeps: the claim of specs/Sequences.antt, and that a table without self-calls is its own rewriting.
 use mathlib.Core.Path.{_≡_, refl, _∙_}
 use mathlib.Core.Bool.{Bool, true, false}
-use mathlib.Core.List.{List, map}
+use mathlib.Core.List.{List, [], map}
 use mathlib.Core.Logic.{_⊎_, inl, inr}
 use Prim.Native.Nat.{ℕ}
 use native.Mathlib.Omega.{arith}
@@ -10,7 +10,7 @@ use Rattle.lists.proofs.Tests.{true-or-false, same-true, same-false}
 use Rattle.table.proofs.Inside
 use Rattle.table.proofs.Owned
 use Rattle.table.proofs.Uses
-use Rattle.rewriting.specs.Rewriting.{rewritten}
+use Rattle.rewriting.specs.Rewriting.{copied, rewritten}
 use Rattle.rewriting.proofs.Reading
 use Rattle.rewriting.proofs.Family
 use Rattle.rewriting.proofs.Fields
@@ -80,6 +80,10 @@ module _ (w : List ℕ) (h : rewriteCause w ≡ 0) where
         (word (definitionOrigins w)) reading;
   }
 
--- "Accept such tables by a rewriting step.": a table that is accepted as it stands is not changed by it
+-- "Each definition with a direct self-call gets a copy": a table that is accepted with self-calls spared and has none is not changed
+pub unchanged-without : (w : List ℕ) → causeSparing w true ≡ 0 → copied w ≡ [] → rewritten w ≡ w
+unchanged-without w h none = Unchanged.no-copies-same w (Family.sound w h) none
+
+-- "Accept such tables by a rewriting step.": a table that is accepted as it stands has none
 pub unchanged : (w : List ℕ) → cause w ≡ 0 → rewritten w ≡ w
 unchanged = Unchanged.unchanged

@@ -62,8 +62,8 @@ module _ (w : List ℕ) where
   abbrev pub readLabel : List ℕ → List ℕ
   readLabel = originLabel (word (nodeOrigins w)) (word (branchOrigins w)) (word (nameOrigins w))
 
-  -- It holds of every table that is accepted with self-calls spared and whose rewritten table is within the bounds (`rewrites`, proofs/Theorem.antt). A
-  -- table that is accepted as it stands has no self-call, and is its own rewriting (`unchanged`, there).
+  -- It holds of every table that is accepted with self-calls spared and whose rewritten table is within the bounds (`rewrites`, proofs/Theorem.antt). Such a
+  -- table without self-calls is its own rewriting (`unchanged-without`, there), and so is one that is accepted as it stands (`unchanged`).
   pub record Rewrites : Type 0 where
     -- the rewritten table is accepted, so every promise and demand 3 hold of it
     pub accepted : cause (rewritten w) ≡ 0

@@ -23,14 +23,19 @@ pub fn play_refused(writer: &mut Writer, shape: Shape, cause: u32) {
     writer.table(&words);
     writer.ask('z', &[]);
     for _ in 0..writer.random.between(1, 2) {
-        let room = writer.random.below(40) as u64;
-        match writer.random.below(5) {
-            0 => writer.ask('b', &[room]),
-            1 => writer.ask('s', &[room]),
-            2 => writer.ask('g', &[room]),
-            3 => writer.ask('o', &[room]),
-            _ => writer.ask('k', &[5, 0, 0, room]),
-        }
+        ask_any(writer);
+    }
+}
+
+/// A call that takes the table, with any room.
+pub fn ask_any(writer: &mut Writer) {
+    let room = writer.random.below(40) as u64;
+    match writer.random.below(5) {
+        0 => writer.ask('b', &[room]),
+        1 => writer.ask('s', &[room]),
+        2 => writer.ask('g', &[room]),
+        3 => writer.ask('o', &[room]),
+        _ => writer.ask('k', &[5, 0, 0, room]),
     }
 }
 

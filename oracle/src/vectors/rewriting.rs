@@ -2,7 +2,7 @@
 //! on the rewritten table.
 
 use super::answers::TABLE_ROOM;
-use super::play::play_table;
+use super::play::{ask_any, play_table};
 use super::requests::{Writer, TINY};
 use super::self_calls::{self_call_shapes, SELF_CALL_SHAPES};
 use crate::bounds::{many_arguments, many_definitions, many_names, many_nodes};
@@ -125,14 +125,7 @@ fn play_refused(writer: &mut Writer, words: &[u16]) {
 fn play_self_calling(writer: &mut Writer, words: &[u16], calls: usize, steps: usize) {
     writer.table(words);
     if writer.random.chance(30) {
-        let room = writer.random.below(40) as u64;
-        match writer.random.below(5) {
-            0 => writer.ask('b', &[room]),
-            1 => writer.ask('s', &[room]),
-            2 => writer.ask('g', &[room]),
-            3 => writer.ask('o', &[room]),
-            _ => writer.ask('k', &[5, 0, 0, room]),
-        }
+        ask_any(writer);
     }
     ask_rewriting(writer, words);
     ask_originals(writer, words);
