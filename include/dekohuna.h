@@ -13,9 +13,10 @@
  * other buffer of that call. Pointers are the caller's duty and no call checks them; every content of a buffer, and
  * every number, is allowed: what does not fit is refused.
  *
- * Where a call is refused by cause 1 to 11, 13, or 17 to 19, no buffer changes. Causes 12, 14, 15 and 16 leave the
- * marking, and a run's history, as after the firings made before the refusal; the value says how many these are.
- * Where the answer is shorter than the buffer lent for it, the rest of the buffer does not change.
+ * Where a call is refused by cause 1 to 11, 13, or 17 to 19, or a look by any cause, no buffer changes. Of other calls
+ * causes 12, 14, 15 and 16 leave the marking, and a run's history, as after the firings made before the refusal; the
+ * value says how many these are. Where the answer is shorter than the buffer lent for it, the rest of the buffer does
+ * not change.
  *
  * No call keeps anything for the next, allocates, or does input or output. Calls on buffers of their own may be made
  * at the same time.
@@ -28,8 +29,8 @@
  *
  * Order of calls. Build writes the image of a table, into as many words as size tells; the image's first word counts
  * the places, so it is the length of a marking. A replay of no numbers leaves the initial marking. A firing and a run
- * start at the marking that is lent, whatever it is; a run fires the lowest enabled transition each time. Read tells
- * which state a marking stands for.
+ * start at the marking that is lent, whatever it is; a run fires the lowest enabled transition each time. A look shows
+ * what a firing would leave, and fires nothing. Read tells which state a marking stands for.
  *
  * Definitions that call themselves. Rewrite and the calls for originals take a table with such definitions, and every
  * other call refuses it by 9: rewrite it first, and lend the rewritten table to the others. There each such definition
@@ -117,6 +118,12 @@ uint64_t dekohuna_size(const uint16_t *table, size_t table_words);
  * in this order. Any image may be lent, also one that no table has. */
 uint64_t dekohuna_fire(const uint32_t *image, size_t image_words, uint8_t *marking, size_t marking_bytes,
                        uint32_t transition);
+
+/* Writes the marking that firing a transition would leave to the start of `next`, a byte for each place; the value is
+ * the bytes written, the number of places. The marking is only read. Causes 11, 13, 14, 12, 15 and 16, as the firing
+ * has them, then 10. */
+uint64_t dekohuna_look(const uint32_t *image, size_t image_words, const uint8_t *marking, size_t marking_bytes,
+                       uint32_t transition, uint8_t *next, size_t next_bytes);
 
 /* Sets the marking to the image's initial one, whatever it held, and fires the numbers in turn; the value is the
  * firings made. Causes 11, 13 (for the length alone), then those of a firing. A replay of no numbers leaves the

@@ -119,7 +119,7 @@ impl Both<'_> {
         }
     }
 
-    /// Fires the history one by one, and looks at the state now and then.
+    /// Looks at the firings of the history and makes them, one by one, and reads the state now and then.
     fn points(
         &self,
         table: &[u16],
@@ -134,9 +134,15 @@ impl Both<'_> {
             if fired % every == 0 {
                 points.extend(self.point(table, &marking)?);
             }
+            let (_, shown) = self.agree("look", &vec![7; marking.len()], |engine, next| {
+                engine.look(image, &marking, number, next)
+            })?;
             let (_, next) = self.agree("fire", &marking, |engine, marking| {
                 engine.fire(image, marking, number)
             })?;
+            if next != shown {
+                return Err("a firing leaves another marking than the look showed".to_string());
+            }
             marking = next;
         }
         self.agree("fire no transition", &marking, |engine, marking| {

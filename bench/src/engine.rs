@@ -6,6 +6,7 @@ pub trait Engine {
     fn check(&self, table: &[u16]) -> Answer;
     fn build(&self, table: &[u16], out: &mut [u32]) -> Answer;
     fn fire(&self, image: &[u32], marking: &mut [u8], transition: u32) -> Answer;
+    fn look(&self, image: &[u32], marking: &[u8], transition: u32, next: &mut [u8]) -> Answer;
     fn replay(&self, image: &[u32], marking: &mut [u8], numbers: &[u32]) -> Answer;
     fn run(&self, image: &[u32], marking: &mut [u8], limit: u64, history: &mut [u32]) -> Answer;
     fn read(&self, table: &[u16], marking: &[u8], state: &mut [u16]) -> Answer;

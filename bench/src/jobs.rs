@@ -17,6 +17,7 @@ pub struct Job {
 pub struct Buffers {
     pub image: Vec<u32>,
     pub marking: Vec<u8>,
+    pub next: Vec<u8>,
     pub history: Vec<u32>,
     pub state: Vec<u16>,
     pub labels: Vec<u32>,
@@ -27,6 +28,7 @@ impl Buffers {
         Buffers {
             image: vec![1; case.image.len()],
             marking: case.initial.clone(),
+            next: case.initial.clone(),
             history: vec![1; case.limit],
             state: vec![1; usize::from(case.table[1] + case.table[3])],
             labels: vec![1; 3 * LABELS],
@@ -42,7 +44,7 @@ pub const BUILD: Job = Job {
     },
 };
 
-pub const OTHERS: [Job; 8] = [
+pub const OTHERS: [Job; 9] = [
     Job {
         title: "checks",
         units: |_| 1,
@@ -76,6 +78,18 @@ pub const OTHERS: [Job; 8] = [
             buffers.marking.copy_from_slice(&case.initial);
             for &number in &case.history {
                 black_box(engine.fire(&case.image, &mut buffers.marking, number));
+            }
+        },
+    },
+    Job {
+        title: "looks",
+        units: |case| case.history.len(),
+        turn: |engine, case, buffers| {
+            let Buffers { marking, next, .. } = buffers;
+            marking.copy_from_slice(&case.initial);
+            for &number in &case.history {
+                black_box(engine.look(&case.image, marking, number, next));
+                std::mem::swap(marking, next);
             }
         },
     },

@@ -19,6 +19,10 @@ impl Engine for Library {
         dekohuna::fire(image, marking, transition)
     }
 
+    fn look(&self, image: &[u32], marking: &[u8], transition: u32, next: &mut [u8]) -> Answer {
+        dekohuna::look(image, marking, transition, next)
+    }
+
     fn replay(&self, image: &[u32], marking: &mut [u8], numbers: &[u32]) -> Answer {
         dekohuna::replay(image, marking, numbers)
     }

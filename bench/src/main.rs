@@ -44,8 +44,9 @@ fn print_method() {
         "Both engines gave the same answers and outputs before they were timed. Each figure is the best of {ROUNDS}\n\
          rounds, by the thread's processor time; in each round the library and the oracle have their turns. Buffers\n\
          are written once before, and not cleared between calls. Before each run, and before each row of single\n\
-         firings, the initial marking is copied. A plain write puts a changing word in each of as many words as the\n\
-         image has: wide, in a loop that the compiler may turn into wide stores; single, with one store a word."
+         firings or of looks, the initial marking is copied; each look but the first is at the marking that the one\n\
+         before it showed. A plain write puts a changing word in each of as many words as the image has: wide, in a\n\
+         loop that the compiler may turn into wide stores; single, with one store a word."
     );
 }
 

@@ -50,6 +50,10 @@ impl Engine for Oracle {
         fired(oracle::fire(image, marking, transition).map(|()| 1))
     }
 
+    fn look(&self, image: &[u32], marking: &[u8], transition: u32, next: &mut [u8]) -> Answer {
+        counted(oracle::look(image, marking, transition, next))
+    }
+
     fn replay(&self, image: &[u32], marking: &mut [u8], numbers: &[u32]) -> Answer {
         fired(oracle::replay(image, marking, numbers))
     }

@@ -1,5 +1,6 @@
-/* Rewrites a table whose definitions call themselves, builds its net, runs it from its initial marking, and reads the
- * state back. What is a copy is shown with the number in the table that it is a copy of.
+/* Rewrites a table whose definitions call themselves, builds its net, runs it from its initial marking, makes each
+ * firing of the run again after a look at what it would leave, and reads the state back. What is a copy is shown with
+ * the number in the table that it is a copy of.
  *
  *     run [TABLE-FILE [LIMIT]]
  *
@@ -11,6 +12,7 @@
 #include <inttypes.h>
 #include <stdio.h>
 #include <stdlib.h>
+#include <string.h>
 
 static const uint16_t table_e[48] = {
     1, 2, 2, 2, 5, 2, 0, 13, 15, 23, 25, 40, 48,     /* counts and offsets */
@@ -130,6 +132,22 @@ static void print_firing(struct table table, struct image image, uint32_t number
     printf("\n");
 }
 
+/* Makes the firings of a history once more, each after a look at what it would leave, and prints them. */
+static void fire_again(struct table table, struct image image, const uint32_t *history, size_t firings) {
+    size_t places = image.words[0];
+    uint8_t *marking = room(places, 1), *next = room(places, 1);
+    accepted(dekohuna_replay(image.words, image.count, marking, places, history, 0));
+    for (size_t i = 0; i < firings; i++) {
+        accepted(dekohuna_look(image.words, image.count, marking, places, history[i], next, places));
+        accepted(dekohuna_fire(image.words, image.count, marking, places, history[i]));
+        if (memcmp(marking, next, places) != 0)
+            fail("a firing leaves another marking than the look showed");
+        print_firing(table, image, history[i]);
+    }
+    free(next);
+    free(marking);
+}
+
 static const char *reason(unsigned code) {
     switch (code) {
     case DEKOHUNA_LIMIT_REACHED: return "limit reached";
@@ -168,8 +186,7 @@ static void run(struct table own, uint64_t limit) {
     accepted(dekohuna_replay(image.words, image.count, marking, places, history, 0));
     uint64_t word = dekohuna_run(image.words, image.count, marking, places, limit, history, (size_t)limit);
     size_t firings = (size_t)DEKOHUNA_VALUE(word);
-    for (size_t i = 0; i < firings; i++)
-        print_firing(own, image, history[i]);
+    fire_again(own, image, history, firings);
     printf("firings made: %zu, %s (%u)\n", firings, reason(DEKOHUNA_CODE(word)), DEKOHUNA_CODE(word));
 
     uint16_t state[40]; /* at most 8 threads and 32 bound names */

@@ -1,6 +1,7 @@
-//! A second reading of document 01 and of document 02's item 1: the table check, the rewriting of
-//! self-calls, the image builder and its size, firing, replay, run, reading back, and the plain
-//! process, written from the documents and sharing no code with the project it is compared with.
+//! A second reading of document 01 and of document 02's items 1 and 2: the table check, the
+//! rewriting of self-calls, the image builder and its size, firing, looking, replay, run, reading
+//! back, and the plain process, written from the documents and sharing no code with the project it
+//! is compared with.
 //!
 //! The calls exported here are total. A refusal changes no lent buffer, except that a replay or run
 //! stopped on its way leaves exactly the firings made.
@@ -31,7 +32,7 @@ pub mod vectors;
 
 pub use builder::build;
 pub use listing::listing;
-pub use net::{fire, replay, run, Reason, Refusal, RunAnswer};
+pub use net::{fire, look, replay, run, Reason, Refusal, RunAnswer};
 pub use process::{open_steps, start, step};
 pub use readback::read;
 pub use rewrite::{original_branch, original_name, original_node, rewrite};

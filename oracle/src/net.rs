@@ -1,4 +1,7 @@
-//! Document 01, "Net image and firing": reading an image, firing by number, replay and run.
+//! Document 01, "Net image and firing": reading an image, firing by number, replay and run; document
+//! 02, item 2: looking at a firing before it is made.
+
+use crate::process::write_words;
 
 /// Why a call on an image was refused. `firings` is there where the document's table returns
 /// "number, firings made", and not where it returns the number alone.
@@ -48,6 +51,16 @@ pub fn fire(image: &[u32], marking: &mut [u8], transition: u32) -> Result<(), Re
     image
         .fire(marking, transition)
         .map_err(|cause| Refusal::after(cause, 0))
+}
+
+/// "Write the resulting marking to a second lent buffer of the place count's length. Accepted, that
+/// buffer equals what firing on a copy leaves; a refusal is the same as there and writes nothing; the
+/// marking itself is only read. The second buffer's length is checked last, as 10." (document 02,
+/// item 2) Answers the bytes written.
+pub fn look(image: &[u32], marking: &[u8], transition: u32, next: &mut [u8]) -> Result<usize, u32> {
+    let mut copy = marking.to_vec();
+    fire(image, &mut copy, transition).map_err(|refusal| refusal.cause)?;
+    write_words(&copy, next)
 }
 
 /// "Replay starts afresh from the initial marking; of the lent marking only the length is

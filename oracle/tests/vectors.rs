@@ -47,6 +47,70 @@ fn every_call_meets_every_cause_of_a_table() {
 }
 
 #[test]
+fn a_look_is_answered_with_the_bytes_lent() {
+    // Two places, the first marked; transition 0 moves the token, transition 1 leaves it there.
+    let image = "w 2 2 2 2 1 8 9 21 0 3 0 0 21 1 1 3 1 0 23 1 1 0 1 0 0";
+    let asked = [
+        "e 0 2",
+        image,
+        "l 2",
+        "r",
+        "e 0 2",
+        "e 1 4",
+        "e 0 1",
+        "e 1 0",
+        "e",
+        "e 2 3",
+        "e 4294967296 2",
+        "f 0",
+        "e 0 2",
+        "m 1 2",
+        "e 0 2",
+        "j 24",
+        "e 0 1",
+        "f 0",
+    ];
+    let told = answer_to(&asked);
+    let looked: Vec<&str> = told
+        .iter()
+        .filter(|answer| answer.starts_with('e'))
+        .map(String::as_str)
+        .collect();
+    assert_eq!(
+        looked,
+        [
+            "e 11 0 2:170 170",
+            "e 0 2 2:0 1",
+            "e 0 2 4:1 0 170 170",
+            "e 10 0 1:170",
+            "e 10 0 0:",
+            "e 10 0 0:",
+            "e 14 0 3:170 170 170",
+            "e 0 2 2:0 1",
+            "e 15 0 2:170 170",
+            "e 13 0 2:170 170",
+            "e 11 0 1:170",
+        ]
+    );
+    // A look changes neither the image nor the marking.
+    assert_eq!(told[11], "f 0 2:0 1");
+    assert_eq!(told[17], "f 11 2:0 2");
+    let [most, more] = ["e 0 32768", "e 0 32769"].map(|look| answer_to(&[image, "l 2", "r", look]));
+    assert!(most == more && most[3].starts_with("e 0 2 32768#"));
+}
+
+#[test]
+fn looks_meet_every_cause_of_a_firing_and_a_room_too_short() {
+    let counts = counts(&requests()).unwrap();
+    for cause in [0, 10, 11, 12, 13, 14, 15, 16] {
+        let found = format!("cause e {cause:>2} ");
+        let count = counts.lines().find_map(|line| line.strip_prefix(&found));
+        let count: usize = count.map_or(0, |count| count.parse().unwrap());
+        assert!(count >= 30, "{found}: {count}");
+    }
+}
+
+#[test]
 fn a_rewriting_is_answered_with_the_words_lent() {
     let written = "0 0 2 1 2 0 0 13 13 21 22 28 28 0 0 0 0 0 1 0 0 0 3 1 0 3 0 0";
     let left = ["43690"; 27].join(" ");

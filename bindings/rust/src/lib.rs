@@ -41,6 +41,15 @@ extern "C" {
         marking_bytes: usize,
         transition: u32,
     ) -> u64;
+    fn dekohuna_look(
+        image: *const u32,
+        image_words: usize,
+        marking: *const u8,
+        marking_bytes: usize,
+        transition: u32,
+        next: *mut u8,
+        next_bytes: usize,
+    ) -> u64;
     fn dekohuna_replay(
         image: *const u32,
         image_words: usize,
@@ -125,6 +134,20 @@ pub fn fire(image: &[u32], marking: &mut [u8], transition: u32) -> Answer {
             marking.as_mut_ptr(),
             marking.len(),
             transition,
+        )
+    })
+}
+
+pub fn look(image: &[u32], marking: &[u8], transition: u32, next: &mut [u8]) -> Answer {
+    answer(unsafe {
+        dekohuna_look(
+            image.as_ptr(),
+            image.len(),
+            marking.as_ptr(),
+            marking.len(),
+            transition,
+            next.as_mut_ptr(),
+            next.len(),
         )
     })
 }

@@ -1,5 +1,5 @@
--- A word has its whole value where the value fits 56 bits, and what `build`, `size`, `start`, `step`, `read`, `rewrite` and the calls for originals tell
--- always does. The other calls count no more than the elements of a buffer.
+-- A word has its whole value where the value fits 56 bits, and what `build`, `size`, `look`, `start`, `step`, `read`, `rewrite` and the calls for originals
+-- tell always does: of a look since the words of an image have 32 bits. The other calls count no more than the elements of a buffer.
 use mathlib.Core.Path.{_≡_, refl}
 use mathlib.Core.Bool.{Bool, true, false, not}
 use mathlib.Core.Logic.{_⊎_, inl, inr}
@@ -21,7 +21,10 @@ use Rattle.scheme.specs.Scheme.{scheme}
 use Rattle.table.proofs.Accepted.{accepted}
 use Rattle.table.proofs.Passed.{passed}
 use Rattle.table.proofs.Inside.{Counted, counted}
-use Rattle.net.specs.Firing.{isMarking}
+use Rattle.net.specs.Firing.{isMarking, fire}
+use Rattle.net.specs.Firing as Net
+use Rattle.net.specs.Image.{placeCount}
+use Rattle.net.specs.Looking.{looked, shown, look}
 use Rattle.places.specs.Values.{allValues}
 use Rattle.places.specs.Places.{places}
 use Rattle.places.specs.Image.{imageOf}
@@ -68,6 +71,19 @@ size-fits w = go (same (cause w) 0) refl
     go : (b : Bool) → same (cause w) 0 ≡ b → pick b (Build.extent 0 (length (imageOf w))) (Build.extent (cause w) 0) .words < 2 ^ 56
     go true e = omega (arith, image-below w (same-true (cause w) 0 e))
     go false e = omega arith
+
+pub look-fits : (w m : List ℕ) (t : ℕ) (next : List ℕ) → placeCount w < 2 ^ 32 → look w m t next .bytes < 2 ^ 56
+unfolding look shown
+look-fits w m t next h = go (not (same (o .cause) 0)) (ltb (length next) (placeCount w))
+  where
+    o : Net.Outcome
+    o = fire w m t
+
+    go : (b c : Bool) →
+        pick b (looked (o .cause) 0 next) (pick c (looked 10 0 next) (looked 0 (placeCount w) (o .marking ++ drop (placeCount w) next))) .bytes < 2 ^ 56
+    go true c = omega arith
+    go false true = omega arith
+    go false false = omega arith
 
 -- ---- calls on states
 

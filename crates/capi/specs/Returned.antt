@@ -7,6 +7,7 @@ use lib.ListN.{drop}
 use Rattle.builder.specs.Answer.{BuildOutcome, SizeOutcome}
 use Rattle.net.specs.Firing.{Ending, limitReached, historyFull, nothingEnabled, stopped, RunOutcome}
 use Rattle.net.specs.Firing as Net
+use Rattle.net.specs.Looking.{LookOutcome}
 use Rattle.process.specs.Outcomes.{Outcome}
 
 -- value·256 + code. A value has 56 bits: no machine has room for a buffer of more elements than that.
@@ -32,6 +33,10 @@ ofSize o = packed (o .words) (o .number)
 -- code 0 is success, 11 to 16 the cause; value is the firings made
 abbrev pub ofFirings : Net.Outcome → Returned
 ofFirings o = returned (packed (o .firings) (o .cause)) (o .marking)
+
+-- code 0 is success, 10 to 16 the cause; value is the bytes written
+abbrev pub ofLook : LookOutcome → Returned
+ofLook o = returned (packed (o .bytes) (o .cause)) (o .next)
 
 -- a refusal has no value
 abbrev pub valueOr0 : Option ℕ → ℕ

@@ -7,8 +7,9 @@ ghost use Prim.Native.Nat.{_<_};
 ghost use lib.ListN.{length};
 ghost use Rattle.table.specs.Causes.{cause};
 ghost use Rattle.builder.specs.Answer.{builtOutcome, buildOutcome, sizedOutcome, sizeOutcome};
-ghost use Rattle.net.specs.Answers.{causeNumber, firingNumber, firingsMade, ending};
+ghost use Rattle.net.specs.Answers.{causeNumber, firingNumber, firingsMade, lookNumber, bytesShown, ending};
 ghost use Rattle.net.specs.Firing.{fire, replay, run};
+ghost use Rattle.net.specs.Looking.{look};
 ghost use Rattle.process.specs.Answers.{answerNumber, answerValue};
 ghost use Rattle.process.specs.Outcomes.{startOutcome, openOutcome, stepOutcome};
 ghost use Rattle.readback.specs.Answers.{readOutcome};
@@ -16,11 +17,12 @@ ghost use Rattle.readback.specs.Answers as Read;
 ghost use Rattle.rewriting.specs.Answers as Rewriting;
 ghost use Rattle.rewriting.specs.Outcomes.{rewriteOutcome, originalNode, originalBranch, originalName};
 ghost use Rattle.capi.specs.Returned.{packed, valueOr0, endingCode, ofSize};
-ghost use Rattle.capi.specs.Returned.{returned, ofBuild, ofFirings, ofOutcome, RunReturned};
+ghost use Rattle.capi.specs.Returned.{returned, ofBuild, ofFirings, ofLook, ofOutcome, RunReturned};
 use builder::Built;
 use builder::Sized;
 use net::Cause;
 use net::Firing;
+use net::Looked;
 use net::Reason;
 
 // value·256 + code.
@@ -136,6 +138,17 @@ fn fired_word(firing: Firing) -> u64
     }
 }
 
+// The word of a look.
+fn looked_word(looked: Looked) -> u64
+    ensures { λ r. ⌜ r ≡ packed (bytesShown looked) (lookNumber looked) ⌝ }
+{
+    match looked {
+        Looked::Done(bytes) => pack(bytes, 0),
+        Looked::Refused(cause) => pack(0, cause_code(cause)),
+        Looked::NoRoom => pack(0, 10),
+    }
+}
+
 // Checks a table.
 #[no_mangle]
 pub extern "C" fn dekohuna_check(table: &[u16]) -> u64
@@ -167,6 +180,20 @@ pub extern "C" fn dekohuna_fire(image: &[u32], marking: &mut [u8], transition: u
         ≡ ofFirings (fire (now (image .entry)) (now (marking .entry)) transition) ⌝ }
 {
     fired_word(net::fire(image, marking, transition))
+}
+
+// Writes what firing a transition by its number would leave to the start of `next`.
+#[no_mangle]
+pub extern "C" fn dekohuna_look(
+    image: &[u32],
+    marking: &[u8],
+    transition: u32,
+    next: &mut [u8],
+) -> u64
+    ensures { λ r. ⌜ returned r (now (next .exit))
+        ≡ ofLook (look (now (image .entry)) (now (marking .entry)) transition (now (next .entry))) ⌝ }
+{
+    looked_word(net::look(image, marking, transition, next))
 }
 
 // Fires numbers in turn from the initial marking.

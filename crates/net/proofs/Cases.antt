@@ -1,13 +1,14 @@
--- Table E's net and its image of 115 words (document 01, Table E and its listing), computed: one table of firings, the runs, replays.
+-- Table E's net and its image of 115 words (document 01, Table E and its listing), computed: one table of firings and looks, looks, runs, replays.
 use mathlib.Core.Bool.{Bool, true, _&&_}
 use mathlib.Core.Path.{_≡_, refl}
-use mathlib.Core.List.{List, [], _∷_}
+use mathlib.Core.List.{List, [], _∷_, _++_}
 use Prim.Native.Nat.{ℕ}
-use lib.ListN.{length}
+use lib.ListN.{length, replicate}
 use Rattle.lists.specs.Lists.{same, every, some, flat, member, ascends, total}
 use Rattle.net.specs.Image.{Label, labelOf, headerRight, recordRight}
 use Rattle.net.specs.Firing.{isMarking, isEnabled, hasContact, put, initialMarking, stepOf, step, Outcome, outcome, inTurn, fire}
 use Rattle.net.specs.Firing.{replay, searchFrom, lowestEnabled, Ending, limitReached, historyFull, nothingEnabled, stopped, RunOutcome, runFrom, run}
+use Rattle.net.specs.Looking.{looked, shown, look}
 use Rattle.net.specs.Net.{Transition, Net, recordsFrom, encode, isAscending}
 
 transition : ℕ → ℕ → ℕ → List ℕ → List ℕ → Transition
@@ -86,6 +87,26 @@ table = (0, 0) ∷ (1, 0) ∷ (2, 15) ∷ (3, 15) ∷ (4, 15) ∷ (5, 15) ∷ (6
 all-right : every (λ line. same (fire imageE markingE (line .0) .cause) (line .1)) table ≡ true
 unfolding table imageE markingE same every some member ascends headerRight recordRight isMarking isEnabled hasContact put stepOf step inTurn fire
 all-right = refl
+
+-- what the firing of 0 leaves at first
+nextE : List ℕ
+nextE = 1 ∷ 0 ∷ 0 ∷ 0 ∷ 0 ∷ 1 ∷ 1 ∷ 0 ∷ 1 ∷ 0 ∷ 1 ∷ 0 ∷ 0 ∷ 1 ∷ 0 ∷ 0 ∷ []
+
+-- the same causes of looks into a buffer of the place count's length
+all-shown : every (λ line. same (look imageE markingE (line .0) (replicate 16 170) .cause) (line .1)) table ≡ true
+unfolding table imageE markingE same every some member ascends headerRight recordRight isMarking isEnabled hasContact put stepOf step inTurn fire shown look
+all-shown = refl
+
+-- looks into a longer buffer, into one that is a byte short, and into none: a firing's cause comes before 10
+looks :
+    (look imageE markingE 0 (replicate 18 170) ≡ looked 0 16 (nextE ++ (170 ∷ 170 ∷ [])))
+    × (look imageE markingE 0 (replicate 15 170) ≡ looked 10 0 (replicate 15 170))
+    × (look imageE markingE 7 [] ≡ looked 15 0 [])
+    × (look imageE markingE 9 [] ≡ looked 14 0 [])
+    × (look imageE (replicate 15 0) 0 [] ≡ looked 13 0 [])
+    × (look [] markingE 0 [] ≡ looked 11 0 [])
+unfolding imageE markingE nextE same every some member ascends headerRight recordRight isMarking isEnabled hasContact put stepOf step inTurn fire shown look
+looks = (refl, refl, refl, refl, refl, refl)
 
 -- runs from the initial marking, by limit and history words: nothing enabled after 0 7 2 5; the limit is looked at before the history
 runs :

@@ -2,6 +2,7 @@
 pub mod Marks
 pub mod Images
 pub mod Steps
+pub mod Looks
 pub mod Runs
 pub mod Encode
 pub mod Outcomes

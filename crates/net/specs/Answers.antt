@@ -7,11 +7,14 @@ use Rattle.net.specs.declared.Cause.{Cause}
 use Rattle.net.specs.declared.Cause.the-variants.{ImageWrong, RecordWrong, MarkingWrong, NoTransition, NotEnabled, Contact}
 use Rattle.net.specs.declared.Firing.{Firing}
 use Rattle.net.specs.declared.Firing.the-variants.{Made, Refused}
+use Rattle.net.specs.declared.Looked.{Looked}
+use Rattle.net.specs.declared.Looked.the-variants as looks
 use Rattle.net.specs.declared.Replayed.{Replayed}
 use Rattle.net.specs.declared.Reason.{Reason}
 use Rattle.net.specs.declared.Reason.the-variants.{LimitReached, HistoryFull, NothingEnabled, Stopped}
 use Rattle.net.specs.declared.Ran.{Ran}
 use Rattle.net.specs.Firing.{Outcome, outcome, Ending, limitReached, historyFull, nothingEnabled, stopped, RunOutcome}
+use Rattle.net.specs.Looking.{LookOutcome, looked}
 
 -- the number of each cause (document 01, Causes of refusal)
 abbrev pub causeNumber : Cause → ℕ
@@ -35,6 +38,22 @@ firingsMade (Refused cause) = 0
 -- a single firing's answer with the marking that it left
 abbrev pub firingOutcome : Firing → List ℕ → Outcome
 firingOutcome answer marking = outcome (firingNumber answer) (firingsMade answer) marking
+
+-- the number of a look's answer, 0 where nothing was refused
+abbrev pub lookNumber : Looked → ℕ
+lookNumber (looks.Done bytes) = 0
+lookNumber (looks.Refused cause) = causeNumber cause
+lookNumber looks.NoRoom = 10
+
+-- the bytes that a look wrote
+abbrev pub bytesShown : Looked → ℕ
+bytesShown (looks.Done bytes) = bytes
+bytesShown (looks.Refused cause) = 0
+bytesShown looks.NoRoom = 0
+
+-- a look's answer with the second buffer that it left
+abbrev pub lookOutcome : Looked → List ℕ → LookOutcome
+lookOutcome answer next = looked (lookNumber answer) (bytesShown answer) next
 
 -- a replay's answer with the marking that it left
 abbrev pub replayOutcome : Replayed → List ℕ → Outcome

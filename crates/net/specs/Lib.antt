@@ -1,6 +1,7 @@
--- What a reader must believe: net images, firing, the answers' numbers, and the image of an abstract net.
+-- What a reader must believe: net images, firing, looking, the answers' numbers, and the image of an abstract net.
 pub mod Image
 pub mod Firing
+pub mod Looking
 pub mod Answers
 pub mod Net
 pub mod Inner

@@ -1,15 +1,16 @@
-// Net images: firing by number, replay and run on any image, also a foreign one.
-ghost use mathlib.Core.Bool.{true, not};
+// Net images: firing by number, looking at what a firing would leave, replay and run on any image, also a foreign one.
+ghost use mathlib.Core.Bool.{true};
 ghost use mathlib.Core.Path.{_≡_};
-ghost use mathlib.Core.List.{[], _∷_};
+ghost use mathlib.Core.List.{[], _∷_, _++_};
 ghost use Prim.Native.Nat.{ℕ, _<_, _≤_};
-ghost use lib.ListN.{length, replicate};
+ghost use lib.ListN.{length, drop, replicate};
 ghost use lib.Seq.{slice};
-ghost use Rattle.lists.specs.Lists.{pick, ascends};
+ghost use Rattle.lists.specs.Lists.{ascends};
 ghost use Rattle.net.specs.Image.{placeCount, transitionCount, lengthGiven, headerRight, inputsAt, recordRight};
 ghost use Rattle.net.specs.Firing.{isMarking, isEnabled, hasContact, put, moved, initialMarking};
 ghost use Rattle.net.specs.Firing.{step, inTurn, fire, replay, runFrom, run};
-ghost use Rattle.net.specs.Answers.{firingOutcome, replayOutcome, Leaves};
+ghost use Rattle.net.specs.Looking.{shown, look};
+ghost use Rattle.net.specs.Answers.{firingOutcome, lookOutcome, replayOutcome, Leaves};
 ghost use Rattle.net.specs.Inner.Arcs.{Header, Start, decoded, Listed, Offsets, Larger, Fired};
 
 // Why a call refuses: causes 11, 12, 13, 14, 15 and 16.
@@ -26,6 +27,13 @@ pub enum Cause {
 pub enum Firing {
     Made,
     Refused(Cause),
+}
+
+// What a look answers: how many bytes it wrote, or what it refuses.
+pub enum Looked {
+    Done(usize),
+    Refused(Cause),
+    NoRoom,
 }
 
 // What a replay answers: its last firing's answer, and its count of firings.
@@ -270,23 +278,16 @@ fn clear(marking: &mut [u8])
     }
 }
 
-// Takes the inputs' tokens and gives the outputs'. At a contact it answers false and leaves the marking.
-fn move_tokens(words: &[u32], start: usize, middle: usize, end: usize, marking: &mut [u8]) -> bool
+// Takes the inputs' tokens and gives the outputs'.
+fn move_tokens(words: &[u32], start: usize, middle: usize, end: usize, marking: &mut [u8])
     requires { ⌜ Listed (now words) start middle (length (now marking))
         × Listed (now words) middle end (length (now marking)) ⌝ }
-    ensures answer { λ r. ⌜ r
-        ≡ not (hasContact (now (marking .entry)) (slice start middle (now (words .entry)))
-        (slice middle end (now (words .entry)))) ⌝ }
-    ensures marking { λ r. ⌜ now (marking .exit)
-        ≡ pick r (moved (now (marking .entry)) (slice start middle (now (words .entry)))
-        (slice middle end (now (words .entry)))) (now (marking .entry)) ⌝ }
+    ensures { λ r. ⌜ now (marking .exit)
+        ≡ moved (now (marking .entry)) (slice start middle (now (words .entry)))
+        (slice middle end (now (words .entry))) ⌝ }
 {
-    if contact(words, start, middle, end, marking) {
-        return false;
-    }
     put_all(words, start, middle, marking, 0);
     put_all(words, middle, end, marking, 1);
-    true
 }
 
 // One firing on an image whose header is right, at a marking of its length. It costs its arcs.
@@ -305,9 +306,10 @@ fn fire_one(image: &[u32], marking: &mut [u8], transition: usize) -> Firing
     if !all_marked(image, start, middle, marking) {
         return Firing::Refused(Cause::NotEnabled);
     }
-    if !move_tokens(image, start, middle, end, marking) {
+    if contact(image, start, middle, end, marking) {
         return Firing::Refused(Cause::Contact);
     }
+    move_tokens(image, start, middle, end, marking);
     Firing::Made
 }
 
@@ -326,7 +328,11 @@ fn fire_enabled(image: &[u32], marking: &mut [u8], transition: usize) -> bool
     let inputs = span.inputs;
     let outputs = span.outputs;
     let end = span.end;
-    move_tokens(image, inputs, outputs, end, marking)
+    if contact(image, inputs, outputs, end, marking) {
+        return false;
+    }
+    move_tokens(image, inputs, outputs, end, marking);
+    true
 }
 
 // Fires one transition by number: 11, 13, 14, 12, 15, 16. A refusal leaves the marking.
@@ -342,6 +348,66 @@ pub fn fire(image: &[u32], marking: &mut [u8], transition: u32) -> Firing
         return Firing::Refused(Cause::MarkingWrong);
     }
     fire_one(image, marking, transition as usize)
+}
+
+// Copies bytes to the front of others.
+fn copy(from: &[u8], to: &mut [u8])
+    requires { ⌜ length (now from) ≤ length (now to) ⌝ }
+    ensures { λ r. ⌜ now (to .exit)
+        ≡ now (from .entry) ++ drop (length (now (from .entry))) (now (to .entry)) ⌝ }
+{
+    let mut i = 0;
+    while i < from.len() {
+        to[i] = from[i];
+        i += 1;
+    }
+}
+
+// One look on an image whose header is right, at a marking of its length: 14, 12, 15 and 16 as of a firing, then 10.
+// It costs a copy of the marking and the arcs.
+fn look_one(image: &[u32], marking: &[u8], number: usize, next: &mut [u8]) -> Looked
+    requires { ⌜ Header (now image) × (length (now marking) ≡ placeCount (now image)) ⌝ }
+    ensures { λ r. ⌜ lookOutcome r (now (next .exit))
+        ≡ shown (placeCount (now (image .entry)))
+        (inTurn (now (image .entry)) (now (marking .entry)) (number ∷ [])) (now (next .entry)) ⌝ }
+{
+    let count = image[1] as usize;
+    let places = marking.len();
+    let room = next.len();
+    if count <= number {
+        return Looked::Refused(Cause::NoTransition);
+    }
+    let Record::Arcs(inputs, outputs, end) = record_at(image, number, false) else {
+        return Looked::Refused(Cause::RecordWrong);
+    };
+    if !all_marked(image, inputs, outputs, marking) {
+        return Looked::Refused(Cause::NotEnabled);
+    }
+    if contact(image, inputs, outputs, end, marking) {
+        return Looked::Refused(Cause::Contact);
+    }
+    if room < places {
+        return Looked::NoRoom;
+    }
+    copy(marking, next);
+    move_tokens(image, inputs, outputs, end, &mut next[..places]);
+    Looked::Done(places)
+}
+
+// Writes to the front of `next` what firing a transition by number would leave. It is refused as the firing is, by 11,
+// 13, 14, 12, 15 or 16, then by 10. A refusal writes nothing, and the marking is only read.
+pub fn look(image: &[u32], marking: &[u8], transition: u32, next: &mut [u8]) -> Looked
+    ensures { λ r. ⌜ lookOutcome r (now (next .exit))
+        ≡ look (now (image .entry)) (now (marking .entry)) transition (now (next .entry)) ⌝ }
+{
+    if !header_right(image) {
+        return Looked::Refused(Cause::ImageWrong);
+    }
+    let places = image[0] as usize;
+    if !marking_right(marking, places) {
+        return Looked::Refused(Cause::MarkingWrong);
+    }
+    look_one(image, marking, transition as usize, next)
 }
 
 // Fires numbers in turn, until one is refused, on an image whose header is right and at a marking of its length.

@@ -3,6 +3,7 @@ use builder::Built;
 use builder::Sized;
 use net::Cause;
 use net::Firing;
+use net::Looked;
 use net::Reason;
 
 // A cause's number, or 0, and what was counted or read back.
@@ -74,6 +75,15 @@ pub fn of_firing(firing: Firing) -> usize {
     match firing {
         Firing::Made => 0,
         Firing::Refused(cause) => of_net(cause),
+    }
+}
+
+// What a look answered.
+pub fn of_look(looked: Looked) -> Outcome {
+    match looked {
+        Looked::Done(count) => Outcome(0, count),
+        Looked::Refused(cause) => Outcome(of_net(cause), 0),
+        Looked::NoRoom => Outcome(10, 0),
     }
 }
 

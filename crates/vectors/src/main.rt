@@ -16,6 +16,7 @@
 //   l length          the marking is cut, or lengthened by 0                  its length
 //   m index byte      a byte of the marking is set; nothing past its end      its length
 //   f number          fires                                                   cause, marking
+//   e number room     looks at a firing into room bytes                       cause, bytes written, the room bytes
 //   r number..        replays these numbers                                   cause, firings, marking
 //   h count           replays the first words of the history                  cause, firings, marking
 //   u limit room      runs, with a history of room words                      cause, reason, firings, history, marking
@@ -31,13 +32,13 @@
 // A cause is its number, or 0. A reason is 1 for limit reached, 2 for history full, 3 for nothing enabled, 0 with a
 // cause. A kind of the request a, taken modulo 3, is 0 for a node, 1 for a branch, 2 for a name. What a refusal does
 // not count or read back is 0. After b the image is the words written, none if it was refused; after g, s and k the
-// state is the words written, and stays as it was if they were refused; after v and a nothing is changed. Words that
-// are lent to be written are first filled with 43690 (16 bits) or 2863311530 (32 bits).
+// state is the words written, and stays as it was if they were refused; after e, v and a nothing is changed. What is
+// lent to be written is first filled with 170 (bytes), 43690 (16-bit words) or 2863311530 (32-bit words).
 //
-// There is room for 4,096 words of a table, 131,072 of an image, 32,768 bytes of a marking, 64 words of a state, 4,096
-// of a history and of labels, and 4,095 numbers of a request: more than that is not kept or lent. Numbers of a request
-// have 64 bits, and are taken modulo 2^32, 2^16 or 2^8 where they become words or bytes. A missing number is 0, and
-// another letter is answered by itself alone.
+// There is room for 4,096 words of a table, 131,072 of an image, 32,768 bytes of a marking and of a look, 64 words of
+// a state, 4,096 of a history and of labels, and 4,095 numbers of a request: more than that is not kept or lent.
+// Numbers of a request have 64 bits, and are taken modulo 2^32, 2^16 or 2^8 where they become words or bytes. A
+// missing number is 0, and another letter is answered by itself alone.
 //
 // A list is its length, then, if that is at most 128, `:` and its items with a space between, else `#` and the 64-bit
 // FNV-1a digest of its bytes, the low byte of each item first, in 16 hexadecimal digits.
@@ -75,6 +76,7 @@ fn answer(
         b'b' => nets::build(request, sizes, table, image),
         b'z' => nets::size(sizes, table),
         b'f' | b'r' | b'h' => nets::play(request, fields, sizes, image, marking, history),
+        b'e' => nets::look(request, sizes, image, marking),
         b'u' => nets::run(request, sizes, image, marking, history),
         b'g' | b's' | b'k' => states::next(request, sizes, table, marking, state),
         b'o' => states::open_steps(request, sizes, table, state),

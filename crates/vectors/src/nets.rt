@@ -1,5 +1,6 @@
 // Requests that build and fire.
 use crate::causes;
+use crate::causes::Outcome;
 use crate::changes::set32;
 use crate::line::Request;
 use crate::line::word;
@@ -85,6 +86,29 @@ pub fn play(
         &history[..end],
     );
     text::list8(marking, bytes);
+    sizes
+}
+
+// Looks at a firing in the first bytes of a list.
+fn show(image: &[u32], marking: &[u8], number: u32, list: &mut [u8], room: usize) -> Outcome {
+    let end = cut8(room, list);
+    causes::of_look(net::look(image, marking, number, &mut list[..end]))
+}
+
+// e: looks at a firing.
+pub fn look(request: Request, sizes: Sizes, image: &[u32], marking: &[u8]) -> Sizes {
+    let mut space = [170u8; 32768];
+    let words = cut32(sizes.image, image);
+    let bytes = cut8(sizes.marking, marking);
+    let room = least(request.b, 32768);
+    text::outcome(show(
+        &image[..words],
+        &marking[..bytes],
+        word(request.a),
+        &mut space,
+        room,
+    ));
+    text::list8(&space, room);
     sizes
 }
 

@@ -1,5 +1,6 @@
-//! Rewrites a table whose definitions call themselves, builds its net, runs it from its initial marking, and reads the
-//! state back. What is a copy is shown with the number in the table that it is a copy of.
+//! Rewrites a table whose definitions call themselves, builds its net, runs it from its initial marking, makes each
+//! firing of the run again after a look at what it would leave, and reads the state back. What is a copy is shown with
+//! the number in the table that it is a copy of.
 //!
 //!     run [TABLE-FILE [LIMIT]]
 //!
@@ -103,6 +104,21 @@ fn print_firing(table: &[u16], image: &[u32], number: u32) {
     );
 }
 
+/// Makes the firings of a history once more, each after a look at what it would leave, and prints them.
+fn fire_again(table: &[u16], image: &[u32], history: &[u32]) {
+    let mut marking = vec![0; image[0] as usize];
+    let mut next = marking.clone();
+    accepted(dekohuna::replay(image, &mut marking, &[]));
+    for &number in history {
+        accepted(dekohuna::look(image, &marking, number, &mut next));
+        accepted(dekohuna::fire(image, &mut marking, number));
+        if marking != next {
+            fail("a firing leaves another marking than the look showed");
+        }
+        print_firing(table, image, number);
+    }
+}
+
 fn reason(code: u8) -> &'static str {
     match code {
         dekohuna::LIMIT_REACHED => "limit reached",
@@ -141,9 +157,7 @@ fn run(own: &[u16], limit: usize) {
     accepted(dekohuna::replay(&image, &mut marking, &[]));
     let mut history = vec![0; limit];
     let ran = dekohuna::run(&image, &mut marking, limit as u64, &mut history);
-    for &number in &history[..ran.value as usize] {
-        print_firing(own, &image, number);
-    }
+    fire_again(own, &image, &history[..ran.value as usize]);
     println!(
         "firings made: {}, {} ({})",
         ran.value,

@@ -13,7 +13,8 @@ pub const LABEL_ROOM: usize = 4096;
 /// How many numbers of a request are read.
 const NUMBERS: usize = 4095;
 
-/// What fills words that are lent to be written.
+/// What fills bytes and words that are lent to be written.
+const FILL_8: u8 = 0xaa;
 const FILL_16: u16 = 0xaaaa;
 const FILL_32: u32 = 0xaaaa_aaaa;
 
@@ -83,6 +84,7 @@ impl Session {
                 vec![self.marking.len().to_string()]
             }
             "f" => self.fire(&numbers),
+            "e" => self.look(&numbers),
             "r" => {
                 let numbers: Vec<u32> = numbers.iter().map(|&number| number as u32).collect();
                 self.replay(&numbers)
@@ -137,6 +139,14 @@ impl Session {
         let fired = crate::fire(&self.image, &mut self.marking, number(numbers, 0) as u32);
         let cause = fired.map_or_else(|refusal| refusal.cause, |()| 0);
         vec![cause.to_string(), list8(&self.marking)]
+    }
+
+    /// `e number room` looks at a firing, with so many bytes lent, and keeps nothing.
+    fn look(&self, numbers: &[u64]) -> Vec<String> {
+        let mut room = vec![FILL_8; at(numbers, 1).min(MARKING_ROOM)];
+        let number = number(numbers, 0) as u32;
+        let answer = crate::look(&self.image, &self.marking, number, &mut room);
+        counted(answer, list8(&room))
     }
 
     fn replay(&mut self, numbers: &[u32]) -> Vec<String> {

@@ -5,6 +5,7 @@ use crate::random::Random;
 
 /// An image with a few places and transitions, and calls on it.
 pub fn play_foreign(writer: &mut Writer) {
+    writer.draw_next();
     let mut image = foreign(&mut writer.random);
     if writer.random.chance(40) {
         spoil(&mut writer.random, &mut image);
@@ -15,10 +16,16 @@ pub fn play_foreign(writer: &mut Writer) {
     writer.ask('w', &words);
     writer.ask('l', &[places]);
     writer.ask('r', &[]);
+    for number in 0..=transitions.min(9) {
+        writer.look(number as u64, places as usize);
+    }
     for _ in 0..9 {
         match writer.random.below(8) {
             0..=2 => {
                 let number = writer.random.below(transitions.min(9) + 1) as u64;
+                if writer.random.chance(50) {
+                    writer.look(number, places as usize);
+                }
                 writer.ask('f', &[number]);
             }
             3 => {

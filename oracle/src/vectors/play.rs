@@ -19,6 +19,7 @@ use crate::table::{accept, Table};
 
 /// A table that `cause` refuses, its size, and a call or two with it.
 pub fn play_refused(writer: &mut Writer, shape: Shape, cause: u32) {
+    writer.draw_next();
     let words = damaged(&mut writer.random, shape, cause);
     writer.table(&words);
     writer.ask('z', &[]);
@@ -75,6 +76,7 @@ fn play_any(
     steps: usize,
     mut draw: impl FnMut(&mut Random) -> Option<Vec<u16>>,
 ) {
+    writer.draw_next();
     loop {
         if let Some(words) = draw(&mut writer.random) {
             if let Ok(table) = accept(&words) {
@@ -179,6 +181,7 @@ impl Player<'_> {
         let enabled = self.enabled();
         match self.random().pick(&enabled) {
             Some(number) => {
+                self.look_at(number as usize, 30);
                 self.ask('f', &[number as usize]);
                 self.fired.push(number);
             }
@@ -193,7 +196,15 @@ impl Player<'_> {
             1 => 4_294_967_295,
             _ => self.random().below(count + 1),
         };
+        self.look_at(number, 60);
         self.ask('f', &[number]);
+    }
+
+    /// Looks at a firing, with a chance.
+    fn look_at(&mut self, number: usize, percent: usize) {
+        if self.random().chance(percent) {
+            self.writer.look(number as u64, self.places.count);
+        }
     }
 
     fn run(&mut self) {
@@ -322,6 +333,7 @@ impl Player<'_> {
         self.lend(&marking);
         self.read();
         if let Some(number) = self.writer.random.pick(&self.enabled()) {
+            self.look_at(number as usize, 40);
             self.ask('f', &[number as usize]);
             self.read();
         }
@@ -357,6 +369,9 @@ impl Player<'_> {
             let room = self.state_room();
             self.ask('g', &[room]);
         }
+        let enabled = self.enabled();
+        let number = self.random().pick(&enabled).unwrap_or(0);
+        self.look_at(number as usize, 60);
         self.try_firing();
         self.begin();
     }
@@ -441,8 +456,9 @@ impl Player<'_> {
         self.ask('i', &[at, word as usize]);
     }
 
-    /// Fires, replays and runs with a spoilt image.
+    /// Looks, fires, replays and runs with a spoilt image.
     fn try_spoilt(&mut self, number: usize) {
+        self.look_at(number, 70);
         self.ask('f', &[number]);
         if self.random().chance(50) {
             let mut numbers: Vec<usize> =

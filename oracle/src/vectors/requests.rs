@@ -12,12 +12,34 @@ use crate::random::Random;
 
 /// Requests being written, and what they have made so far.
 pub struct Writer {
+    /// What a table and the calls on it are drawn from.
     pub random: Random,
+    seed: u64,
     pub session: Session,
     text: String,
 }
 
 impl Writer {
+    fn new() -> Writer {
+        Writer {
+            random: Random::new(0),
+            seed: 0,
+            session: Session::default(),
+            text: String::new(),
+        }
+    }
+
+    /// Draws from this seed on.
+    pub fn draw_from(&mut self, seed: u64) {
+        self.random = Random::new(seed);
+        self.seed = seed;
+    }
+
+    /// Draws from the next seed on: a table is drawn from its seed alone, whatever was asked before.
+    pub fn draw_next(&mut self) {
+        self.draw_from(self.seed + 1);
+    }
+
     /// Adds a request.
     pub fn ask(&mut self, letter: char, numbers: &[u64]) {
         let mut line = letter.to_string();
@@ -34,6 +56,18 @@ impl Writer {
     pub fn table(&mut self, words: &[u16]) {
         let numbers: Vec<u64> = words.iter().map(|&word| word.into()).collect();
         self.ask('t', &numbers);
+    }
+
+    /// Looks at a firing with a room that is exact, short or longer, or with none.
+    pub fn look(&mut self, number: u64, places: usize) {
+        let room = match self.random.below(8) {
+            0 => 0,
+            1 => places.saturating_sub(1),
+            2 => self.random.below(places),
+            3 | 4 => places + self.random.between(1, 5),
+            _ => places,
+        };
+        self.ask('e', &[number, room as u64]);
     }
 }
 
@@ -52,11 +86,7 @@ pub const TINY: Shape = Shape {
 
 /// All requests.
 pub fn requests() -> String {
-    let mut writer = Writer {
-        random: Random::new(1),
-        session: Session::default(),
-        text: String::new(),
-    };
+    let mut writer = Writer::new();
     play_worked(&mut writer);
     for cause in 1..=9 {
         for _ in 0..24 {
@@ -103,11 +133,7 @@ pub fn requests() -> String {
 
 /// Those on definitions that call themselves.
 pub fn rewriting_requests() -> String {
-    let mut writer = Writer {
-        random: Random::new(1),
-        session: Session::default(),
-        text: String::new(),
-    };
+    let mut writer = Writer::new();
     play_rewriting(&mut writer);
     writer.text
 }

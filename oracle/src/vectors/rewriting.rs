@@ -19,16 +19,20 @@ const CALLER: [u16; 21] = [
     0, 0, 1, 1, 1, 0, 0, 13, 13, 17, 18, 21, 21, 0, 0, 0, 0, 0, 3, 0, 0,
 ];
 
+/// Above the seeds of all other requests.
+const FIRST_SEED: u64 = 1_000_000;
+
 const NODE: u64 = 0;
 const BRANCH: u64 = 1;
 const NAME: u64 = 2;
 
 /// All of them, whatever was asked before.
 pub fn play_rewriting(writer: &mut Writer) {
-    writer.random = Random::new(2);
+    writer.draw_from(FIRST_SEED);
     play_caller(writer);
     for cause in 1..=9 {
         for shape in [TINY, TINY, TINY, TINY, Shape::SMALL] {
+            writer.draw_next();
             let words = damaged(&mut writer.random, self_calling(shape), cause);
             play_refused(writer, &words);
         }
@@ -37,6 +41,7 @@ pub fn play_rewriting(writer: &mut Writer) {
         for shape in [TINY, TINY, TINY, Shape::SMALL, Shape::SMALL] {
             let any = |random: &mut Random| accepted(random, self_calling(shape));
             let like = |table: &Table| self_call_shapes(table).contains(&wanted);
+            writer.draw_next();
             let words = drawn(&mut writer.random, any, like);
             play_self_calling(writer, &words, 9, 5);
         }
@@ -44,11 +49,13 @@ pub fn play_rewriting(writer: &mut Writer) {
     for _ in 0..12 {
         let talk = |random: &mut Random| dialogue(random, self_calling(Shape::SMALL));
         let calls_itself = |table: &Table| !table.self_calling().is_empty();
+        writer.draw_next();
         let words = drawn(&mut writer.random, talk, calls_itself);
         play_self_calling(writer, &words, 12, 24);
     }
     for _ in 0..6 {
         let wide = |random: &mut Random| accepted(random, self_calling(Shape::WIDE));
+        writer.draw_next();
         let words = drawn(&mut writer.random, wide, |_| true);
         play_self_calling(writer, &words, 9, 5);
     }
@@ -59,6 +66,7 @@ pub fn play_rewriting(writer: &mut Writer) {
         (Shape::FULL, 1),
     ] {
         for _ in 0..count {
+            writer.draw_next();
             let words = accepted(&mut writer.random, shape);
             play_plain(writer, &words);
         }
@@ -212,6 +220,7 @@ fn play_bounds(writer: &mut Writer) {
         many_arguments(16, 0),
         many_arguments(15, 16),
     ] {
+        writer.draw_next();
         play_self_calling(writer, &words, 3, 2);
     }
     for words in [
@@ -231,12 +240,14 @@ fn play_bounds(writer: &mut Writer) {
         writer.ask('a', &[NODE, 0]);
     }
     for _ in 0..3 {
+        writer.draw_next();
         let words = accepted(&mut writer.random, self_calling(Shape::FULL));
         play_refused(writer, &words);
     }
     // Other causes come before that of a rewritten table beyond a bound.
     for cause in 4..=9 {
         for mut words in [many_names(16, 1), many_arguments(16, 1)] {
+            writer.draw_next();
             if spoil(&mut writer.random, &mut words, cause, true) {
                 play_refused(writer, &words);
             }

@@ -54,7 +54,9 @@ const REPEATED: [u16; 55] = [
 
 pub fn play_worked(writer: &mut Writer) {
     writer.ask('z', &[]);
+    writer.ask('e', &[0, 4]);
     play_e(writer);
+    look_at_e(writer);
     play_variants(writer);
     for (table, places) in [
         (&INTO_STOP[..], 15),
@@ -140,6 +142,48 @@ fn play_e(writer: &mut Writer) {
         writer.ask('k', &[label[0], label[1], label[2], 4]);
     }
     writer.ask('o', &[0]);
+}
+
+/// The firings of table E, looked at with rooms of every kind; then a look that every cause refuses,
+/// with what the first of them finds mended each time.
+fn look_at_e(writer: &mut Writer) {
+    writer.ask('r', &[]);
+    let most = 18_446_744_073_709_551_615;
+    for room in [16, 15, 0, 17, 40, 32_768, 32_769, most] {
+        writer.ask('e', &[0, room]);
+    }
+    for number in [9, 4_294_967_295, 4_294_967_296, 4_294_967_303, most] {
+        writer.ask('e', &[number, 16]);
+    }
+    writer.ask('e', &[7]);
+    writer.ask('e', &[]);
+    for fired in [1, 8, 3, 6] {
+        for number in 0..9 {
+            writer.ask('e', &[number, 16]);
+        }
+        writer.ask('f', &[fired]);
+    }
+    writer.ask('r', &[]);
+    let (initial, arc_start) = (8, 14 + 6 * 7 + 3);
+    writer.ask('i', &[initial, 6]);
+    writer.ask('i', &[arc_start, 0]);
+    writer.ask('m', &[12, 2]);
+    writer.ask('e', &[9, 0]);
+    writer.ask('i', &[initial, 5]);
+    writer.ask('e', &[9, 0]);
+    writer.ask('m', &[12, 0]);
+    writer.ask('e', &[9, 0]);
+    writer.ask('e', &[7, 0]);
+    writer.ask('i', &[arc_start, 99]);
+    writer.ask('m', &[3, 1]);
+    writer.ask('e', &[7, 0]);
+    writer.ask('m', &[0, 1]);
+    writer.ask('m', &[10, 1]);
+    writer.ask('e', &[7, 0]);
+    writer.ask('m', &[3, 0]);
+    for room in [0, 15, 16, 18] {
+        writer.ask('e', &[7, room]);
+    }
 }
 
 /// Table E with a word changed, cut and lengthened; the stopped table and its variant.

@@ -1,6 +1,5 @@
--- `net::move_tokens` meets its contract: a contact leaves the marking; else the inputs' tokens are taken, then the outputs' given.
-use mathlib.Core.Bool.{not}
-use mathlib.Core.Path.{_≡_, refl, sym, ap, _∙_}
+-- `net::move_tokens` meets its contract: the inputs' tokens are taken, then the outputs' given.
+use mathlib.Core.Path.{ap, _∙_}
 use mathlib.Core.List.{List}
 use Prim.Native.Nat.{ℕ}
 use lib.ListN.{length}
@@ -12,42 +11,21 @@ use Rattle.net.proofs.Images.{listed-for}
 use Rattle.net.proofs.move_tokens.Statement.{statement}
 use Rattle.net.proofs.move_tokens.Tie as tie
 
-contact-requires : tie.Need-contact-requires
-contact-requires c κs = search needs
-
-same-length : tie.Need-same-length
-same-length c = search needs
-
-returns : tie.Need-returns
-returns c = (sym (ap not (sym (c .before .contact .ensures) ∙ c .if1 .taken)), refl)
-
 put-all-requires : tie.Need-put-all-requires
 put-all-requires c κs = search needs
 
 put-all-requires-2 : tie.Need-put-all-requires-2
 put-all-requires-2 c κs = listed-for _ _ _ _ _ (ap length (c .before .before .before .put-all .ensures) ∙ length-put _ _ _)
-    (c .before .before .before .before .before .before .before .before .before .before .pre .1)
+    (c .before .before .before .before .before .before .before .pre .1)
 
-same-length-2 : tie.Need-same-length-2
-same-length-2 c = search needs
+same-length : tie.Need-same-length
+same-length c = search needs
 
-returns-2 : tie.Need-returns-2
-returns-2 c =
-    let a = c .before .before .before .before .before .before .before .before .before .before .before .before .before .args in (
-      sym (ap not (sym (c .before .before .before .before .before .before .before .before .before .contact .ensures)
-          ∙ c .before .before .before .before .before .before .before .before .if1 .left)),
-      c .before .before .put-all2 .ensures
-          ∙ ap (λ (l : List ℕ). put 1 l (slice (a .middle) (a .end) (a .words .now))) (c .before .before .before .before .before .before .put-all .ensures),
-    )
+returns : tie.Need-returns
+returns c =
+    let a = c .before .before .before .before .before .before .before .before .before .before .args in
+    c .before .before .put-all2 .ensures
+    ∙ ap (λ (l : List ℕ). put 1 l (slice (a .middle) (a .end) (a .words .now))) (c .before .before .before .before .before .before .put-all .ensures)
 
 pub move-tokens-spec : {M : Type 1} → statement M
-move-tokens-spec =
-    tie.close
-    (tie.spec
-    contact-requires
-    same-length
-    returns
-    put-all-requires
-    put-all-requires-2
-    same-length-2
-    returns-2)
+move-tokens-spec = tie.close (tie.spec put-all-requires put-all-requires-2 same-length returns)
