@@ -1,4 +1,5 @@
-//! Document 01, "Places": which number each place has.
+//! Document 01, "Places": which number each place has; document 02, item 3: how many private values
+//! there are.
 
 use std::ops::Range;
 
@@ -20,13 +21,18 @@ pub struct Places {
 }
 
 impl Places {
-    /// "Per bound name in order: input or formal x has [x=v] for the P+N values, then [x≠n] for
-    /// N; restricted r has [r=n] for N. Then [\*≠n] for N. [...] Then control places by node".
+    /// The places of an accepted table.
     pub fn of(table: &Table) -> Places {
+        Places::with_privates(table, private_count(table))
+    }
+
+    /// The places with N private values: "Per bound name in order: input or formal x has [x=v] for
+    /// the P+N values, then [x≠n] for N; restricted r has [r=n] for N. Then [\*≠n] for N. [...] Then
+    /// control places by node".
+    pub(crate) fn with_privates(table: &Table, privates: usize) -> Places {
         let publics = table.publics;
-        let privates = table.names.len();
         let mut next = 0;
-        let mut rows = Vec::with_capacity(privates);
+        let mut rows = Vec::with_capacity(table.names.len());
         for name in table.bound_names() {
             rows.push(next);
             next += if table.is_restricted(name) {
@@ -60,7 +66,7 @@ impl Places {
         } else if table.is_restricted(name) {
             self.private_values()
         } else {
-            0..self.publics + self.privates
+            self.values()
         }
     }
 
@@ -68,6 +74,11 @@ impl Places {
     pub fn common(&self, table: &Table, one: usize, other: usize) -> Range<usize> {
         let (one, other) = (self.range(table, one), self.range(table, other));
         one.start.max(other.start)..one.end.min(other.end)
+    }
+
+    /// All values, publics first: P+N of them.
+    pub fn values(&self) -> Range<usize> {
+        0..self.publics + self.privates
     }
 
     /// The private values, P to P+N−1.
@@ -136,4 +147,38 @@ fn control_places(table: &Table, node: usize) -> usize {
             1 + table.definitions[definition].formal_count + table.held[node].len()
         }
     }
+}
+
+/// N: "With no restricted names N is now 0. Otherwise N is the sum, over threads, of the largest
+/// number of names held at any one of the thread's control places, chain places included." (document
+/// 02, item 3) A thread's control places are those of all its definitions, called or not.
+fn private_count(table: &Table) -> usize {
+    if !table.bound_names().any(|name| table.is_restricted(name)) {
+        return 0;
+    }
+    let mut most = vec![0; table.entries.len()];
+    for node in 0..table.nodes.len() {
+        let held = |position| names_at(table, node, position).count();
+        let largest = (0..control_places(table, node)).map(held).max();
+        let of_thread = &mut most[table.thread(node)];
+        *of_thread = largest.unwrap_or(0).max(*of_thread);
+    }
+    most.iter().sum()
+}
+
+/// The names held at a control place, by its position among those of its node: at a Stop's final
+/// place none. "In a call's chain the held names are the copied formals and the unreleased caller's
+/// names"; "In a Stop's chain the unreleased names are held".
+pub fn names_at(table: &Table, node: usize, position: usize) -> impl Iterator<Item = usize> + '_ {
+    let (copied, released) = match table.nodes[node] {
+        Node::Choice { .. } | Node::New { .. } => (0..0, 0),
+        Node::Stop => (0..0, position),
+        Node::Call { definition, .. } => {
+            let formals = table.definitions[definition].formals();
+            let done = position.saturating_sub(1);
+            let copied = formals.len().min(done);
+            (formals.start..formals.start + copied, done - copied)
+        }
+    };
+    copied.chain(table.held[node][released..].iter().copied())
 }

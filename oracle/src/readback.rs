@@ -1,6 +1,6 @@
 //! Document 01, "Transitions", last paragraph: which state a marking stands for.
 
-use crate::places::Places;
+use crate::places::{names_at, Places};
 use crate::process::{write_words, State};
 use crate::table::{accept, Node, Table};
 
@@ -112,28 +112,22 @@ impl Reader<'_> {
         }
     }
 
-    /// The names held at a control place. "In a call's chain the held names are the copied
-    /// formals and the unreleased caller's names"; "In a Stop's chain the unreleased names are
-    /// held but not in the state."
+    /// The names held at a control place.
     fn held_names(&self, control: Control) -> Vec<usize> {
-        let held = &self.table.held;
-        match control {
-            Control::At(node) if self.table.nodes[node] == Node::Stop => Vec::new(),
-            Control::At(node) => held[node].clone(),
-            Control::Stopping { node, released } => held[node][released..].to_vec(),
+        let (node, position) = match control {
+            Control::At(node) if self.table.nodes[node] == Node::Stop => {
+                (node, self.table.held[node].len())
+            }
+            Control::At(node) => (node, 0),
+            Control::Stopping { node, released } => (node, released),
             Control::Calling {
                 node,
-                definition,
                 copied,
                 released,
-            } => {
-                let formals = self.table.definitions[definition].formals();
-                formals
-                    .take(copied)
-                    .chain(held[node][released..].iter().copied())
-                    .collect()
-            }
-        }
+                ..
+            } => (node, 1 + copied + released),
+        };
+        names_at(self.table, node, position).collect()
     }
 
     /// The values the held names have in the marking: "each name held there one marked value and
@@ -187,7 +181,8 @@ impl Reader<'_> {
         }
     }
 
-    /// The names of the state, each with the name whose value it has: "uncopied formals valued
+    /// The names of the state, each with the name whose value it has: "In a Stop's chain the
+    /// unreleased names are held but not in the state."; in a call's chain "uncopied formals valued
     /// as their arguments; where the called root is Stop, it has none of these names."
     fn names_in_state(&self, control: Control) -> Vec<(usize, usize)> {
         if self.table.nodes[self.node_in_state(control)] == Node::Stop {

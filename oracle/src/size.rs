@@ -14,8 +14,16 @@ pub fn size(words: &[u16]) -> Result<usize, u32> {
 
 /// How many words the image of an accepted table has.
 pub fn image_words(table: &Table) -> usize {
-    let places = Places::of(table);
-    Size::of(table, &places).image_words(places.initial(table).len())
+    words_with(table, &Places::of(table))
+}
+
+/// How many words it would have with as many private values as bound names, which is no fewer.
+pub(crate) fn most_words(table: &Table) -> usize {
+    words_with(table, &Places::with_privates(table, table.names.len()))
+}
+
+fn words_with(table: &Table, places: &Places) -> usize {
+    Size::of(table, places).image_words(places.initial(table).len())
 }
 
 #[derive(Clone, Copy, Debug, Default, PartialEq, Eq)]

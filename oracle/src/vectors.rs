@@ -16,3 +16,4 @@ pub use answers::answers;
 pub use count::counts;
 pub use requests::{requests, rewriting_requests};
 pub use self_calls::SELF_CALL_SHAPES;
+pub use shapes::VALUE_SHAPES;

@@ -10,7 +10,7 @@ use oracle::generate::{accepted, encode, Shape};
 use oracle::random::Random;
 use oracle::rewrite::rewritten;
 use oracle::table::{accept, accept_sparing, Branch, Node, Table};
-use oracle::{build, check, listing, open_steps, read, start, step};
+use oracle::{build, check, listing, open_steps, read, size, start, step};
 use oracle::{original_branch, original_name, original_node, rewrite};
 
 /// One thread that calls itself for ever.
@@ -560,8 +560,20 @@ fn a_listing_is_refused_in_its_order() {
     assert_eq!(listing(&odd(&with(&CALLER, 18, 4))), "refused 3\n");
     assert_eq!(listing(&odd(&many_definitions(32, 0))), "refused 3\n");
     assert_eq!(listing(&bytes(&with(&CALLER, 18, 4))), "refused 4\n");
-    let words = many_names(16, 0);
-    let mut image = vec![0; 16_384];
-    assert_eq!(build(&rewritten(&words).unwrap(), &mut image), Err(10));
-    assert_eq!(listing(&bytes(&words)), "refused 10\n");
+    let image_words = |words: &[u16]| rewritten(words).and_then(|table| size(&table));
+    let wide = Shape {
+        self_calls: true,
+        ..Shape::WIDE
+    };
+    let mut random = Random::new(55);
+    let (mut listed, mut refused) = (0, 0);
+    while listed < 5 || refused < 5 {
+        let words = accepted(&mut random, wide);
+        if let Ok(length) = image_words(&words) {
+            let text = listing(&bytes(&words));
+            assert_eq!(text == "refused 10\n", length > 16_384);
+            refused += usize::from(length > 16_384);
+            listed += usize::from(length <= 16_384);
+        }
+    }
 }

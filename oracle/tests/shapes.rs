@@ -2,7 +2,7 @@
 
 mod common;
 
-use common::{image_of, Net};
+use common::{image_of, private_count, Net};
 use oracle::generate::{accepted, Shape};
 use oracle::random::Random;
 use oracle::table::{accept, Branch, NameKind, Node, Table};
@@ -202,8 +202,9 @@ fn check_places(net: &Net) {
         .iter()
         .filter(|&&kind| kind == NameKind::Restricted)
         .count();
-    let (n, others) = (table.names.len(), table.names.len() - restricted);
+    let (n, others) = (private_count(table), table.names.len() - restricted);
     let values = others * table.publics + (2 * others + restricted + 1) * n;
+    assert_eq!(net.places.first(0), values);
     let control: usize = (0..table.nodes.len())
         .map(|node| match table.nodes[node] {
             Node::Choice { .. } | Node::New { .. } => 1,

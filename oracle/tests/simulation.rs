@@ -2,10 +2,10 @@
 
 mod common;
 
-use common::{is_bookkeeping, Label, Net};
+use common::{is_bookkeeping, standing_marking, Label, Net, Values};
 use oracle::generate::{accepted, Shape};
 use oracle::random::Random;
-use oracle::table::{Branch, Node};
+use oracle::table::Branch;
 use oracle::{fire, read, replay, run, Reason, Refusal, RunAnswer};
 
 /// What the walks met, so that the tests do not pass on empty ground.
@@ -184,85 +184,6 @@ fn tables_up_to_the_bounds_do_as_their_process() {
     assert!(met.firings > 100);
 }
 
-/// A random marking that stands for a state, reached or not.
-fn standing_marking(net: &Net, random: &mut Random) -> Vec<u8> {
-    let (table, places) = (&net.table, &net.places);
-    let mut marking = vec![0; places.count];
-    let mut values: Vec<usize> = places.private_values().collect();
-    // A value that many names share, so that steps are open.
-    let favourite = random.pick(&values).unwrap_or(0);
-    random.shuffle(&mut values);
-    let mut held = Vec::new();
-    for thread in 0..table.entries.len() {
-        let nodes: Vec<usize> = (0..table.nodes.len())
-            .filter(|&node| table.thread(node) == thread)
-            .collect();
-        let choices: Vec<usize> = nodes
-            .iter()
-            .copied()
-            .filter(|&node| !table.branch_range(node).is_empty())
-            .collect();
-        let choice = if random.chance(60) {
-            random.pick(&choices)
-        } else {
-            None
-        };
-        let node = choice.or_else(|| random.pick(&nodes)).unwrap();
-        let control: Vec<usize> = places.of_node(table, node).collect();
-        let at = random.below(control.len());
-        marking[control[at]] = 1;
-        held.extend(held_at(net, node, at));
-    }
-    for name in table.bound_names() {
-        let value = if !held.contains(&name) {
-            None
-        } else if table.is_restricted(name) {
-            values.pop()
-        } else {
-            Some(if random.chance(60) {
-                favourite
-            } else {
-                random.below(table.name_count())
-            })
-        };
-        mark_row(net, &mut marking, name, value);
-    }
-    // The values never popped are those no restricted name has.
-    for value in values {
-        marking[places.free(value)] = 1;
-    }
-    marking
-}
-
-fn held_at(net: &Net, node: usize, at: usize) -> Vec<usize> {
-    let held = &net.table.held[node];
-    match net.table.nodes[node] {
-        Node::Choice { .. } | Node::New { .. } => held.clone(),
-        Node::Stop => held[at..].to_vec(),
-        Node::Call { definition, .. } => {
-            let formals: Vec<usize> = net.table.definitions[definition].formals().collect();
-            let copied = at.saturating_sub(1).min(formals.len());
-            let released = at.saturating_sub(1 + formals.len());
-            [&formals[..copied], &held[released..]].concat()
-        }
-    }
-}
-
-fn mark_row(net: &Net, marking: &mut [u8], name: usize, value: Option<usize>) {
-    if let Some(value) = value {
-        marking[net.places.equal(&net.table, name, value)] = 1;
-    }
-    if !net.table.is_restricted(name) {
-        for other in net
-            .places
-            .private_values()
-            .filter(|&other| Some(other) != value)
-        {
-            marking[net.places.unequal(name, other)] = 1;
-        }
-    }
-}
-
 #[test]
 fn every_standing_marking_keeps_the_promises() {
     let mut random = Random::new(3);
@@ -270,7 +191,7 @@ fn every_standing_marking_keeps_the_promises() {
     for _ in 0..3000 {
         let net = Net::of(accepted(&mut random, Shape::SMALL));
         for _ in 0..8 {
-            let marking = standing_marking(&net, &mut random);
+            let marking = standing_marking(&net, &mut random, Values::Shared);
             let state = net.read(&marking);
             check_marking(&net, &marking, &state, &mut met);
             check_run(&net, &mut random, &marking);
@@ -287,7 +208,7 @@ fn a_flipped_place_is_seen() {
     let mut random = Random::new(4);
     for _ in 0..1500 {
         let net = Net::of(accepted(&mut random, Shape::SMALL));
-        let marking = standing_marking(&net, &mut random);
+        let marking = standing_marking(&net, &mut random, Values::Shared);
         let mut flipped = marking.clone();
         for place in 0..marking.len() {
             flipped[place] ^= 1;

@@ -6,7 +6,8 @@ mod common;
 use std::collections::HashMap;
 
 use common::E;
-use oracle::vectors::{answers, counts, requests, rewriting_requests, SELF_CALL_SHAPES};
+use oracle::vectors::{answers, counts, requests, rewriting_requests};
+use oracle::vectors::{SELF_CALL_SHAPES, VALUE_SHAPES};
 
 /// How many bytes of its input the program crates/vectors reads.
 const READ: usize = 1_048_576;
@@ -106,7 +107,7 @@ fn looks_meet_every_cause_of_a_firing_and_a_room_too_short() {
         let found = format!("cause e {cause:>2} ");
         let count = counts.lines().find_map(|line| line.strip_prefix(&found));
         let count: usize = count.map_or(0, |count| count.parse().unwrap());
-        assert!(count >= 30, "{found}: {count}");
+        assert!(count >= 20, "{found}: {count}");
     }
 }
 
@@ -142,6 +143,17 @@ fn a_number_is_read_back_by_its_kind() {
         answer_to(&["a 3 1", "a 4 0", "a 5 0", "a 0 65536", "a 0 4294967297"]),
         ["a 0 0", "a 5 0", "a 5 0", "a 5 0", "a 0 0"]
     );
+}
+
+#[test]
+fn the_number_of_private_values_is_set_in_every_way() {
+    let counts = counts(&requests()).unwrap();
+    for shape in VALUE_SHAPES {
+        let found = format!("shape {shape} ");
+        let count = counts.lines().find_map(|line| line.strip_prefix(&found));
+        let count: usize = count.map_or(0, |count| count.parse().unwrap());
+        assert!(count >= 10, "{found}: {count}");
+    }
 }
 
 #[test]

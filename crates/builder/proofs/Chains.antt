@@ -20,7 +20,7 @@ use Rattle.places.specs.Transitions.{Description, on, releasing}
 use Rattle.places.specs.Inner.Arcs.{reachedPlaces}
 use Rattle.builder.specs.Inner.Writing
 use Rattle.builder.specs.Inner.Writing.{putOne, Inside}
-use Rattle.places.specs.Inner.Plan.{today, Holds, Differs}
+use Rattle.places.specs.Inner.Plan.{today, privatesOf, Holds, Differs}
 use Rattle.builder.specs.Inner.Parts.{Chained, ofTable, put, state, arrow}
 use Rattle.builder.specs.declared.chain.Chain.{Chain}
 use Rattle.builder.specs.declared.write.Heads.{Heads}
@@ -29,7 +29,7 @@ use Rattle.places.proofs.ByKind.{on-chain, on-next, value-exists}
 use Rattle.places.proofs.Names.{held-value}
 use Rattle.places.proofs.Explicit.{releasing-inputs, releasing-gives, releasing-public}
 use Rattle.builder.proofs.Writing.{put-cons, put-none, put-length}
-use Rattle.places.proofs.Controls.{nodes-are, publics-are, bounds-are, privates-are, control-few, control-last}
+use Rattle.places.proofs.Controls.{nodes-are, publics-are, bounds-are, control-few, control-last}
 
 -- every node has a control place
 pub controls-some : (S : Scheme) (n : ℕ) → 1 ≤ controls S n
@@ -58,8 +58,8 @@ module _ (w : List ℕ) where
   pub bound-name : (x : ℕ) → publics w ≤ x → x < names w → IsBound S U x
   bound-name x l h = (omega (arith, publics-are w), omega (arith, publics-are w, bounds-are w))
 
-  pub private-value : (v : ℕ) → publics w ≤ v → v < names w → IsPrivate S U v
-  private-value v l h = (omega (arith, publics-are w), omega (arith, publics-are w, bounds-are w, privates-are w))
+  pub private-value : (v : ℕ) → publics w ≤ v → v < publics w + privatesOf w → IsPrivate S U v
+  private-value v l h = (omega (arith, publics-are w), omega (arith, publics-are w))
 
   pub has-value : (x v : ℕ) → Holds w x v → Exists S U (equals x v)
   has-value x v h = value-exists S U x v (bound-name x (h .low) (h .high)) (h .value)
@@ -69,7 +69,7 @@ module _ (w : List ℕ) where
       has-differs {v = v} (bound-name x (h .low) (h .high)) (h .free) (private-value v (h .private) (h .value))
       (private-reached S x v (omega (arith, publics-are w, h .private)))
 
-  pub has-free-value : (v : ℕ) → publics w ≤ v → v < names w → Exists S U (free v)
+  pub has-free-value : (v : ℕ) → publics w ≤ v → v < publics w + privatesOf w → Exists S U (free v)
   has-free-value v l h = has-free (private-value v l h)
 
   pub has-place : (n k : ℕ) → n < nodes w → k < controls S n → Exists S U (control n k)
@@ -128,7 +128,7 @@ module _ (w : List ℕ) where
           let o = releasing-gives S U (c .node) k (c .to) (p .place) (p .goes) (p .there) z v (there (S .restricted z) refl) in
           rw (taken, o, is-d, is-e, p .number)
         where
-          u : v < names w
+          u : v < publics w + privatesOf w
           u = held-value w z v holds
 
           there : (b : Bool) → S .restricted z ≡ b → Exists S U (pick b (free v) (differs z v))

@@ -16,14 +16,14 @@ use Rattle.places.specs.Places.{Place, equals, differs, control}
 use Rattle.places.specs.Transitions.{take, copying}
 use Rattle.places.specs.Inner.Arcs.{takenPlaces, givenPlaces, exists, numbersOf}
 use Rattle.places.specs.Inner.Spans.{firstValue, endValue}
-use Rattle.places.specs.Inner.Plan.{today, Holds, Reads}
+use Rattle.places.specs.Inner.Plan.{today, privatesOf, Holds, Reads}
 use Rattle.builder.specs.Inner.Parts.{Chained, Filled, ofTable, arrow}
 use Rattle.builder.specs.declared.chain.Chain.{Chain}
 use Rattle.places.proofs.Arcs.{inputs-named, outputs-named}
 use Rattle.places.proofs.Spans.{value-member, member-value}
 use Rattle.places.proofs.Split.{numbers-tail, numbers-swap}
 use Rattle.places.proofs.ByKind.{on-left, equals-public, differs-public}
-use Rattle.places.proofs.Controls.{publics-are, bounds-are}
+use Rattle.places.proofs.Controls.{publics-are}
 use Rattle.builder.proofs.Chains.{next-place}
 
 module _ (w : List ℕ) where
@@ -35,15 +35,15 @@ module _ (w : List ℕ) where
 
   -- ---- the value that is copied
 
-  end-few : (x : ℕ) → x < names w → endValue S x ≤ names w
+  end-few : (x : ℕ) → x < names w → endValue S x ≤ publics w + privatesOf w
   unfolding endValue
   end-few x h = go (decLt x (S .publics))
     where
-      go : Dec (x < S .publics) → pick (ltb x (S .publics)) (x + 1) (S .publics + S .bounds) ≤ names w
-      go (yes l) = rw (lt-ltb x (S .publics) l) (omega arith)
-      go (no l) = rw (le-ltb x (S .publics) (omega arith)) (omega (arith, publics-are w, bounds-are w))
+      go : Dec (x < S .publics) → pick (ltb x (S .publics)) (x + 1) (S .publics + U .privates) ≤ publics w + privatesOf w
+      go (yes l) = rw (lt-ltb x (S .publics) l) (omega (arith, publics-are w))
+      go (no l) = rw (le-ltb x (S .publics) (omega arith)) (omega (arith, publics-are w))
 
-  pub read-few : (a v : ℕ) → Reads w a v → v < names w
+  pub read-few : (a v : ℕ) → Reads w a v → v < publics w + privatesOf w
   read-few a v r = omega (arith, value-member S a v (r .value), end-few a (r .high))
 
   pub read-holds : (a v : ℕ) → publics w ≤ a → Reads w a v → Holds w a v
@@ -54,11 +54,11 @@ module _ (w : List ℕ) where
   unfolding firstValue
   free-first f l r = rw (le-ltb f (S .publics) (omega (arith, publics-are w)), r)
 
-  free-end : (f : ℕ) → publics w ≤ f → endValue S f ≡ names w
+  free-end : (f : ℕ) → publics w ≤ f → endValue S f ≡ publics w + privatesOf w
   unfolding endValue
-  free-end f l = rw (le-ltb f (S .publics) (omega (arith, publics-are w))) (omega (arith, publics-are w, bounds-are w))
+  free-end f l = rw (le-ltb f (S .publics) (omega (arith, publics-are w))) (omega (arith, publics-are w))
 
-  pub free-holds : (f v : ℕ) → publics w ≤ f → f < names w → S .restricted f ≡ false → v < names w → Holds w f v
+  pub free-holds : (f v : ℕ) → publics w ≤ f → f < names w → S .restricted f ≡ false → v < publics w + privatesOf w → Holds w f v
   free-holds f v l u r h = record {
     low = l;
     high = u;

@@ -18,7 +18,7 @@ use Rattle.places.specs.Values.{Values}
 use Rattle.places.specs.Places.{Place, equals, differs, free, control}
 use Rattle.places.specs.Rows.{numberOf}
 use Rattle.places.specs.Inner.Arcs.{allDiffer, numbersOf}
-use Rattle.places.specs.Inner.Plan.{today, Holds, Differs}
+use Rattle.places.specs.Inner.Plan.{today, privatesOf, Holds, Differs}
 use Rattle.builder.specs.Inner.Parts.{Inserted, Filled, ofTable, made, arrow}
 use Rattle.places.proofs.Names.{values-restricted}
 use Rattle.places.proofs.Arcs.{inputs-named, outputs-named}
@@ -96,11 +96,11 @@ module _ (w : List ℕ) (h : cause w ≡ 0) (n : ℕ) (l : n < nodes w) (k : isN
   pub made-inside : nodeSecond w n < nodes w
   made-inside = omega (arith, accepted w h .new-inside n (nodeFirst w n) (nodeSecond w n) is-new .1, nodes-are w)
 
-  pub made-holds : (v : ℕ) → publics w ≤ v → v < names w → Holds w (nodeFirst w n) v
+  pub made-holds : (v : ℕ) → publics w ≤ v → v < publics w + privatesOf w → Holds w (nodeFirst w n) v
   made-holds v a b = record {
     low = made-low;
     high = made-high;
-    value = rw (values-restricted w (nodeFirst w n) made-low made-restricted) (member-from v (publics w) (bounds w) a b);
+    value = rw (values-restricted w (nodeFirst w n) made-low made-restricted) (member-from v (publics w) (privatesOf w) a b);
   }
 
   pub made-arrow : (v name : ℕ) (ins outs : List ℕ) (i o : ℕ) → name ≡ nodeFirst w n → Filled w ins i (control n 0 ∷ free v ∷ allDiffer (scheme w) v)

@@ -19,19 +19,19 @@ use Rattle.scheme.specs.Words.{publics, bounds, names, nodes, threads, root, en
 use Rattle.scheme.specs.Scheme.{Scheme, scheme}
 use Rattle.table.specs.Causes.{cause}
 use Rattle.table.proofs.Accepted.{accepted}
-use Rattle.places.specs.Values.{allValues, privateValuesOf}
+use Rattle.places.specs.Values.{privateValuesOf}
 use Rattle.places.specs.Places.{controls}
 use Rattle.places.specs.Rows.{freeStart}
 use Rattle.places.specs.Inner.Arcs.{insert, startsAt, initialNumbers}
 use Rattle.builder.specs.Inner.Writing.{writes}
-use Rattle.places.specs.Inner.Plan.{today, values, controlOf, rowOf, Rowed, Spotted}
+use Rattle.places.specs.Inner.Plan.{today, privatesOf, values, controlOf, rowOf, Rowed, Spotted}
 use Rattle.builder.specs.Inner.Parts.{Rising, Inserted, initialRows, initialSpots}
 use Rattle.places.specs.declared.layout.Layout.{Layout}
 use Rattle.places.proofs.Rows.{control-next}
 use Rattle.places.proofs.Order.{control-rises}
 use Rattle.places.proofs.Today
 use Rattle.places.proofs.Names
-use Rattle.places.proofs.Controls.{bounds-are}
+use Rattle.places.proofs.Controls.{publics-are}
 use Rattle.places.proofs.Initial.{some-control}
 use Rattle.places.proofs.Sorted.{insert-ascends, member-insert, insert-length}
 use Rattle.builder.proofs.Writing.{writes-none, writes-append, writes-length}
@@ -66,12 +66,13 @@ marks-skip w x e h r = marks-more w x e h ∙ rw r
 module _ (w rows : List ℕ) (plan : Layout) (k : Rowed w rows plan) where
   row-marks : (x row : ℕ) → publics w ≤ x → x < names w → row ≡ word rows x → scheme w .restricted x ≡ false
       → rowMarks w x ≡ from (row + plan .publics + plan .privates) (plan .privates)
-  unfolding rowMarks scheme
+  unfolding rowMarks
   row-marks x row h l e r =
-      let v : length (values w x) ≡ publics w + bounds w = Today.values-free (scheme w) x h r in
-      let p : length (privateValuesOf (scheme w) (today w) x) ≡ bounds w = Today.privates-length (scheme w) x in
+      let v : length (values w x) ≡ scheme w .publics + privatesOf w = Today.values-free (scheme w) x (omega (arith, publics-are w)) r in
+      let p : length (privateValuesOf (scheme w) (today w) x) ≡ privatesOf w = Today.privates-length (scheme w) x in
       let a : word rows x ≡ rowOf w x = k .row-is x h l in
-      let b : rowOf w x + (publics w + bounds w) ≡ row + plan .publics + plan .privates = omega (arith, e, a, k .publics-are, k .privates-are) in
+      let b : rowOf w x + (scheme w .publics + privatesOf w) ≡ row + plan .publics + plan .privates
+      = omega (arith, e, a, k .publics-are, k .privates-are, publics-are w) in
       rw (r, v, p, b, k .privates-are)
 
   -- a name that is not restricted: its marks are written, then those of the names behind it
@@ -367,8 +368,8 @@ spots-close w list end count t h e i l = sym (sym (spots-are w h end e) ∙ i .p
 
 -- ---- rows, then [*≠n], then entries
 
-pub marks-are : (w : List ℕ) → initialNumbers (scheme w) (today w) ≡ initialRows w ++ (from (freeStart (scheme w) (today w)) (bounds w) ++ initialSpots w)
-unfolding initialNumbers initialRows initialSpots allValues scheme
+pub marks-are : (w : List ℕ) → initialNumbers (scheme w) (today w) ≡ initialRows w ++ (from (freeStart (scheme w) (today w)) (privatesOf w) ++ initialSpots w)
+unfolding initialNumbers initialRows initialSpots scheme
 marks-are w = refl
 
 pub all-marked : (w rows : List ℕ) (plan : Layout) (begin o1 o2 o3 : List ℕ) (at next : ℕ) → Rowed w rows plan → at ≡ 8 + length (initialRows w)
@@ -376,16 +377,16 @@ pub all-marked : (w rows : List ℕ) (plan : Layout) (begin o1 o2 o3 : List ℕ)
     → o3 ≡ writes o2 next (initialSpots w) → o3 ≡ writes begin 8 (initialNumbers (scheme w) (today w))
 all-marked w rows plan begin o1 o2 o3 at next k a e1 n e2 e3 =
     let xs = initialRows w in
-    let fs = from (freeStart (scheme w) (today w)) (bounds w) in
+    let fs = from (freeStart (scheme w) (today w)) (privatesOf w) in
     let ys = initialSpots w in
     let f : from (plan .free) (plan .privates) ≡ fs = rw (k .free-is, k .privates-are) in
-    let l : length fs ≡ bounds w = from-length (freeStart (scheme w) (today w)) (bounds w) in
+    let l : length fs ≡ privatesOf w = from-length (freeStart (scheme w) (today w)) (privatesOf w) in
     let m : next ≡ at + length fs = omega (arith, l, k .privates-are) in
     let b : o2 ≡ writes (writes begin 8 xs) (8 + length xs) fs = e2 ∙ rw (f, e1, a) in
     let c : o3 ≡ writes (writes (writes begin 8 xs) (8 + length xs) fs) (8 + length xs + length fs) ys = e3 ∙ rw (b, m, a) in
     c ∙ sym (ap (writes begin 8) (marks-are w) ∙ writes-append begin 8 xs (fs ++ ys) ∙ writes-append (writes begin 8 xs) (8 + length xs) fs ys)
 
-row-few : (w : List ℕ) (x : ℕ) → bounds w ≤ 32 → length (rowMarks w x) ≤ 32
+row-few : (w : List ℕ) (x : ℕ) → privatesOf w ≤ 32 → length (rowMarks w x) ≤ 32
 unfolding rowMarks
 row-few w x h = go (scheme w .restricted x)
   where
@@ -397,9 +398,9 @@ row-few w x h = go (scheme w .restricted x)
 
     go : (b : Bool) → length (pick b [] (from a l)) ≤ 32
     go true = omega arith
-    go false = omega (arith, from-length a l, Today.privates-length (scheme w) x, bounds-are w)
+    go false = omega (arith, from-length a l, Today.privates-length (scheme w) x)
 
-pub rows-few : (w : List ℕ) → bounds w ≤ 32 → length (initialRows w) ≤ bounds w * 32
+pub rows-few : (w : List ℕ) → privatesOf w ≤ 32 → length (initialRows w) ≤ bounds w * 32
 unfolding initialRows rowMarks
 rows-few w h =
     let xs = from (publics w) (bounds w) in

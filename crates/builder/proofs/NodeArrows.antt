@@ -1,5 +1,5 @@
 -- The arrows of silent branches and calls as the code makes them, and what each kind of node writes.
-use mathlib.Core.Path.{_≡_, refl, sym}
+use mathlib.Core.Path.{_≡_, ap, refl, sym}
 use mathlib.Core.Bool.{Bool, true, false}
 use mathlib.Core.List.{List, [], _∷_, map}
 use Prim.Native.Nat.{ℕ, _+_, _-_, _<_}
@@ -7,7 +7,7 @@ use native.Mathlib.Omega.{arith}
 use lib.Dec.{ltb}
 use Rattle.lists.specs.Lists.{pick, from, flat}
 use Rattle.lists.proofs.Tests.{same-no}
-use Rattle.scheme.specs.Words.{publics, bounds, nodes, branches, nodeKind, nodeFirst, nodeSecond, branchKind, next, channel, branchName, isSend, isReceive}
+use Rattle.scheme.specs.Words.{publics, nodes, branches, nodeKind, nodeFirst, nodeSecond, branchKind, next, channel, branchName, isSend, isReceive}
 use Rattle.scheme.specs.Owners.{held}
 use Rattle.scheme.specs.Scheme.{Scheme, call, absent, send, receive, nextNode, branchAt, scheme}
 use Rattle.table.specs.Causes.{cause}
@@ -16,11 +16,11 @@ use Rattle.places.specs.Values.{Values}
 use Rattle.places.specs.Places.{control}
 use Rattle.places.specs.Rows.{numberOf, Exists}
 use Rattle.places.specs.Transitions.{Description, releases, silents, going, calling, ofNode}
-use Rattle.places.specs.Inner.Plan.{today, controlOf}
+use Rattle.places.specs.Inner.Plan.{today, privatesOf, controlOf}
 use Rattle.builder.specs.Inner.Parts.{Chained, ofTable, made, arrow}
 use Rattle.builder.specs.declared.chain.Chain.{Chain}
 use Rattle.places.proofs.Explicit.{going-inputs, going-outputs, calling-inputs, calling-outputs}
-use Rattle.places.proofs.Controls.{nodes-are, publics-are, bounds-are, privates-are}
+use Rattle.places.proofs.Controls.{nodes-are, publics-are}
 use Rattle.builder.proofs.Chains.{controls-some, has-place, next-place, own-number}
 use Rattle.places.proofs.ByWords.{stop-node, choice-node, new-node, call-node, held-of, silent-branch}
 
@@ -101,8 +101,8 @@ module _ (w : List ℕ) (h : cause w ≡ 0) (n : ℕ) (l : n < nodes w) where
       let s : f + c - f ≡ c = omega arith in
       rw (choice-node w h n l e, s, a, b)
 
-  pub all-new : nodeKind w n ≡ 2 → nodeAll w n ≡ map (made w n) (from (publics w) (bounds w))
-  all-new e = rw (new-node w h n l e, privates-are w, publics-are w, bounds-are w)
+  pub all-new : nodeKind w n ≡ 2 → nodeAll w n ≡ map (made w n) (from (publics w) (privatesOf w))
+  all-new e = rw (new-node w h n l e) (ap (λ (p : ℕ). map (made w n) (from p (privatesOf w))) (publics-are w))
 
   pub all-call : nodeKind w n ≡ 3 → nodeAll w n ≡ ofNode (scheme w) (today w) n (call (nodeFirst w n))
   all-call e = rw (call-node w h n l e)

@@ -10,12 +10,13 @@ use Rattle.lists.specs.Lists.{pick, same, word, from, flat, member}
 use Rattle.lists.proofs.Tests.{same-yes, same-no, same-true, and-left, and-right}
 use Rattle.lists.proofs.Members.{member-here, member-left, member-right, member-keep, map-append}
 use Rattle.lists.proofs.Ranges.{member-from}
-use Rattle.scheme.specs.Words.{publics, bounds, names, branchKind, channel, branchName}
+use Rattle.scheme.specs.Words.{publics, names, branchKind, channel, branchName}
 use Rattle.scheme.specs.Scheme.{scheme}
-use Rattle.places.specs.Transitions.{Description, common, sentOn}
+use Rattle.places.specs.Places.{common}
+use Rattle.places.specs.Transitions.{Description}
 use Rattle.builder.specs.Inner.Writing
 use Rattle.builder.specs.Inner.Writing.{putAll, Inside}
-use Rattle.places.specs.Inner.Plan.{today, values, Rowed, Reads, Lists, InBoth, reached}
+use Rattle.places.specs.Inner.Plan.{today, privatesOf, values, Rowed, Reads, Lists, InBoth, reached}
 use Rattle.builder.specs.Inner.Parts.{ofTable, told, sentTold, pairTold, Paired, Run}
 use Rattle.places.specs.declared.layout.Layout.{Layout}
 use Rattle.places.specs.declared.layout.Reach.{Reach}
@@ -26,9 +27,9 @@ use Rattle.places.proofs.ByWords.{channel-inside, name-inside}
 use Rattle.builder.proofs.ValueLoops
 
 -- what reading values by their index asks
-module _ (w rows : List ℕ) (plan : Layout) (k : Rowed w rows plan) (r : Reach) (vs : List ℕ) (l : Lists (publics w) (bounds w) r vs) where
+module _ (w rows : List ℕ) (plan : Layout) (k : Rowed w rows plan) (r : Reach) (vs : List ℕ) (l : Lists (publics w) (privatesOf w) r vs) where
   pub values-few : (r .low ≤ r .high) × (r .high ≤ 65536) × (plan .privates < 65536)
-  values-few = (l .order, omega (arith, l .inside, k .few-publics), omega (arith, k .privates-are, k .few-bounds))
+  values-few = (l .order, omega (arith, l .inside, k .few-publics), omega (arith, k .privates-are, k .few-privates))
 
   pub value-inside : (i n : ℕ) → n ≡ length (reached (plan .publics) (plan .privates) r) → i < n
       → (r .low ≤ r .high) × (r .high ≤ 65536) × (plan .publics < 65536) × (plan .privates < 65536) × (i < length (reached (plan .publics)
@@ -37,7 +38,7 @@ module _ (w rows : List ℕ) (plan : Layout) (k : Rowed w rows plan) (r : Reach)
     l .order,
     omega (arith, l .inside, k .few-publics),
     omega (arith, k .publics-are, k .few-publics),
-    omega (arith, k .privates-are, k .few-bounds),
+    omega (arith, k .privates-are, k .few-privates),
     omega (arith, e),
   )
 
@@ -92,7 +93,7 @@ module _ (w rows : List ℕ) (plan : Layout) (k : Rowed w rows plan) (p : Pair) 
         (record { high = sent-high; value = rw (values-public w (p .sent) l) (member-here (p .sent) []) })
 
     -- a bound name is sent with public values first, then with private ones
-    module _ (r : Reach) (l : Lists (publics w) (bounds w) r (values w (p .sent))) (s : p .sent ≡ p .channel → ⊥) (b : publics w ≤ p .sent) where
+    module _ (r : Reach) (l : Lists (publics w) (privatesOf w) r (values w (p .sent))) (s : p .sent ≡ p .channel → ⊥) (b : publics w ≤ p .sent) where
       abbrev pub firstTold : List Description
       firstTold = map (toldAt i) (from (r .low) (r .high - r .low))
 
@@ -122,9 +123,9 @@ module _ (w rows : List ℕ) (plan : Layout) (k : Rowed w rows plan) (p : Pair) 
         kind = λ v x y. lt-ltb v (publics w) (omega (arith, l .inside)) ∙ sym (lt-ltb (r .low) (publics w) (omega (arith, l .inside)));
       }
 
-      pub last-run : r .privates ≡ true → Run w p (plan .publics) (plan .privates)
-      last-run h = record {
-        some = omega (arith, sent-high, k .privates-are);
+      pub last-run : r .privates ≡ true → 0 < plan .privates → Run w p (plan .publics) (plan .privates)
+      last-run h some = record {
+        some = some;
         bound = b;
         other = s;
         reads = λ v x y. reads v (ap (member v) values-are
@@ -160,6 +161,13 @@ module _ (w rows : List ℕ) (plan : Layout) (k : Rowed w rows plan) (p : Pair) 
           pub sent-both : r .privates ≡ true → (u : Writing.Heads) → u ≡ putAll (ofTable w) t lastTold → u ≡ all
           sent-both h u f = f ∙ sym (both h)
 
+          -- no private value
+          pub sent-none : r .privates ≡ true → plan .privates ≤ 0 → t ≡ all
+          unfolding from
+          sent-none h z =
+              let e : plan .privates ≡ 0 = omega arith in
+              sym (both h ∙ rw e (put-none (ofTable w) t))
+
           pub sent-first : r .privates ≡ false → t ≡ all
           sent-first h =
               is-first ∙ sym (put-none (ofTable w) (putAll (ofTable w) begin firstTold)) ∙ sym (put-append (ofTable w) begin firstTold [])
@@ -168,9 +176,9 @@ module _ (w rows : List ℕ) (plan : Layout) (k : Rowed w rows plan) (p : Pair) 
   -- ---- the loop over channel values
 
   -- "channel value i common to both"
-  pub both-lists : (a b r : Reach) → Lists (publics w) (bounds w) a (values w (p .channel)) → Lists (publics w) (bounds w) b (values w (p .heard))
-      → InBoth a b r → Lists (publics w) (bounds w) r (common (scheme w) (today w) (p .channel) (p .heard))
-  both-lists a b r l m f = f (publics w) (bounds w) (values w (p .channel)) (values w (p .heard)) l m
+  pub both-lists : (a b r : Reach) → Lists (publics w) (privatesOf w) a (values w (p .channel)) → Lists (publics w) (privatesOf w) b (values w (p .heard))
+      → InBoth a b r → Lists (publics w) (privatesOf w) r (common (scheme w) (today w) (p .channel) (p .heard))
+  both-lists a b r l m f = f (publics w) (privatesOf w) (values w (p .channel)) (values w (p .heard)) l m
 
   pub pair-is : pairTold w (p .send) (p .receive) ≡ flat sentAt (common (scheme w) (today w) (p .channel) (p .heard))
   unfolding pairTold
@@ -181,7 +189,7 @@ module _ (w rows : List ℕ) (plan : Layout) (k : Rowed w rows plan) (p : Pair) 
       putAll (ofTable w) begin (flat sentAt (common (scheme w) (today w) (p .channel) (p .heard)))
       ≡ putAll (ofTable w) s (flat sentAt (drop n (common (scheme w) (today w) (p .channel) (p .heard))))
 
-  module _ (r : Reach) (l : Lists (publics w) (bounds w) r (common (scheme w) (today w) (p .channel) (p .heard))) (count : ℕ)
+  module _ (r : Reach) (l : Lists (publics w) (privatesOf w) r (common (scheme w) (today w) (p .channel) (p .heard))) (count : ℕ)
       (c : count ≡ length (reached (plan .publics) (plan .privates) r)) (begin s : Writing.Heads) (n : ℕ) (left : PairLeft begin s n) where
     abbrev is : List ℕ
     is = common (scheme w) (today w) (p .channel) (p .heard)

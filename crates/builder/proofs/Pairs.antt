@@ -11,17 +11,17 @@ use Rattle.lists.proofs.Tests.{same-true}
 use Rattle.lists.proofs.Ranges.{from-member, member-from, from-append}
 use Rattle.lists.proofs.Members.{one-member, member-place}
 use Rattle.lists.proofs.Ascending.{element-below}
-use Rattle.scheme.specs.Words.{publics, bounds, names, nodes, branches, branchKind, channel, branchName, next}
+use Rattle.scheme.specs.Words.{publics, names, nodes, branches, branchKind, channel, branchName, next}
 use Rattle.scheme.specs.Owners.{home}
 use Rattle.scheme.specs.Scheme.{Scheme, send, receive, present, nextNode, scheme}
 use Rattle.table.specs.Causes.{cause}
 use Rattle.table.proofs.Accepted.{accepted}
-use Rattle.places.specs.Values.{allValues}
-use Rattle.places.specs.Places.{Place, equals, differs, control, places}
+use Rattle.places.specs.Held.{valuesFor}
+use Rattle.places.specs.Places.{Place, equals, differs, control}
 use Rattle.places.specs.Rows.{numberOf, IsBound, Exists, has-differs, has-control}
 use Rattle.places.specs.Inner.Arcs.{insert, exists, numbersOf}
 use Rattle.builder.specs.Inner.Writing.{putOne, putAll, Inside}
-use Rattle.places.specs.Inner.Plan.{today, values, controlOf, Holds, Reads, Differs}
+use Rattle.places.specs.Inner.Plan.{today, privatesOf, values, controlOf, Holds, Reads, Differs}
 use Rattle.builder.specs.Inner.Parts.{ofTable, state, put, told, Paired, arrow, Rising, Inserted, Placed, insOf, outsOf, Tells}
 use Rattle.builder.specs.declared.write.Heads.{Heads}
 use Rattle.builder.specs.declared.write.Arcs.{Arcs}
@@ -33,7 +33,7 @@ use Rattle.places.proofs.Arcs.{inputs-named, outputs-named}
 use Rattle.places.proofs.Initial.{some-control}
 use Rattle.places.proofs.Split.{numbers-none, numbers-yes, numbers-no, numbers-tail, numbers-swap, numbers-ascend}
 use Rattle.places.proofs.ByKind.{value-exists, equals-public, differs-public}
-use Rattle.places.proofs.Controls.{nodes-are, publics-are, bounds-are, privates-are, control-few}
+use Rattle.places.proofs.Controls.{nodes-are, publics-are, bounds-are, control-few}
 use Rattle.places.proofs.ByWords.{few-branches, send-branch, receive-branch}
 
 -- ---- eight words that hold the numbers of places
@@ -112,18 +112,18 @@ module _ (w : List ℕ) where
   abbrev S : Scheme
   S = scheme w
 
-  pub value-small : (x v : ℕ) → member v (values w x) ≡ true → x < names w → v < names w
+  pub value-small : (x v : ℕ) → member v (values w x) ≡ true → x < names w → v < publics w + privatesOf w
   value-small x v m h = go (decLe (publics w) x) (S .restricted x) refl
     where
       z : 0 + publics w ≡ publics w
       z = omega arith
 
-      go : Dec (publics w ≤ x) → (b : Bool) → S .restricted x ≡ b → v < names w
+      go : Dec (publics w ≤ x) → (b : Bool) → S .restricted x ≡ b → v < publics w + privatesOf w
       go (no l) b e = omega (arith, one-member v x (rw (values-public w x (omega arith)) at m))
-      go (yes l) true e = omega (arith, from-member v (publics w) (bounds w) (rw (values-restricted w x l e) at m))
+      go (yes l) true e = omega (arith, from-member v (publics w) (privatesOf w) (rw (values-restricted w x l e) at m))
       go (yes l) false e =
-          let f : values w x ≡ range (publics w + bounds w) = values-free w x l e ∙ sym (from-append 0 (publics w) (bounds w) ∙ rw z) in
-          omega (arith, from-member v 0 (publics w + bounds w) (ap (member v) (sym f) ∙ m))
+          let f : values w x ≡ range (publics w + privatesOf w) = values-free w x l e ∙ sym (from-append 0 (publics w) (privatesOf w) ∙ rw z) in
+          omega (arith, from-member v 0 (publics w + privatesOf w) (ap (member v) (sym f) ∙ m))
 
   pub reads-holds : (x v : ℕ) → Reads w x v → publics w ≤ x → Holds w x v
   reads-holds x v r l = record { low = l; high = r .high; value = r .value }
@@ -138,10 +138,10 @@ module _ (w : List ℕ) where
   public-none x v h = equals-public S (today w) x v (omega (arith, publics-are w))
 
   pub differs-exists : (x v : ℕ) → Differs w x v → Exists S (today w) (differs x v)
-  unfolding allValues
+  unfolding valuesFor
   differs-exists x v h =
       has-differs {v = v} (bound x (h .low) (h .high)) (h .free)
-      (omega (arith, publics-are w, h .private), omega (arith, publics-are w, privates-are w, bounds-are w, h .value)) (rw (h .free))
+      (omega (arith, publics-are w, h .private), omega (arith, publics-are w, h .value)) (rw (h .free))
 
   pub differs-none : (x v : ℕ) → v < publics w → exists S (today w) (differs x v) ≡ false
   differs-none x v h = differs-public S (today w) x v (omega (arith, publics-are w))
@@ -211,14 +211,14 @@ module _ (w : List ℕ) (ok : cause w ≡ 0) (p : Pair) (k : Paired w p) where
   heard-high =
       omega (arith, publics-are w, bounds-are w, accepted w ok .receive-name (p .receive) (channel w (p .receive)) y (next w (p .receive)) receives .high)
 
-  pub pair-differs : (j : ℕ) → publics w ≤ j → j < names w → Differs w y j
+  pub pair-differs : (j : ℕ) → publics w ≤ j → j < publics w + privatesOf w → Differs w y j
   pair-differs j l h = record { low = heard-low; high = heard-high; free = heard-free; private = l; value = h }
 
-  pub pair-given : (j : ℕ) → j < names w → Holds w y j
+  pub pair-given : (j : ℕ) → j < publics w + privatesOf w → Holds w y j
   pair-given j h =
       let z : 0 + publics w ≡ publics w = omega arith in
-      let f : values w y ≡ range (publics w + bounds w) = values-free w y heard-low heard-free ∙ sym (from-append 0 (publics w) (bounds w) ∙ rw z) in
-      record { low = heard-low; high = heard-high; value = ap (member j) f ∙ member-from j 0 (publics w + bounds w) (omega arith) (omega arith) }
+      let f : values w y ≡ range (publics w + privatesOf w) = values-free w y heard-low heard-free ∙ sym (from-append 0 (publics w) (privatesOf w) ∙ rw z) in
+      record { low = heard-low; high = heard-high; value = ap (member j) f ∙ member-from j 0 (publics w + privatesOf w) (omega arith) (omega arith) }
 
   home-is : (b : ℕ) → scheme w .home b ≡ home w b
   unfolding scheme

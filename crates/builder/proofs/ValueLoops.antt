@@ -8,10 +8,10 @@ use lib.ListN.{length, drop}
 use Rattle.lists.specs.Lists.{word, flat, member}
 use Rattle.lists.proofs.Slices.{drop-step, drop-none}
 use Rattle.lists.proofs.Members.{member-getD}
-use Rattle.scheme.specs.Words.{publics, bounds}
+use Rattle.scheme.specs.Words.{publics}
 use Rattle.net.specs.Net.{Transition}
 use Rattle.builder.specs.Inner.Writing.{Heads, putAll, Inside}
-use Rattle.places.specs.Inner.Plan.{Lists, reached}
+use Rattle.places.specs.Inner.Plan.{privatesOf, Lists, reached}
 use Rattle.places.specs.declared.layout.Layout.{Layout}
 use Rattle.places.specs.declared.layout.Reach.{Reach}
 use Rattle.builder.proofs.Writing.{put-none, put-append, inside-first}
@@ -53,8 +53,8 @@ module _ {A : Type 0} (f : A → Transition) (all s : Heads) (vs : List ℕ) (i 
 
 -- ---- the values as the code reads them
 
-module _ (w : List ℕ) (plan : Layout) (r : Reach) (vs : List ℕ) (p : plan .publics ≡ publics w) (n : plan .privates ≡ bounds w)
-    (l : Lists (publics w) (bounds w) r vs) where
+module _ (w : List ℕ) (plan : Layout) (r : Reach) (vs : List ℕ) (p : plan .publics ≡ publics w) (n : plan .privates ≡ privatesOf w)
+    (l : Lists (publics w) (privatesOf w) r vs) where
   pub reach-is : reached (plan .publics) (plan .privates) r ≡ vs
   reach-is = rw (p, n) (l .is)
 

@@ -2,7 +2,7 @@
 ghost use mathlib.Core.Bool.{true};
 ghost use mathlib.Core.Path.{_≡_};
 ghost use mathlib.Core.List.{[], _∷_, map};
-ghost use Prim.Native.Nat.{_+_, _-_, _<_};
+ghost use Prim.Native.Nat.{_-_, _<_};
 ghost use Rattle.lists.specs.Lists.{from};
 ghost use Rattle.scheme.specs.Words.{branches, channel, branchName, isSend};
 ghost use Rattle.builder.specs.Inner.Writing.{Inside};
@@ -164,7 +164,9 @@ fn sent(
         q = tell(table, rows, plan, out, q, p, i, r.low, r.high - r.low);
     }
     if r.privates {
-        q = tell(table, rows, plan, out, q, p, i, plan.publics, plan.privates);
+        if 0 < plan.privates {
+            q = tell(table, rows, plan, out, q, p, i, plan.publics, plan.privates);
+        }
     }
     q
 }

@@ -1,13 +1,13 @@
 // The values of a name, and the places of a name's row.
 ghost use mathlib.Core.Path.{_≡_};
-ghost use Prim.Native.Nat.{_<_, _≤_};
+ghost use Prim.Native.Nat.{_+_, _<_, _≤_};
 ghost use lib.ListN.{length};
 ghost use Rattle.lists.specs.Lists.{word};
-ghost use Rattle.scheme.specs.Words.{publics, names};
+ghost use Rattle.scheme.specs.Words.{publics};
 ghost use Rattle.scheme.specs.Scheme.{scheme};
 ghost use Rattle.places.specs.Places.{equals, differs, free};
 ghost use Rattle.places.specs.Rows.{numberOf};
-ghost use Rattle.places.specs.Inner.Plan.{today, Rowed, Holds, Differs, reached};
+ghost use Rattle.places.specs.Inner.Plan.{today, privatesOf, Rowed, Holds, Differs, reached};
 use lists::word32;
 use places::layout::Layout;
 use places::layout::Reach;
@@ -59,7 +59,8 @@ pub(crate) fn differs(table: &[u16], rows: &[u32], plan: Layout, name: usize, v:
 
 // The number of [*≠v].
 pub(crate) fn free_place(table: &[u16], rows: &[u32], plan: Layout, v: usize) -> u32
-    requires { ⌜ Rowed (now table) (now rows) plan × (publics (now table) ≤ v) × (v < names (now table)) ⌝ }
+    requires { ⌜ Rowed (now table) (now rows) plan × (publics (now table) ≤ v)
+        × (v < publics (now table) + privatesOf (now table)) ⌝ }
     ensures { λ r. ⌜ r ≡ numberOf (scheme (now (table .entry))) (today (now (table .entry))) (free v) ⌝ }
 {
     (plan.free + (v - plan.publics)) as u32

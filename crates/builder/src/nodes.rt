@@ -5,14 +5,14 @@ ghost use mathlib.Core.List.{[], _∷_, map};
 ghost use Prim.Native.Nat.{_+_, _-_, _<_, _≤_};
 ghost use lib.ListN.{length, take};
 ghost use Rattle.lists.specs.Lists.{from, range, flat};
-ghost use Rattle.scheme.specs.Words.{publics, bounds, names, nodes, branches, nodeFirst, nodeSecond};
+ghost use Rattle.scheme.specs.Words.{publics, nodes, branches, nodeFirst, nodeSecond};
 ghost use Rattle.scheme.specs.Words.{isStop, isNew, isCall};
 ghost use Rattle.scheme.specs.Owners.{held};
 ghost use Rattle.scheme.specs.Scheme.{scheme, call};
 ghost use Rattle.places.specs.Transitions.{releases, silents, ofNode};
 ghost use Rattle.places.specs.Inner.Arcs.{allDiffer, numbersOf};
 ghost use Rattle.builder.specs.Inner.Writing.{Inside};
-ghost use Rattle.places.specs.Inner.Plan.{today, controlOf};
+ghost use Rattle.places.specs.Inner.Plan.{today, privatesOf, controlOf};
 ghost use Rattle.builder.specs.Inner.Parts.{put, state, made};
 ghost use Rattle.places.specs.Inner.Plan.{Known, Rowed, Spotted, Laid};
 use crate::chain::Chain;
@@ -72,8 +72,8 @@ fn silents(
 
 // Puts the numbers of every [x≠v] into the list and returns how many there are.
 fn differences(table: &[u16], rows: &[u32], plan: Layout, list: &mut [u32], v: usize) -> usize
-    requires { ⌜ Rowed (now table) (now rows) plan × (publics (now table) ≤ v) × (v < names (now table))
-        × (40 ≤ length (now list)) ⌝ }
+    requires { ⌜ Rowed (now table) (now rows) plan × (publics (now table) ≤ v)
+        × (v < publics (now table) + privatesOf (now table)) × (40 ≤ length (now list)) ⌝ }
     ensures { λ r. ⌜ (take r (now (list .exit))
         ≡ numbersOf (scheme (now (table .entry))) (today (now (table .entry)))
         (allDiffer (scheme (now (table .entry))) v))
@@ -106,7 +106,7 @@ fn make(
 ) -> Heads
     requires { ⌜ Rowed (now table) (now rows) plan × (n < nodes (now table)) × (isNew (now table) n ≡ true)
         × (from ≡ controlOf (now table) n) × (to ≡ controlOf (now table) (nodeSecond (now table) n))
-        × (publics (now table) ≤ v) × (v < names (now table))
+        × (publics (now table) ≤ v) × (v < publics (now table) + privatesOf (now table))
         × Inside (put (now table) (now out) h (made (now table) n v ∷ [])) ⌝ }
     ensures { λ r. ⌜ state (now (out .exit)) r
         ≡ put (now (table .entry)) (now (out .entry)) h (made (now (table .entry)) n v ∷ []) ⌝ }
@@ -133,10 +133,10 @@ fn news(
 ) -> Heads
     requires { ⌜ Laid (now table) (now rows) (now spots) plan × (n < nodes (now table)) × (isNew (now table) n ≡ true)
         × Inside (put (now table) (now out) h
-        (map (made (now table) n) (from (publics (now table)) (bounds (now table))))) ⌝ }
+        (map (made (now table) n) (from (publics (now table)) (privatesOf (now table))))) ⌝ }
     ensures { λ r. ⌜ state (now (out .exit)) r
         ≡ put (now (table .entry)) (now (out .entry)) h
-        (map (made (now (table .entry)) n) (from (publics (now (table .entry))) (bounds (now (table .entry))))) ⌝ }
+        (map (made (now (table .entry)) n) (from (publics (now (table .entry))) (privatesOf (now (table .entry))))) ⌝ }
 {
     let from = word32(spots, n) as u32;
     let to = word32(spots, field3(table, 10, n, 2)) as u32;

@@ -25,7 +25,7 @@ use Rattle.net.specs.Firing.{isMarking, fire}
 use Rattle.net.specs.Firing as Net
 use Rattle.net.specs.Image.{placeCount}
 use Rattle.net.specs.Looking.{looked, shown, look}
-use Rattle.places.specs.Values.{allValues}
+use Rattle.places.specs.Held.{valuesFor}
 use Rattle.places.specs.Places.{places}
 use Rattle.places.specs.Image.{imageOf}
 use Rattle.builder.specs.Answer as Build
@@ -139,7 +139,7 @@ pub read-fits : (w m lent : List ℕ) → Fits (readOutcome w m lent)
 unfolding readOutcome readBack
 read-fits w m lent =
     let S = scheme w in
-    let U = allValues S in
+    let U = valuesFor S in
     let ms = marked (places S U) m in
     let shown = stateShown S (S .publics + U .privates) (configuration S U ms) in
     checked-fits w lent (readInto lent (readBack w m)) (λ h.

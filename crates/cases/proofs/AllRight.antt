@@ -1,11 +1,16 @@
 -- Every case of the table has its answer: one proof, by computing.
 use mathlib.Core.Path.{refl}
-use Rattle.cases.specs.Cases.{rewritingCases, cases, AllRight}
+use mathlib.Core.List.{_++_}
+use Rattle.cases.specs.Cases.{rewritingCases, privateCases, cases, AllRight}
 use Rattle.cases.proofs.Computing.{everything}
 
-rewriting-right : AllRight rewritingCases
+privates-right : AllRight privateCases
 unfolding everything
-rewriting-right = (refl, (refl, (refl, (refl, (refl, (refl, (refl, (refl, tt))))))))
+privates-right = (refl, (refl, (refl, (refl, (refl, (refl, (refl, (refl, (refl, (refl, (refl, tt)))))))))))
+
+rewriting-right : AllRight (rewritingCases ++ privateCases)
+unfolding everything
+rewriting-right = (refl, (refl, (refl, (refl, (refl, (refl, (refl, (refl, privates-right))))))))
 
 pub all-right : AllRight cases
 unfolding everything

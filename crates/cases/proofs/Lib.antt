@@ -1,2 +1,3 @@
 mod Computing
 pub mod AllRight
+pub mod WrongCounts

@@ -1,14 +1,18 @@
--- The starred cases of document 01 (Table E and its listing), and a definition that calls itself (document 02, Item 1), as one table, and what is asked in
--- each, by the definitions that the promises cite.
+-- The starred cases of document 01 (Table E and its listing), a definition that calls itself and the number of private values (document 02, Items 1 and 3), as
+-- one table, and what is asked in each, by the definitions that the promises cite.
 use mathlib.Core.Path.{_≡_}
 use mathlib.Core.Option.{Option, none, some}
 use mathlib.Core.List.{List, [], _∷_, _++_}
 use Prim.Native.Nat.{ℕ, _/_, _%_}
-use lib.ListN.{length, take, replicate}
+use lib.ListN.{take, replicate}
 use Rattle.lists.specs.Lists.{flat}
+use Rattle.scheme.specs.Scheme.{scheme}
 use Rattle.table.specs.Causes.{cause}
 use Rattle.net.specs.Firing as Firing
 use Rattle.net.specs.Firing.{Ending, limitReached, nothingEnabled, initialMarking}
+use Rattle.places.specs.Held.{valuesFor}
+use Rattle.places.specs.Places as Places
+use Rattle.places.specs.Places.{Place, equals, control}
 use Rattle.places.specs.Image.{imageOf}
 use Rattle.builder.specs.Answer.{buildOutcome}
 use Rattle.readback.specs.Answers.{readOutcome}
@@ -17,7 +21,7 @@ use Rattle.print.specs.Program.{programText}
 
 -- what is asked of a table: its cause; a build into so many words; a firing after others from the initial marking; reading back after firings, into four
 -- words; a run from the initial marking, with its limit and the words of its history; a rewriting into so many words; what a node or a branch of the
--- rewritten table was; what the listing program prints
+-- rewritten table was; what the listing program prints; its N; the places of its net
 pub data Question : Type 0 where
   checks : Question
   builds : ℕ → Question
@@ -28,15 +32,18 @@ pub data Question : Type 0 where
   wasNode : ℕ → Question
   wasBranch : ℕ → Question
   lists : Question
+  privates : Question
+  places : Question
 
--- a cause, 0 for none; a cause with the words of the lent buffer afterwards; a run's reason, count and history; a cause and the number read back, if any;
--- a text
+-- a cause, 0 for none, or another number; a cause with the words of the lent buffer afterwards; a run's reason, count and history; a cause and the number read
+-- back, if any; a text; places in order
 pub data Reply : Type 0 where
   number : ℕ → Reply
   buffer : ℕ → List ℕ → Reply
   ran : Ending → ℕ → List ℕ → Reply
   was : ℕ → Option ℕ → Reply
   text : List ℕ → Reply
+  listed : List Place → Reply
 
 -- the bytes of a table file, the low byte of each word first
 abbrev pub bytesOf : List ℕ → List ℕ
@@ -56,6 +63,8 @@ module _ (w : List ℕ) where
   reply (wasNode n) = let o = originalNode w n in was (o .number) (o .value)
   reply (wasBranch b) = let o = originalBranch w b in was (o .number) (o .value)
   reply lists = text (programText (bytesOf w))
+  reply privates = number (valuesFor (scheme w) .privates)
+  reply places = listed (Places.places (scheme w) (valuesFor (scheme w)))
 
 -- a table's words, what is asked of it, and the answer
 pub record Case : Type 0 where
@@ -128,6 +137,54 @@ rewritingCases =
     ∷ case (oneNode 3) (wasBranch 0) (was 5 none)
     ∷ []
 
+-- p⟨p⟩.0 beside p(x).0: no restricted name
+abbrev pub unrestricted : List ℕ
+unrestricted =
+    1 ∷ 1 ∷ 2 ∷ 2 ∷ 4 ∷ 2 ∷ 0 ∷ 13 ∷ 14 ∷ 22 ∷ 24 ∷ 36 ∷ 44 ∷ 1 ∷ 0 ∷ 0 ∷ 0 ∷ 0 ∷ 1 ∷ 2 ∷ 0 ∷ 0 ∷ 0 ∷ 1 ∷ 1 ∷ 0 ∷ 1 ∷ 0 ∷ 0 ∷ 0 ∷ 1 ∷ 1 ∷ 1
+    ∷ 0 ∷ 0 ∷ 0 ∷ 1 ∷ 0 ∷ 0 ∷ 1 ∷ 2 ∷ 0 ∷ 1 ∷ 3 ∷ []
+
+-- its image: x has the value p or none
+abbrev pub imageUnrestricted : List ℕ
+imageUnrestricted =
+    6 ∷ 2 ∷ 4 ∷ 4 ∷ 2 ∷ 8 ∷ 10 ∷ 22 ∷ 1 ∷ 3 ∷ 1 ∷ 3 ∷ 1 ∷ 22 ∷ 2 ∷ 1 ∷ 4 ∷ 0 ∷ 1 ∷ 25 ∷ 2 ∷ 3 ∷ 0 ∷ 4 ∷ 5 ∷ 1 ∷ 3 ∷ 0 ∷ 2 ∷ 4 ∷ []
+
+-- τ.ν r.0 + τ.ν s.0: two restricted names, of which one is held at a time
+abbrev pub eitherName : List ℕ
+eitherName =
+    0 ∷ 2 ∷ 1 ∷ 1 ∷ 5 ∷ 2 ∷ 0 ∷ 13 ∷ 15 ∷ 19 ∷ 20 ∷ 35 ∷ 43 ∷ 0 ∷ 0 ∷ 0 ∷ 0 ∷ 0 ∷ 0 ∷ 0 ∷ 1 ∷ 0 ∷ 2 ∷ 2 ∷ 0 ∷ 3 ∷ 2 ∷ 1 ∷ 4 ∷ 0 ∷ 0 ∷ 0 ∷ 0
+    ∷ 0 ∷ 0 ∷ 0 ∷ 0 ∷ 0 ∷ 1 ∷ 0 ∷ 0 ∷ 0 ∷ 2 ∷ []
+
+-- ν r. D(r) with D(f) = τ.0: r and f are both held while r is released
+abbrev pub handedOn : List ℕ
+handedOn =
+    0 ∷ 2 ∷ 2 ∷ 1 ∷ 4 ∷ 1 ∷ 1 ∷ 13 ∷ 15 ∷ 23 ∷ 24 ∷ 36 ∷ 40 ∷ 0 ∷ 2 ∷ 0 ∷ 0 ∷ 0 ∷ 0 ∷ 0 ∷ 2 ∷ 1 ∷ 1 ∷ 0 ∷ 2 ∷ 0 ∷ 1 ∷ 3 ∷ 1 ∷ 0 ∷ 1 ∷ 0 ∷ 1
+    ∷ 0 ∷ 0 ∷ 0 ∷ 0 ∷ 0 ∷ 0 ∷ 3 ∷ 0 ∷ []
+
+-- ν r.0, beside a definition that nothing calls, ν s.ν t.0
+abbrev pub neverCalled : List ℕ
+neverCalled =
+    0 ∷ 3 ∷ 2 ∷ 1 ∷ 5 ∷ 0 ∷ 0 ∷ 13 ∷ 16 ∷ 24 ∷ 25 ∷ 40 ∷ 40 ∷ 0 ∷ 0 ∷ 0 ∷ 0 ∷ 0 ∷ 0 ∷ 0 ∷ 0 ∷ 2 ∷ 0 ∷ 0 ∷ 0 ∷ 2 ∷ 0 ∷ 1 ∷ 0 ∷ 0 ∷ 0 ∷ 2 ∷ 1
+    ∷ 3 ∷ 2 ∷ 2 ∷ 4 ∷ 0 ∷ 0 ∷ 0 ∷ []
+
+-- how many private values there are (document 02, Item 3)
+abbrev pub privateCases : List Case
+privateCases =
+    -- "Table E keeps N = 2."
+    case tableE privates (number 2)
+    -- "With no restricted names N is now 0.": there is no [x≠n] and no [*≠n]
+    ∷ case unrestricted checks (number 0)
+    ∷ case unrestricted privates (number 0)
+    ∷ case unrestricted places (listed (equals 1 0 ∷ control 0 0 ∷ control 1 0 ∷ control 2 0 ∷ control 3 0 ∷ control 3 1 ∷ []))
+    ∷ case unrestricted (builds 30) (buffer 0 imageUnrestricted)
+    -- "Otherwise N is the sum, over threads, of the largest number of names held at any one of the thread's control places, chain places included."
+    ∷ case eitherName checks (number 0)
+    ∷ case eitherName privates (number 1)
+    ∷ case handedOn checks (number 0)
+    ∷ case handedOn privates (number 2)
+    ∷ case neverCalled checks (number 0)
+    ∷ case neverCalled privates (number 2)
+    ∷ []
+
 -- all of them: those of document 01, then the others
 abbrev pub cases : List Case
 cases =
@@ -155,7 +212,7 @@ cases =
     -- "Run from the initial marking with limit 5 and 5 history words: 0 7 2 5, count 4, nothing enabled; limit 4: limit reached."
     ∷ case tableE (runs 5 5) (ran nothingEnabled 4 (0 ∷ 7 ∷ 2 ∷ 5 ∷ []))
     ∷ case tableE (runs 4 5) (ran limitReached 4 (0 ∷ 7 ∷ 2 ∷ 5 ∷ []))
-    ∷ rewritingCases
+    ∷ rewritingCases ++ privateCases
 
 -- every case has its answer
 abbrev pub AllRight : List Case → Type 0

@@ -26,7 +26,7 @@ module _ (w : List ℕ) (A : Accepted (scheme w)) where
   abbrev marks : Configuration → List ℕ
   marks c = markingOf (S w A) (U w A) c
 
-  fire-is : (c : Configuration) (k : ℕ) → isMarking (net w A .places) (marks c) ≡ true
+  pub fire-is : (c : Configuration) (k : ℕ) → isMarking (net w A .places) (marks c) ≡ true
       → Firing.fire (image w) (marks c) k ≡ inTurn (image w) (marks c) (k ∷ [])
   fire-is c k h =
       subst (λ (i : List ℕ). Firing.fire i (marks c) k ≡ inTurn i (marks c) (k ∷ [])) (sym (image-is w A))

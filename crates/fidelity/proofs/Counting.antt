@@ -1,18 +1,20 @@
--- Counting: how many numbers of a range pass a test, and the pigeonhole: where fewer names have a value than there are values, some value is in no name.
+-- Counting: how many numbers of a range pass a test, whose they are, and the pigeonhole: where fewer names have a value than there are values, some value is
+-- in no name.
 use Prim.Native.Nat.{ℕ, zero, suc, _+_, _≤_, _<_}
-use mathlib.Core.Path.{_≡_, refl, sym, ap, _∙_}
+use mathlib.Core.Path.{_≡_, refl, sym, _∙_}
 use mathlib.Core.Logic.{_≢_, _⊎_, inl, inr}
-use mathlib.Core.Bool.{Bool, true, false, not, _&&_, _||_, true≢false, false≢true}
+use mathlib.Core.Bool.{Bool, true, false, _&&_, _||_, true≢false, false≢true}
 use mathlib.Core.Option.{Option, none, some}
 use mathlib.Core.List.{List, [], _∷_}
 use native.Mathlib.Decide.{ℕ-discrete}
 use native.Mathlib.Omega.{arith}
 use lib.ListN.{length}
-use Rattle.lists.specs.Lists.{bit, same, member, Distinct, more}
-use Rattle.lists.proofs.Tests.{or-right, same-self, same-no}
+use Rattle.lists.specs.Lists.{bit, same, member}
+use Rattle.lists.proofs.Tests.{same-self, same-no}
 use Rattle.process.specs.States.{put}
 use Rattle.fidelity.specs.Inner.Marks.{holds, given}
-use Rattle.fidelity.specs.Inner.Shapes.{count}
+use Rattle.places.specs.Inner.Holding.{count}
+use Rattle.places.proofs.Tallies.{sum, sum-le, sum-add, count-same}
 use Rattle.fidelity.proofs.Basics.{holds-eq, holds-some, put-self, put-other}
 
 -- either v is nobody's value, or some name has it
@@ -29,11 +31,6 @@ seek e v lo (suc n) = go (seek e v lo n) (holds (e (lo + n)) v) refl
         last : (x : ℕ) → lo ≤ x → x < lo + suc n → e x ≡ some v → Dec (x ≡ lo + n) → ⊥
         last x h l q (yes d) = true≢false (sym (holds-some (e (lo + n)) v (rw d at q)) ∙ p)
         last x h l q (no d) = f x h (omega arith) q
-
-count-same : (f g : ℕ → Bool) (lo n : ℕ) → ((x : ℕ) → lo ≤ x → x < lo + n → f x ≡ g x) → count f lo n ≡ count g lo n
-unfolding count
-count-same f g lo zero h = refl
-count-same f g lo (suc n) h = rw (h (lo + n) (omega arith) (omega arith), count-same f g lo n (λ x a b. h x a (omega arith)))
 
 -- without x there is one less
 count-less : (e : ℕ → Option ℕ) (x v lo n : ℕ) → lo ≤ x → x < lo + n → e x ≡ some v
@@ -72,34 +69,6 @@ free-value (suc N) e base lo n h = go (seek e (base + N) lo n) (λ x. free-value
         other v l f z s t k (yes d) = let g : v ≡ base + N = cc in omega arith
         other v l f z s t k (no d) = f z s t (put-other e x none z d ∙ k)
 
--- one less without x
-pub count-without : (f : ℕ → Bool) (x lo n : ℕ) → lo ≤ x → x < lo + n → f x ≡ true → count f lo n ≡ suc (count (λ y. not (same y x) && f y) lo n)
-unfolding count
-count-without f x lo zero a b h = absurd (omega arith)
-count-without f x lo (suc n) a b h = go (ℕ-discrete x (lo + n)) (λ k. count-without f x lo n a k h)
-  where
-    go : Dec (x ≡ lo + n) → (x < lo + n → count f lo n ≡ suc (count (λ y. not (same y x) && f y) lo n))
-        → bit (f (lo + n)) + count f lo n ≡ suc (bit (not (same (lo + n) x) && f (lo + n)) + count (λ y. not (same y x) && f y) lo n)
-    go (yes d) ih =
-        let k : count (λ y. not (same y x) && f y) lo n ≡ count f lo n
-        = count-same (λ y. not (same y x) && f y) f lo n (λ y a l. rw (same-no y x (λ p. omega arith))) in
-        rw (k, ← d, h, same-self x) (omega arith)
-    go (no d) ih = rw (ih (omega arith), same-no (lo + n) x (λ p. d (sym p))) (omega arith)
-
-pub distinct-count : (l : List ℕ) (f : ℕ → Bool) (lo n : ℕ) → Distinct l → ((x : ℕ) → member x l ≡ true → (lo ≤ x) × (x < lo + n) × (f x ≡ true))
-    → length l ≤ count f lo n
-unfolding member
-distinct-count [] f lo n nd h = omega arith
-distinct-count (x ∷ l) f lo n (more p nd) h =
-    let (a, b, e) = h x (rw (same-self x)) in
-    let ih : length l ≤ count (λ y. not (same y x) && f y) lo n = distinct-count l (λ y. not (same y x) && f y) lo n nd rest in
-    omega (arith, count-without f x lo n a b e)
-  where
-    rest : (y : ℕ) → member y l ≡ true → (lo ≤ y) × (y < lo + n) × ((not (same y x) && f y) ≡ true)
-    rest y m =
-        let (a, b, e) = h y (or-right (same y x) (member y l) m) in
-        (a, b, rw (same-no y x (λ q. true≢false (sym m ∙ rw q p))) e)
-
 pub count-two : (f g : ℕ → Bool) (lo n : ℕ) → ((x : ℕ) → f x ≡ true → g x ≡ false) → count f lo n + count g lo n ≤ n
 unfolding count
 count-two f g lo zero h = omega arith
@@ -112,15 +81,90 @@ count-two f g lo (suc n) h = go (f (lo + n)) refl (g (lo + n)) refl (count-two f
     go false p true q ih = rw (p, q) (omega arith)
     go false p false q ih = rw (p, q) (omega arith)
 
-pub count-le : (f : ℕ → Bool) (lo n : ℕ) → count f lo n ≤ n
-count-le f lo n = let h : count f lo n + count (λ x. false) lo n ≤ n = count-two f (λ x. false) lo n (λ x p. refl) in omega arith
+pub count-most : (f : ℕ → Bool) (lo n : ℕ) → count f lo n ≤ n
+count-most f lo n = let h : count f lo n + count (λ x. false) lo n ≤ n = count-two f (λ x. false) lo n (λ x p. refl) in omega arith
 
--- a name without a value leaves room
-pub count-lt : (f : ℕ → Bool) (x lo n : ℕ) → lo ≤ x → x < lo + n → f x ≡ false → count f lo n < n
-count-lt f x lo n a b e =
+pub sum-lt : (f g : ℕ → ℕ) (y n : ℕ) → y < n → f y < g y → ((x : ℕ) → x < n → f x ≤ g x) → sum f n < sum g n
+unfolding sum
+sum-lt f g y zero l s h = absurd (omega arith)
+sum-lt f g y (suc n) l s h = go (ℕ-discrete y n) (λ k. sum-lt f g y n k s (λ x m. h x (omega arith)))
+  where
+    go : Dec (y ≡ n) → (y < n → sum f n < sum g n) → f n + sum f n < g n + sum g n
+    go (yes p) ih = let q : f n < g n = rw p at s in omega (arith, sum-le f g n (λ x m. h x (omega arith)))
+    go (no p) ih = omega (arith, ih (omega arith), h n (omega arith))
+
+pub count-le : (f g : ℕ → Bool) (lo n : ℕ) → ((x : ℕ) → lo ≤ x → x < lo + n → f x ≡ true → g x ≡ true) → count f lo n ≤ count g lo n
+unfolding count
+count-le f g lo zero h = omega arith
+count-le f g lo (suc n) h = go (f (lo + n)) refl (g (lo + n)) refl (count-le f g lo n (λ x a b. h x a (omega arith)))
+  where
+    go : (a : Bool) → f (lo + n) ≡ a → (b : Bool) → g (lo + n) ≡ b → count f lo n ≤ count g lo n
+        → bit (f (lo + n)) + count f lo n ≤ bit (g (lo + n)) + count g lo n
+    go true p true q ih = rw (p, q) (omega arith)
+    go true p false q ih = absurd (false≢true (sym q ∙ h (lo + n) (omega arith) (omega arith) p))
+    go false p b q ih = rw p (omega arith)
+
+count-or : (f g : ℕ → Bool) (lo n : ℕ) → count (λ x. f x || g x) lo n ≤ count f lo n + count g lo n
+unfolding count
+count-or f g lo zero = omega arith
+count-or f g lo (suc n) = go (f (lo + n)) (g (lo + n)) (count-or f g lo n)
+  where
+    go : (a b : Bool) → count (λ x. f x || g x) lo n ≤ count f lo n + count g lo n
+        → bit (a || b) + count (λ x. f x || g x) lo n ≤ bit a + count f lo n + (bit b + count g lo n)
+    go true b ih = omega arith
+    go false b ih = omega arith
+
+-- at most one number is x
+count-self : (x lo n : ℕ) → count (λ y. same y x) lo n ≤ 1
+unfolding count
+count-self x lo zero = omega arith
+count-self x lo (suc n) = go (ℕ-discrete (lo + n) x) (count-self x lo n)
+  where
+    never : (m : ℕ) → lo + m ≤ x → count (λ y. same y x) lo m ≡ 0
+    never zero h = refl
+    never (suc m) h = rw (same-no (lo + m) x (λ e. omega arith), never m (omega arith))
+
+    go : Dec (lo + n ≡ x) → count (λ y. same y x) lo n ≤ 1 → bit (same (lo + n) x) + count (λ y. same y x) lo n ≤ 1
+    go (yes e) ih = rw (never n (omega arith), e, same-self x) (omega arith)
+    go (no e) ih = rw (same-no (lo + n) x e) (omega arith)
+
+-- a list has at most its length of numbers
+pub count-member : (l : List ℕ) (lo n : ℕ) → count (λ x. member x l) lo n ≤ length l
+unfolding count member
+count-member [] lo n = zero-count n
+  where
+    zero-count : (n : ℕ) → count (λ x. false) lo n ≤ 0
+    zero-count zero = omega arith
+    zero-count (suc n) = omega (arith, zero-count n)
+count-member (y ∷ l) lo n = omega (arith, count-or (λ x. same x y) (λ x. member x l) lo n, count-self y lo n, count-member l lo n)
+
+-- one term of a sum
+sum-one : (f : ℕ → ℕ) (y n : ℕ) → y < n → f y ≤ sum f n
+unfolding sum
+sum-one f y zero l = absurd (omega arith)
+sum-one f y (suc n) l = go (ℕ-discrete y n) (λ k. sum-one f y n k)
+  where
+    go : Dec (y ≡ n) → (y < n → f y ≤ sum f n) → f y ≤ f n + sum f n
+    go (yes p) ih = rw p (omega arith)
+    go (no p) ih = omega (arith, ih (omega arith))
+
+-- where every number that passes has an owner below k, the owners have them all
+pub owned-all : (f : ℕ → Bool) (t : ℕ → ℕ) (lo n k : ℕ) → ((x : ℕ) → lo ≤ x → x < lo + n → t x < k)
+    → count f lo n ≤ sum (λ θ. count (λ x. same (t x) θ && f x) lo n) k
+unfolding count
+owned-all f t lo zero k h = omega arith
+owned-all f t lo (suc n) k h =
     omega (
       arith,
-      count-two f (λ y. same y x) lo n (λ y t. same-no y x (λ q. true≢false (sym t ∙ rw q e))),
-      count-without (λ y. same y x) x lo n a b
-          (same-self x),
+      sum-add (λ θ. bit (same (t (lo + n)) θ && f (lo + n))) (λ θ. count (λ x. same (t x) θ && f x) lo n) k,
+      owned-all f t lo n k (λ x a b. h x a (omega arith)),
+      last,
     )
+  where
+    own : same (t (lo + n)) (t (lo + n)) ≡ true
+    own = same-self (t (lo + n))
+
+    last : bit (f (lo + n)) ≤ sum (λ θ. bit (same (t (lo + n)) θ && f (lo + n))) k
+    last =
+        let e : bit (same (t (lo + n)) (t (lo + n)) && f (lo + n)) ≡ bit (f (lo + n)) = rw own in
+        omega (arith, sum-one (λ θ. bit (same (t (lo + n)) θ && f (lo + n))) (t (lo + n)) k (h (lo + n) (omega arith) (omega arith)))

@@ -1,20 +1,20 @@
 -- The list of descriptions has exactly the descriptions of the kinds told in specs/Inner/Shapes.antt.
-use Prim.Native.Nat.{ℕ, zero, suc, _+_, _-_, _≤_, _<_}
-use mathlib.Core.Path.{_≡_, refl, sym, ap, _∙_, subst}
+use Prim.Native.Nat.{ℕ, suc, _+_, _≤_, _<_}
+use mathlib.Core.Path.{_≡_, refl}
 use mathlib.Core.Logic.{_≢_, _⊎_, inl, inr}
-use mathlib.Core.Bool.{Bool, true, false, not, _&&_, _||_, true≢false, false≢true}
+use mathlib.Core.Bool.{Bool, true, false}
 use mathlib.Core.List.{List, [], _∷_, _++_, map}
-use native.Mathlib.Decide.{ℕ-discrete}
 use native.Mathlib.Omega.{arith}
 use lib.ListN.{length, getD}
-use Rattle.lists.specs.Lists.{pick, same, from, range, keep, flat, member}
-use Rattle.lists.proofs.Tests.{and-left, and-right, and-intro, same-self, same-true, same-no, same-false}
+use Rattle.lists.specs.Lists.{pick, same, from, range, flat, member}
+use Rattle.lists.proofs.Tests.{same-true, same-no, same-false}
 use Rattle.lists.proofs.Ranges.{member-from, from-member}
-use Rattle.lists.proofs.Members.{member-here, one-member, member-getD, member-keep}
+use Rattle.lists.proofs.Members.{one-member, member-getD}
 use Rattle.scheme.specs.Scheme.{Scheme, Node, stop, choice, new, call, Branch, absent, silent, send, receive}
-use Rattle.table.specs.Accepted.{NameOf, Usable, Chosen, Accepted}
+use Rattle.table.specs.Accepted.{NameOf, Chosen, Accepted}
 use Rattle.places.specs.Values.{Values, valuesOf, privateValues}
-use Rattle.places.specs.Transitions.{Description, releasing, releases, copying, copies, making, going, silents, calling, ofNode, communicating, common}
+use Rattle.places.specs.Transitions.{Description, releases, copies, making, going, silents, calling, ofNode, communicating}
+use Rattle.places.specs.Places.{common}
 use Rattle.places.specs.Transitions.{sentOn, ofPair}
 use Rattle.places.specs.Transitions.{descriptions}
 use Rattle.fidelity.specs.Inner.Elements.{Element, here, there}
@@ -24,6 +24,7 @@ use Rattle.fidelity.specs.Inner.Shapes.{Described, is-new, is-call, is-c
 use Rattle.fidelity.proofs.Elements.{no-element, element-cases, element-left, element-right, append-element, element-map, map-element, element-flat}
 use Rattle.fidelity.proofs.Elements.{flat-element, element-member, member-element}
 use Rattle.fidelity.proofs.Tables.{chosen, silent-present, send-present, receive-present}
+use Rattle.fidelity.proofs.Listed.{common-takes}
 use Rattle.fidelity.proofs.Listed.{below-range, range-below, takes-member, bound-values, member-takes, Releases, releases-element, element-releases}
 use Rattle.fidelity.proofs.Listed.{Copies, copies-element}
 use Rattle.fidelity.proofs.Listed.{element-copies, ending-is, entering-is, copying-is, releasing-is}
@@ -62,7 +63,7 @@ module _ (S : Scheme) (U : Values) (A : Accepted S) (E : EnoughValues S U) where
   new-described : (n r l : ℕ) {t : Description} → S .node n ≡ new r l → (v : ℕ) × Element v (privateValues S U) × (t ≡ making S U n r l v) → Described S U t
   new-described n r l h (v, i, q) =
       let (lo, hi) = from-member v (S .publics) (U .privates) (element-member (privateValues S U) i) in
-      rw q (is-new n r l v h (lo, hi) (E .makes n r l v h lo hi))
+      rw q (is-new n r l v h (lo, hi) (E .makes r v (A .new-restricted n r l h) lo hi))
 
   silent-described : (n b : ℕ) (β : Branch) {t : Description} → S .branch b ≡ β → S .home b ≡ n → Element t (silents S U n b β) → Described S U t
   silent-described n b absent h o e = no-element e
@@ -115,15 +116,10 @@ module _ (S : Scheme) (U : Values) (A : Accepted S) (E : EnoughValues S U) where
       values : (df : S .thread (S .home s) ≢ S .thread (S .home r)) (i : ℕ) → Element i (common S U a e)
           → (j : ℕ) × Element j (sentOn S U a z i) × (t ≡ communicating S U s a z l r e y m i j) → Described S U t
       values df i ic (j, js, q) =
-          let c : (member i (valuesOf S U e) && member i (valuesOf S U a)) ≡ true
-          = sym (member-keep (λ v. member v (valuesOf S U e)) i (valuesOf S U a)) ∙ element-member (common S U a e) ic in
-          let ia : member i (valuesOf S U a) ≡ true = and-right (member i (valuesOf S U e)) (member i (valuesOf S U a)) c in
-          let (jz, own) = sent-values a z i j js ia in
-          let ta : Takes S U a i = member-takes S U A (S .home s) a i (A .send-usable s a z l hs .0) ia in
-          let te : Takes S U e i
-          = member-takes S U A (S .home r) e i (A .receive-usable r e y m hr) (and-left (member i (valuesOf S U e)) (member i (valuesOf S U a)) c) in
+          let im : member i (common S U a e) ≡ true = element-member (common S U a e) ic in
+          let (jz, own) = sent-values a z i j js (takes-member S U A a i (common-takes S U A s a z l r e y m i hs hr im .0)) in
           let tz : Takes S U z j = member-takes S U A (S .home s) z j (A .send-usable s a z l hs .1) jz in
-          rw q (is-communication s a z l r e y m i j hs hr df ta te tz (E .meets s a z l r e y m i j hs hr df ta te tz) own)
+          rw q (is-communication s a z l r e y m i j hs hr df im tz (E .meets s a z l r e y m i j hs hr df im tz) own)
 
       go : (β : Bool) → same (S .thread (S .home s)) (S .thread (S .home r)) ≡ β → Element t (pick β [] (flat pairs (common S U a e))) → Described S U t
       go true q k = no-element k
@@ -240,8 +236,8 @@ module _ (S : Scheme) (U : Values) (A : Accepted S) (E : EnoughValues S U) where
       go false q = member-element j (valuesOf S U z) h
 
   communication-listed : (s a z l r e y m i j : ℕ) → S .branch s ≡ send a z l → S .branch r ≡ receive e y m → S .thread (S .home s) ≢ S .thread (S .home r)
-      → Takes S U a i → Takes S U e i → Takes S U z j → (z ≡ a → j ≡ i) → Element (communicating S U s a z l r e y m i j) (descriptions S U)
-  communication-listed s a z l r e y m i j hs hr df ta te tz own =
+      → member i (common S U a e) ≡ true → Takes S U z j → (z ≡ a → j ≡ i) → Element (communicating S U s a z l r e y m i j) (descriptions S U)
+  communication-listed s a z l r e y m i j hs hr df im tz own =
       at-pair s r (A .branch-inside s (send-present S A s a z l hs)) (A .branch-inside r (receive-present S A r e y m hr))
       (rw (hs, hr, same-no (S .thread (S .home s)) (S .thread (S .home r)) df) (element-flat pairs (common S U a e) ic
       (element-map (communicating S U s a z l r e y m i) (sentOn S U a z i) (sent-listed a z i j (takes-member S U A z j tz) own))))
@@ -250,10 +246,7 @@ module _ (S : Scheme) (U : Values) (A : Accepted S) (E : EnoughValues S U) where
       pairs i = map (communicating S U s a z l r e y m i) (sentOn S U a z i)
 
       ic : Element i (common S U a e)
-      ic =
-          member-element i (common S U a e)
-          (member-keep (λ v. member v (valuesOf S U e)) i (valuesOf S U a)
-          ∙ and-intro (member i (valuesOf S U e)) (member i (valuesOf S U a)) (takes-member S U A e i te) (takes-member S U A a i ta))
+      ic = member-element i (common S U a e) im
 
   pub described-listed : {t : Description} → Described S U t → Element t (descriptions S U)
   described-listed (is-new n r l v h p re) = new-listed n r l v h (p .0) (p .1)
@@ -262,4 +255,4 @@ module _ (S : Scheme) (U : Values) (A : Accepted S) (E : EnoughValues S U) where
   described-listed (is-release n d j v h l re p) = release-listed n d h j v l re
   described-listed (is-ending n j v k h l re p) = ending-listed n j v k h l re
   described-listed (is-silent b l h) = silent-listed b l h
-  described-listed (is-communication s a z l r e y m i j hs hr df ta te tz re own) = communication-listed s a z l r e y m i j hs hr df ta te tz own
+  described-listed (is-communication s a z l r e y m i j hs hr df im tz re own) = communication-listed s a z l r e y m i j hs hr df im tz own

@@ -1,62 +1,129 @@
--- As many private values as bound names, and every value for every name that is not restricted, are enough.
-use Prim.Native.Nat.{ℕ, zero, suc, _+_, _-_, _≤_, _<_}
+-- The values suffice: every value for every name that is not restricted, and there are more private values than names held where a thread is at a New.
+use Prim.Native.Nat.{ℕ, suc, _+_, _≤_, _<_}
 use mathlib.Core.Path.{_≡_, refl, sym, _∙_}
-use mathlib.Core.Logic.{_≢_, _⊎_, inl, inr}
-use mathlib.Core.Bool.{Bool, true, false, not, _&&_, _||_, true≢false}
+use mathlib.Core.Logic.{inl, inr}
+use mathlib.Core.Bool.{true, false, not, _&&_}
+use mathlib.Core.List.{List, [], _∷_, _++_}
 use native.Mathlib.Omega.{arith}
 use lib.Dec.{ltb, leb}
 use lib.ListN.{length, getD}
 use borrow.Author.Tests.{lt-ltb, le-leb, ltb-true, leb-true}
-use Rattle.lists.proofs.Tests.{and-left, and-right, or-true}
+use Rattle.lists.specs.Lists as Lists
+use Rattle.lists.specs.Lists.{same, member}
+use Rattle.lists.proofs.Tests.{and-left, and-right, or-true, same-true}
 use Rattle.lists.proofs.Members.{member-getD}
-use Rattle.scheme.specs.Scheme.{Scheme, new, call, send, receive}
-use Rattle.table.specs.Accepted.{NameOf, Accepted}
-use Rattle.places.specs.Values.{Values, allValues}
-use Rattle.readback.specs.Configurations.{spot, Configuration}
-use Rattle.fidelity.specs.Inner.Marks.{given, allows, Takes, WellFormed}
-use Rattle.fidelity.specs.Inner.Shapes.{count, EnoughValues}
-use Rattle.fidelity.proofs.Counting.{count-lt}
-use Rattle.fidelity.proofs.Shapes.{held-first}
+use Rattle.scheme.specs.Scheme.{Scheme, Node, stop, choice, new, call}
+use Rattle.table.specs.Accepted.{Accepted}
+use Rattle.places.specs.Values.{Values}
+use Rattle.places.specs.Places.{controls}
+use Rattle.places.specs.Held.{mostHeld, privateCount, valuesFor}
+use Rattle.places.specs.Inner.Holding.{count}
+use Rattle.places.proofs.Few.{first-place, first-length, held-most, private-sum}
+use Rattle.readback.specs.Configurations.{Spot, spot, Configuration, heldHere, isSpot}
+use Rattle.fidelity.specs.Inner.Marks.{given, isPlace, allows, Takes, WellFormed}
+use Rattle.fidelity.specs.Inner.Shapes.{EnoughValues}
+use Rattle.fidelity.proofs.Counting.{sum-lt, count-le, count-member, owned-all}
 
 module _ (S : Scheme) (A : Accepted S) where
   abbrev U : Values
-  U = allValues S
+  U = valuesFor S
 
-  pub free-allows : (x v : ℕ) → S .restricted x ≡ false → v < S .publics + S .bounds → allows S U x v ≡ true
-  unfolding allows allValues
-  free-allows x v f l = rw (f, lt-ltb v (S .publics + S .bounds) l)
+  privates-are : U .privates ≡ privateCount S
+  unfolding valuesFor
+  privates-are = refl
 
-  pub private-allows : (x v : ℕ) → S .publics ≤ v → v < S .publics + S .bounds → allows S U x v ≡ true
-  unfolding allows allValues
-  private-allows x v p l = rw (lt-ltb v (S .publics + S .bounds) l, le-leb (S .publics) v p) (or-true (not (S .restricted x)))
+  -- ---- values
 
-  allows-below : (x v : ℕ) → allows S U x v ≡ true → v < S .publics + S .bounds
-  unfolding allows allValues
-  allows-below x v h = ltb-true v (S .publics + S .bounds) (and-left (ltb v (S .publics + S .bounds)) (not (S .restricted x) || leb (S .publics) v) h)
+  free-allows : (x v : ℕ) → S .restricted x ≡ false → v < S .publics + U .privates → allows S U x v ≡ true
+  unfolding allows valuesFor
+  free-allows x v f l = rw (f, lt-ltb v (S .publics + U .privates) l)
 
-  allows-private : (x v : ℕ) → S .restricted x ≡ true → allows S U x v ≡ true → S .publics ≤ v
-  unfolding allows allValues
-  allows-private x v r h = leb-true (S .publics) v (and-right (ltb v (S .publics + S .bounds)) (leb (S .publics) v) (rw r at h))
+  pub makes : (x v : ℕ) → S .restricted x ≡ true → S .publics ≤ v → v < S .publics + U .privates → allows S U x v ≡ true
+  unfolding allows valuesFor
+  makes x v r p l = rw (lt-ltb v (S .publics + U .privates) l, le-leb (S .publics) v p) (or-true (not (S .restricted x)))
 
-  takes-below : (x v : ℕ) → Takes S U x v → v < S .publics + S .bounds
+  allows-below : (x v : ℕ) → allows S U x v ≡ true → v < S .publics + U .privates
+  unfolding allows
+  allows-below x v h = ltb-true v (S .publics + U .privates) (and-left (ltb v (S .publics + U .privates)) (U .reach x v) h)
+
+  pub private : (x v : ℕ) → S .restricted x ≡ true → allows S U x v ≡ true → S .publics ≤ v
+  unfolding allows valuesFor
+  private x v r h = leb-true (S .publics) v (and-right (ltb v (S .publics + U .privates)) (leb (S .publics) v) (rw r at h))
+
+  takes-below : (x v : ℕ) → Takes S U x v → v < S .publics + U .privates
   takes-below x v (inl (lo, hi, al)) = allows-below x v al
   takes-below x v (inr (l, e)) = omega arith
 
-  room : (c : Configuration) → WellFormed S U c → (n r l : ℕ) → S .node n ≡ new r l → c .at (S .thread n) ≡ spot n 0
-      → count (λ x. given (c .value x)) (S .publics) (S .bounds) < S .bounds
-  room c W n r l h p =
-      let nm : NameOf S (S .thread n) r = A .new-name n r l h in
-      count-lt (λ x. given (c .value x)) r (S .publics) (S .bounds) (nm .low) (nm .high)
-      (W .held r (nm .low) ∙ rw (nm .of, p) (held-first S U A n r ∙ A .new-fresh n r l h))
+  -- ---- N
 
-  pub enough-values : EnoughValues S (allValues S)
-  unfolding allValues
+  place-most : (p : Spot) → isPlace S p ≡ true → length (heldHere S p) ≤ mostHeld S (S .thread (p .node))
+  unfolding controls
+  place-most p h =
+      held-most S A (S .thread (p .node)) (p .node) (p .index)
+      (ltb-true (p .node) (S .nodes) (and-left (ltb (p .node) (S .nodes)) (isSpot S (S .node (p .node)) p) h)) refl
+      (below (S .node (p .node)) refl (and-right (ltb (p .node) (S .nodes)) (isSpot S (S .node (p .node)) p) h))
+    where
+      below : (ν : Node) → S .node (p .node) ≡ ν → isSpot S (S .node (p .node)) p ≡ true → p .index < controls S (p .node)
+      below stop e q = rw e (omega (arith, leb-true (p .index) (length (S .held (p .node))) (rw e at q)))
+      below (choice f c) e q = rw e (omega (arith, same-true (p .index) 0 (rw e at q)))
+      below (new r l) e q = rw e (omega (arith, same-true (p .index) 0 (rw e at q)))
+      below (call d) e q = rw e (omega (arith, leb-true (p .index) (length (S .formals d) + length (S .held (p .node))) (rw e at q)))
+
+  pub room : (c : Configuration) → WellFormed S U c → (n r l : ℕ) → S .node n ≡ new r l → c .at (S .thread n) ≡ spot n 0
+      → count (λ x. given (c .value x)) (S .publics) (S .bounds) < U .privates
+  room c W n r l h p =
+      omega (
+        arith,
+        privates-are,
+        private-sum S A r (A .new-restricted n r l h),
+        owned-all (λ x. given (c .value x)) (S .nameThread) (S .publics) (S .bounds) (S .threads) (λ x a b. A .name-thread x a b),
+        sum-lt (λ θ. count (λ x. same (S .nameThread x) θ && given (c .value x)) (S .publics) (S .bounds)) (mostHeld S) (S .thread n) (S .threads)
+            (A .thread-inside n) strict each,
+      )
+    where
+      held-count : (θ : ℕ) → count (λ x. same (S .nameThread x) θ && given (c .value x)) (S .publics) (S .bounds) ≤ length (heldHere S (c .at θ))
+      held-count θ =
+          omega (
+            arith,
+            count-le (λ x. same (S .nameThread x) θ && given (c .value x)) (λ x. member x (heldHere S (c .at θ))) (S .publics) (S .bounds) one,
+            count-member (heldHere S (c .at θ)) (S .publics) (S .bounds),
+          )
+        where
+          one : (x : ℕ) → S .publics ≤ x → x < S .publics + S .bounds → (same (S .nameThread x) θ && given (c .value x)) ≡ true
+              → member x (heldHere S (c .at θ)) ≡ true
+          one x lo hi q =
+              let e : S .nameThread x ≡ θ = same-true (S .nameThread x) θ (and-left (same (S .nameThread x) θ) (given (c .value x)) q) in
+              rw e at (sym (W .held x lo) ∙ and-right (same (S .nameThread x) θ) (given (c .value x)) q)
+
+      each : (θ : ℕ) → θ < S .threads → count (λ x. same (S .nameThread x) θ && given (c .value x)) (S .publics) (S .bounds) ≤ mostHeld S θ
+      each θ k =
+          let m : length (heldHere S (c .at θ)) ≤ mostHeld S θ = rw (W .stands θ k .0) at (place-most (c .at θ) (W .stands θ k .1)) in
+          omega (arith, held-count θ)
+
+      strict : count (λ x. same (S .nameThread x) (S .thread n) && given (c .value x)) (S .publics) (S .bounds) < mostHeld S (S .thread n)
+      strict =
+          let a : length (heldHere S (c .at (S .thread n))) ≡ length (S .held n) = rw (p, h) in
+          let b : length (S .held l) ≡ suc (length (S .held n)) = rw (A .new-held n r l h) (length-snoc (S .held n)) in
+          omega (
+            arith,
+            held-count (S .thread n),
+            a,
+            b,
+            first-length S A l,
+            held-most S A (S .thread n) l 0 (A .new-inside n r l h .1) (A .new-thread n r l h) (first-place S A l),
+          )
+        where
+          length-snoc : (xs : List ℕ) → length (xs ++ (r ∷ [])) ≡ suc (length xs)
+          length-snoc [] = refl
+          length-snoc (x ∷ xs) = rw (length-snoc xs)
+
+  pub enough-values : EnoughValues S (valuesFor S)
   enough-values = record {
     copies =
         λ n d j v h l tk. free-allows (getD (S .formals d) j 0) v (A .formal-free d (getD (S .formals d) j 0) (member-getD (S .formals d) j l))
         (takes-below (getD (S .arguments n) j 0) v tk);
-    meets = λ s a z l r e y m i j hs hr df ta te tz. free-allows y j (A .receive-free r e y m hr) (takes-below z j tz);
-    makes = λ n r l v h lo hi. private-allows r v lo hi;
-    private = allows-private;
+    meets = λ s a z l r e y m i j hs hr df ic tz. free-allows y j (A .receive-free r e y m hr) (takes-below z j tz);
+    makes = makes;
+    private = private;
     room = room;
   }

@@ -1,14 +1,12 @@
 -- A firing that is no bookkeeping takes an open step; and where the threads of an open step stand at the first places of its nodes, it can be fired.
-use Prim.Native.Nat.{ℕ, zero, suc, _+_, _-_, _≤_, _<_}
-use mathlib.Core.Path.{_≡_, refl, sym, ap, _∙_}
-use mathlib.Core.Logic.{_≢_, _⊎_, inl, inr}
-use mathlib.Core.Bool.{Bool, true, false, not, _&&_, _||_, true≢false, false≢true}
-use mathlib.Core.Option.{Option, none, some}
-use mathlib.Core.List.{List, [], _∷_, _++_}
-use native.Mathlib.Decide.{decLe, decLt}
+use Prim.Native.Nat.{ℕ, _+_, _≤_, _<_}
+use mathlib.Core.Path.{_≡_, refl, sym, _∙_}
+use mathlib.Core.Logic.{_≢_, inl, inr}
+use mathlib.Core.Bool.{Bool, true, false, true≢false}
+use mathlib.Core.Option.{some}
+use mathlib.Core.List.{[], _∷_}
+use native.Mathlib.Decide.{decLe}
 use native.Mathlib.Omega.{arith}
-use lib.Dec.{ltb}
-use lib.ListN.{length, take, drop, getD}
 use borrow.Author.Tests.{lt-ltb, le-ltb}
 use Rattle.lists.specs.Lists.{pick, same, member}
 use Rattle.lists.proofs.Tests.{same-self, same-true, same-no}
@@ -18,6 +16,7 @@ use Rattle.process.specs.States.{State}
 use Rattle.process.specs.Steps.{Step, newStep, communication, isOpen}
 use Rattle.process.specs.Labels.{labelOf}
 use Rattle.places.specs.Values.{Values}
+use Rattle.places.specs.Places.{common}
 use Rattle.places.specs.Transitions.{test, Description, making, communicating}
 use Rattle.readback.specs.Configurations.{Spot, spot, Configuration}
 use Rattle.fidelity.specs.Inner.Marks.{stay, pass, Fits, WellFormed, Takes}
@@ -33,6 +32,7 @@ use Rattle.fidelity.proofs.Following.{node-first}
 use Rattle.fidelity.proofs.Opening.{open-test}
 use Rattle.fidelity.proofs.Counting.{free-value}
 use Rattle.fidelity.proofs.Settling.{usable-value, single-stands}
+use Rattle.fidelity.proofs.Listed.{takes-common}
 
 module _ (S : Scheme) (U : Values) (A : Accepted S) (E : EnoughValues S U) where
   -- ---- the step of a firing is open
@@ -62,7 +62,7 @@ module _ (S : Scheme) (U : Values) (A : Accepted S) (E : EnoughValues S U) where
       rw (silent-named S g l h)
       (open-test S (open-silent l h (first-node c s R (S .thread (S .home g)) (S .home g)
       (f .stands (S .thread (S .home g)) (spot (S .home g) 0) (spot l 0) (rw (same-self (S .thread (S .home g))))))))
-  opened c s R (is-communication g a z l r x y m i j hs hr df ta tx tz re own) f b =
+  opened c s R (is-communication g a z l r x y m i j hs hr df im tz re own) f b =
       let (w, e) = given-is (s .value a) (sym (R .alike .both a) ∙ rw va) in
       rw (communication-named S g a z l r x y m hs hr df)
       (open-test S (open-communication a z l x y m w hs hr df (first-node c s R θ (S .home g) at-s) (first-node c s R η (S .home r) at-r) e
@@ -103,7 +103,7 @@ module _ (S : Scheme) (U : Values) (A : Accepted S) (E : EnoughValues S U) where
   fire-new c W k r l h p =
       let (v, lo, hi, fr) = free-value (U .privates) (c .value) (S .publics) (S .publics) (S .bounds) (E .room c W k r l h p) in record {
         firing = making S U k r l v;
-        described = is-new k r l v h (lo, hi) (E .makes k r l v h lo hi);
+        described = is-new k r l v h (lo, hi) (E .makes r v (A .new-restricted k r l h) lo hi);
         fits = record {
           stands = single-stands S U A E c (S .thread k) (spot k 0) (spot l 0) p;
           tests = λ x w q. asks-nothing x w q;
@@ -158,9 +158,10 @@ module _ (S : Scheme) (U : Values) (A : Accepted S) (E : EnoughValues S U) where
       build i ei ti j ej tj i′ ei′ ti′ =
           let q : i′ ≡ i = cc in
           let own : z ≡ a → j ≡ i = λ e. self e in
-          let tx : Takes S U x i = rw q at ti′ in record {
+          let tx : Takes S U x i = rw q at ti′ in
+          let im : member i (common S U a x) ≡ true = takes-common S U A a x i ti tx in record {
             firing = communicating S U g a z l r x y m i j;
-            described = is-communication g a z l r x y m i j hs hr df ti tx tj (E .meets g a z l r x y m i j hs hr df ti tx tj) own;
+            described = is-communication g a z l r x y m i j hs hr df im tj (E .meets g a z l r x y m i j hs hr df im tj) own;
             fits = record {
               stands = stands′;
               tests = λ u w. asks-three (λ (n v : ℕ). c .value n ≡ some v) a i x i z j u w ei (sym equal ∙ ei) ej;

@@ -1,14 +1,14 @@
 -- Every firing keeps what joins the configuration to the plain process: bookkeeping keeps the state, and every other firing takes the step that its
 -- label names.
-use Prim.Native.Nat.{ℕ, zero, suc, _+_, _-_, _≤_, _<_}
-use mathlib.Core.Path.{_≡_, refl, sym, ap, _∙_}
-use mathlib.Core.Logic.{_≢_, _⊎_, inl, inr}
-use mathlib.Core.Bool.{Bool, true, false, not, _&&_, _||_}
+use Prim.Native.Nat.{ℕ, suc, _+_, _≤_, _<_}
+use mathlib.Core.Path.{_≡_, refl, sym, _∙_}
+use mathlib.Core.Logic.{_≢_, inl}
+use mathlib.Core.Bool.{Bool, true, false}
 use mathlib.Core.Option.{Option, none, some}
 use native.Mathlib.Decide.{ℕ-discrete}
 use native.Mathlib.Omega.{arith}
 use lib.Dec.{ltb}
-use lib.ListN.{length, getD}
+use lib.ListN.{length}
 use Rattle.lists.specs.Lists.{pick, same}
 use Rattle.lists.proofs.Tests.{and-false, same-self, same-true, same-no}
 use Rattle.scheme.specs.Scheme.{Scheme, Node, stop, choice, new, call, silent, send, receive}
@@ -19,10 +19,10 @@ use Rattle.process.specs.Steps.{arrived, called, received, silently, newly, cal
 use Rattle.places.specs.Values.{Values}
 use Rattle.places.specs.Transitions.{Description, making, communicating}
 use Rattle.readback.specs.Configurations.{Spot, spot, Configuration, nodeShownAt, nodeShown, nameShown}
-use Rattle.fidelity.specs.Inner.Marks.{Motion, stay, pass, ends, motion, after, Fits, WellFormed}
+use Rattle.fidelity.specs.Inner.Marks.{stay, pass, ends, motion, after, Fits, WellFormed}
 use Rattle.fidelity.specs.Inner.Shapes.{single, pair, chain, onward, entering, copyingAt, releasingAt, ending, goingBy}
 use Rattle.fidelity.specs.Inner.Shapes.{Described, is-new, is-call, is-copy, is-release, is-ending, is-silent, is-communication}
-use Rattle.fidelity.specs.Inner.Standing.{Alike, shown, advanced, Shows}
+use Rattle.fidelity.specs.Inner.Standing.{shown, advanced, Shows}
 use Rattle.fidelity.proofs.Basics.{none-some, put-self, put-other}
 use Rattle.fidelity.proofs.Tables.{no-thread}
 use Rattle.fidelity.proofs.Firing.{well-formed-after}
@@ -225,6 +225,6 @@ module _ (S : Scheme) (U : Values) (A : Accepted S) where
   step c s R (is-release k d j v h l re p) f = release-step c s R k d j v (is-release k d j v h l re p) h l f
   step c s R (is-ending k j v km h l re p) f = ending-step c s R k j v (is-ending k j v km h l re p) h f
   step c s R (is-silent b l h) f = rw (silent-advanced S b l s h) (silent-step c s R b l (is-silent b l h) h f)
-  step c s R (is-communication b a z l r x y m i j hs hr df ta tx tz re own) f =
+  step c s R (is-communication b a z l r x y m i j hs hr df im tz re own) f =
       rw (communication-advanced S b a z l r x y m s hs hr df)
-      (communication-step c s R b a z l r x y m i j (is-communication b a z l r x y m i j hs hr df ta tx tz re own) hs hr df f)
+      (communication-step c s R b a z l r x y m i j (is-communication b a z l r x y m i j hs hr df im tz re own) hs hr df f)

@@ -1,8 +1,8 @@
 -- A place that exists is among the marked places of a configuration exactly where the configuration marks it.
 use Prim.Native.Nat.{ℕ}
-use mathlib.Core.Path.{_≡_, refl, sym, ap, _∙_, subst}
+use mathlib.Core.Path.{_≡_, refl}
 use mathlib.Core.Logic.{_⊎_, inl, inr}
-use mathlib.Core.Bool.{Bool, true, false, not, _&&_, _||_, true≢false, false≢true}
+use mathlib.Core.Bool.{Bool, true, false, _&&_, false≢true}
 use mathlib.Core.List.{List, [], _∷_}
 use Rattle.lists.specs.Lists as Lists
 use Rattle.lists.specs.Lists.{pick, same, keep}
@@ -18,7 +18,7 @@ use Rattle.fidelity.specs.Inner.Marks.{mark, Exists}
 use Rattle.fidelity.proofs.Elements.{no-element, element-cases, some-element, element-some}
 use Rattle.fidelity.proofs.Places.{exists-listed}
 
-same-place : (p : Place) → samePlace p p ≡ true
+pub same-place : (p : Place) → samePlace p p ≡ true
 same-place (equals x v) = rw (same-self x, same-self v)
 same-place (differs x v) = rw (same-self x, same-self v)
 same-place (free v) = same-self v
@@ -27,7 +27,7 @@ same-place (control n k) = rw (same-self n, same-self k)
 two-same : (a b c d : ℕ) → (same a c && same b d) ≡ true → (a ≡ c) × (b ≡ d)
 two-same a b c d h = (same-true a c (and-left (same a c) (same b d) h), same-true b d (and-right (same a c) (same b d) h))
 
-place-same : (p q : Place) → samePlace p q ≡ true → p ≡ q
+pub place-same : (p q : Place) → samePlace p q ≡ true → p ≡ q
 place-same (equals a b) (equals c d) h = let (x, y) = two-same a b c d h in rw (x, y)
 place-same (equals a b) (differs c d) h = absurd (false≢true h)
 place-same (equals a b) (free d) h = absurd (false≢true h)
@@ -46,7 +46,7 @@ place-same (control a b) (free d) h = absurd (false≢true h)
 place-same (control a b) (control c d) h = let (x, y) = two-same a b c d h in rw (x, y)
 
 module _ (f : Place → Bool) where
-  element-keep : {p : Place} (ps : List Place) → Element p ps → f p ≡ true → Element p (keep f ps)
+  pub element-keep : {p : Place} (ps : List Place) → Element p ps → f p ≡ true → Element p (keep f ps)
   unfolding keep
   element-keep (p ∷ ps) here h = rw h here
   element-keep {p} (q ∷ ps) (there e) h = go (f q) (element-keep ps e h)
@@ -55,7 +55,7 @@ module _ (f : Place → Bool) where
       go true i = there i
       go false i = i
 
-  keep-element : {p : Place} (ps : List Place) → Element p (keep f ps) → f p ≡ true
+  pub keep-element : {p : Place} (ps : List Place) → Element p (keep f ps) → f p ≡ true
   unfolding keep
   keep-element [] e = no-element e
   keep-element {p} (q ∷ ps) e = go (f q) refl e (keep-element ps)

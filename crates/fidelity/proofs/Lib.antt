@@ -35,7 +35,9 @@ pub mod Having
 pub mod StandsFor
 pub mod ReadBack
 pub mod Whole
+pub mod Standing
 pub mod Theorem
+pub mod Fresh
 pub mod Refusing
 pub mod WrongClaims
 pub mod SelfCalls

@@ -1,33 +1,29 @@
 -- Lists of values, and of the releases and copies of a node: which elements they have.
-use Prim.Native.Nat.{ℕ, zero, suc, _+_, _-_, _≤_, _<_}
-use mathlib.Core.Path.{_≡_, refl, sym, ap, _∙_, subst}
-use mathlib.Core.Logic.{_≢_, _⊎_, inl, inr}
-use mathlib.Core.Bool.{Bool, true, false, not, _&&_, _||_, true≢false, false≢true}
-use mathlib.Core.List.{List, [], _∷_, _++_, map}
-use native.Mathlib.Decide.{ℕ-discrete, decLe}
+use Prim.Native.Nat.{ℕ, zero, suc, _+_, _≤_, _<_}
+use mathlib.Core.Path.{_≡_, refl, sym, _∙_}
+use mathlib.Core.Logic.{_⊎_, inl, inr}
+use mathlib.Core.Bool.{Bool, true, false, _&&_}
+use mathlib.Core.List.{List, [], _∷_, map}
 use native.Mathlib.Omega.{arith}
 use native.Mathlib.Nat.{not-suc-le-zero, le-of-suc-le-suc}
-use lib.Dec.{ltb, leb}
+use lib.Dec.{ltb}
 use lib.ListN.{length, getD}
 use borrow.Author.Tests.{lt-ltb, le-ltb, ltb-true, ltb-false}
-use Rattle.lists.specs.Lists.{pick, same, from, range, keep, flat, member}
-use Rattle.lists.proofs.Tests.{and-left, and-right, and-intro, same-self, same-true, same-no, same-false, pick-true, pick-false}
+use Rattle.lists.specs.Lists.{pick, range, member}
+use Rattle.lists.proofs.Tests.{and-left, and-right, and-intro}
 use Rattle.lists.proofs.Ranges.{member-from, from-member}
-use Rattle.lists.proofs.Members.{member-here, one-member, member-getD, member-keep}
-use Rattle.scheme.specs.Scheme.{Scheme, Node, stop, choice, new, call, Branch, absent, silent, send, receive}
-use Rattle.table.specs.Accepted.{NameOf, Usable, Chosen, Accepted}
-use Rattle.places.specs.Values.{Values, valuesOf, privateValues}
-use Rattle.places.specs.Places.{controls}
-use Rattle.places.specs.Transitions.{Move, move, Description, on, releasing, releases, copying, copies, making, going, silents, calling, ofNode}
-use Rattle.places.specs.Transitions.{communicating, common, sentOn, ofPair, descriptions}
+use Rattle.lists.proofs.Members.{member-here, one-member, member-keep}
+use Rattle.scheme.specs.Scheme.{Scheme, stop, call, send, receive}
+use Rattle.table.specs.Accepted.{NameOf, Usable, Accepted}
+use Rattle.places.specs.Values.{Values, valuesOf}
+use Rattle.places.specs.Places.{controls, common}
+use Rattle.places.specs.Transitions.{move, Description, on, releasing, releases, copying, copies, calling}
 use Rattle.readback.specs.Configurations.{spot}
-use Rattle.fidelity.specs.Inner.Elements.{Element, here, there}
+use Rattle.fidelity.specs.Inner.Elements.{Element}
 use Rattle.fidelity.specs.Inner.Marks.{allows, Takes}
-use Rattle.fidelity.specs.Inner.Shapes.{chain, onward, entering, copyingAt, releasingAt, ending, goingBy}
-use Rattle.fidelity.specs.Inner.Shapes.{Described, is-new, is-call, is-copy, is-release, is-ending, is-silent, is-communication, EnoughValues}
-use Rattle.fidelity.proofs.Elements.{no-element, element-cases, element-left, element-right, append-element, element-map, map-element, element-flat}
-use Rattle.fidelity.proofs.Elements.{flat-element, element-member, member-element}
-use Rattle.fidelity.proofs.Tables.{chosen, silent-present, send-present, receive-present}
+use Rattle.fidelity.specs.Inner.Shapes.{chain, onward, entering, copyingAt, releasingAt, ending}
+use Rattle.fidelity.proofs.Elements.{no-element, element-left, element-right, append-element, element-map, map-element}
+use Rattle.fidelity.proofs.Elements.{element-member, member-element}
 
 suc-test : (a b : ℕ) → ltb (suc a) (suc b) ≡ ltb a b
 suc-test a b = go (ltb a b) refl
@@ -70,6 +66,23 @@ module _ (S : Scheme) (U : Values) (A : Accepted S) where
   pub member-takes : (n x v : ℕ) → Usable S n x → member v (valuesOf S U x) ≡ true → Takes S U x v
   member-takes n x v (inl l) m = inr (l, public-values x v l m)
   member-takes n x v (inr h) m = let nm : NameOf S (S .thread n) x = A .held-name n x h in inl (nm .low, nm .high, bound-values x v (nm .low) m)
+
+  -- a common channel value is a value of both channels
+  pub common-takes : (s a z l r e y m i : ℕ) → S .branch s ≡ send a z l → S .branch r ≡ receive e y m → member i (common S U a e) ≡ true
+      → Takes S U a i × Takes S U e i
+  common-takes s a z l r e y m i hs hr h =
+      let c : (member i (valuesOf S U e) && member i (valuesOf S U a)) ≡ true =
+      sym (member-keep (λ v. member v (valuesOf S U e)) i (valuesOf S U a)) ∙ h in (
+        member-takes (S .home s) a i (A .send-usable s a z l hs .0) (and-right (member i (valuesOf S U e)) (member i (valuesOf S U a)) c),
+        member-takes (S .home r) e i (A .receive-usable r e y m hr) (and-left (member i (valuesOf S U e)) (member i (valuesOf S U a)) c),
+      )
+
+  -- and a value of both is common
+  pub takes-common : (a e i : ℕ) → Takes S U a i → Takes S U e i → member i (common S U a e) ≡ true
+  takes-common a e i ta te =
+      member-keep (λ v. member v (valuesOf S U e)) i (valuesOf S U a)
+      ∙ and-intro (member i (valuesOf S U e)) (member i (valuesOf S U a))
+      (takes-member e i te) (takes-member a i ta)
 
   -- ---- releases and copies
 

@@ -1,8 +1,8 @@
 -- Every open step can be fired after at most B bookkeeping firings: what is left of the chains of its threads is at most their names.
 use Prim.Native.Nat.{ℕ, zero, suc, _+_, _-_, _≤_, _<_}
-use mathlib.Core.Path.{_≡_, refl, sym, ap, _∙_}
+use mathlib.Core.Path.{_≡_, refl, sym, _∙_}
 use mathlib.Core.Logic.{_≢_, _⊎_, inl, inr}
-use mathlib.Core.Bool.{Bool, true, false, not, _&&_, _||_, true≢false, false≢true}
+use mathlib.Core.Bool.{true, false, true≢false}
 use mathlib.Core.List.{List, [], _∷_, _++_}
 use native.Mathlib.Omega.{arith}
 use lib.Dec.{ltb}
@@ -18,15 +18,17 @@ use Rattle.process.specs.States.{State}
 use Rattle.process.specs.Steps.{Step, silentStep, communication, callStep}
 use Rattle.places.specs.Values.{Values}
 use Rattle.places.specs.Transitions.{Description}
-use Rattle.readback.specs.Configurations.{Spot, spot, Configuration, isSpot, nodeShownAt}
+use Rattle.readback.specs.Configurations.{spot, Configuration, isSpot, nodeShownAt}
 use Rattle.fidelity.specs.Inner.Marks.{WellFormed}
-use Rattle.fidelity.specs.Inner.Shapes.{count, chain, onward, entering, goingBy, is-call, is-silent, EnoughValues}
+use Rattle.places.specs.Inner.Holding.{count}
+use Rattle.fidelity.specs.Inner.Shapes.{chain, onward, entering, goingBy, is-call, is-silent, EnoughValues}
 use Rattle.fidelity.specs.Inner.Standing.{Shows}
 use Rattle.fidelity.specs.Inner.Runs.{AllQuiet, Open, open-new, open-call, open-silent, open-communication, Run, done, more}
 use Rattle.fidelity.proofs.Basics.{asks-nothing}
 use Rattle.fidelity.proofs.Tables.{chosen, send-present, receive-present, silent-node, send-node, receive-node, formal-name}
 use Rattle.fidelity.proofs.Labels.{silent-named, call-named}
-use Rattle.fidelity.proofs.Counting.{distinct-count, count-two, count-le}
+use Rattle.places.proofs.Tallies.{distinct-count}
+use Rattle.fidelity.proofs.Counting.{count-two, count-most}
 use Rattle.fidelity.proofs.Settling.{single-stands, Settled, settle}
 use Rattle.fidelity.proofs.Fireable.{choice-shown, Fireable, fire-new, fire-com}
 
@@ -115,7 +117,7 @@ module _ (S : Scheme) (U : Values) (A : Accepted S) (E : EnoughValues S U) where
         firings = τ .firings;
         run = τ .run;
         quietly = τ .quietly;
-        few = omega (arith, τ .size, count-le (λ x. same (S .nameThread x) (S .thread k)) (S .publics) (S .bounds));
+        few = omega (arith, τ .size, count-most (λ x. same (S .nameThread x) (S .thread k)) (S .publics) (S .bounds));
         fireable = f (τ .last) (τ .shows .formed) (τ .there);
       }
 

@@ -1,16 +1,16 @@
 -- No more than 2B bookkeeping firings follow in a row: each takes one from what is left of its thread's chain, and a call into a Stop body goes on into the
 -- Stop's chain.
-use Prim.Native.Nat.{ℕ, zero, suc, _+_, _-_, _*_, _≤_, _<_}
-use mathlib.Core.Path.{_≡_, refl, sym, ap, _∙_}
-use mathlib.Core.Logic.{_≢_, _⊎_, inl, inr}
-use mathlib.Core.Bool.{Bool, true, false, not, _&&_, _||_, true≢false, false≢true}
-use mathlib.Core.List.{List, [], _∷_, _++_}
+use Prim.Native.Nat.{ℕ, zero, suc, _+_, _-_, _≤_, _<_}
+use mathlib.Core.Path.{_≡_, refl, _∙_}
+use mathlib.Core.Logic.{_≢_}
+use mathlib.Core.Bool.{Bool, true, false, false≢true}
+use mathlib.Core.List.{List}
 use native.Mathlib.Decide.{ℕ-discrete}
 use native.Mathlib.Omega.{arith}
 use lib.Dec.{ltb}
 use lib.ListN.{length}
 use borrow.Author.Tests.{ltb-false}
-use Rattle.lists.specs.Lists.{pick, bit, same}
+use Rattle.lists.specs.Lists.{pick, same}
 use Rattle.lists.proofs.Tests.{same-self, same-no}
 use Rattle.scheme.specs.Scheme.{Scheme, Node, stop, choice, new, call}
 use Rattle.table.specs.Accepted.{Accepted}
@@ -18,16 +18,12 @@ use Rattle.places.specs.Values.{Values}
 use Rattle.places.specs.Transitions.{Description}
 use Rattle.readback.specs.Configurations.{Spot, spot, Configuration}
 use Rattle.fidelity.specs.Inner.Marks.{ends, threadOf, motion, after, Fits, WellFormed}
-use Rattle.fidelity.specs.Inner.Shapes.{single, count, chain, onward, copyingAt, releasingAt, ending}
+use Rattle.fidelity.specs.Inner.Shapes.{single, chain, onward, copyingAt, releasingAt, ending}
 use Rattle.fidelity.specs.Inner.Shapes.{Described, is-new, is-call, is-copy, is-release, is-ending, is-silent, is-communication, EnoughValues}
 use Rattle.fidelity.specs.Inner.Runs.{quiet, AllQuiet, Run, done, more}
 use Rattle.fidelity.proofs.Tables.{root-held}
-use Rattle.fidelity.proofs.Counting.{distinct-count}
+use Rattle.places.proofs.Tallies.{sum, distinct-count, owned-most}
 use Rattle.fidelity.proofs.Live.{names, chain-le, name-within}
-
-unfoldable pub sum : (ℕ → ℕ) → ℕ → ℕ
-sum f zero = 0
-sum f (suc n) = f n + sum f n
 
 sum-same : (f g : ℕ → ℕ) (n : ℕ) → ((θ : ℕ) → θ < n → f θ ≡ g θ) → sum f n ≡ sum g n
 unfolding sum
@@ -43,42 +39,10 @@ sum-less f g η (suc n) l e h = go (ℕ-discrete n η) (λ k. sum-less f g η n 
     go (yes p) ih = rw (sum-same f g n (λ θ k. h θ (λ q. omega arith)), p, e) (omega arith)
     go (no p) ih = rw (ih (omega arith), h n p) (omega arith)
 
-sum-le : (f g : ℕ → ℕ) (n : ℕ) → ((θ : ℕ) → f θ ≤ g θ + g θ) → sum f n ≤ sum g n + sum g n
+sum-double : (f g : ℕ → ℕ) (n : ℕ) → ((θ : ℕ) → f θ ≤ g θ + g θ) → sum f n ≤ sum g n + sum g n
 unfolding sum
-sum-le f g zero h = omega arith
-sum-le f g (suc n) h = omega (arith, h n, sum-le f g n h)
-
--- each name is of one thread at most
-ones-zero : (t n : ℕ) → n ≤ t → sum (λ θ. bit (same t θ)) n ≡ 0
-unfolding sum
-ones-zero t zero h = refl
-ones-zero t (suc n) h = rw (same-no t n (λ p. omega arith), ones-zero t n (omega arith))
-
-ones-le : (t n : ℕ) → sum (λ θ. bit (same t θ)) n ≤ 1
-unfolding sum
-ones-le t zero = omega arith
-ones-le t (suc n) = go (ℕ-discrete t n) (ones-le t n)
-  where
-    go : Dec (t ≡ n) → sum (λ θ. bit (same t θ)) n ≤ 1 → bit (same t n) + sum (λ θ. bit (same t θ)) n ≤ 1
-    go (yes p) ih = rw (ones-zero t n (omega arith), p, same-self n) (omega arith)
-    go (no p) ih = rw (same-no t n p) (omega arith)
-
-sum-add : (f g : ℕ → ℕ) (n : ℕ) → sum (λ θ. f θ + g θ) n ≡ sum f n + sum g n
-unfolding sum
-sum-add f g zero = refl
-sum-add f g (suc n) = rw (sum-add f g n) (omega arith)
-
-sum-zero : (n : ℕ) → sum (λ θ. 0) n ≡ 0
-unfolding sum
-sum-zero zero = refl
-sum-zero (suc n) = rw (sum-zero n)
-
--- the threads' names are no more than all
-shares : (t : ℕ → ℕ) (lo n k : ℕ) → sum (λ θ. count (λ x. same (t x) θ) lo n) k ≤ n
-unfolding count
-shares t lo zero k = rw (sum-zero k) (omega arith)
-shares t lo (suc n) k =
-    omega (arith, sum-add (λ θ. bit (same (t (lo + n)) θ)) (λ θ. count (λ x. same (t x) θ) lo n) k, ones-le (t (lo + n)) k, shares t lo n k)
+sum-double f g zero h = omega arith
+sum-double f g (suc n) h = omega (arith, h n, sum-double f g n h)
 
 module _ (S : Scheme) (U : Values) (A : Accepted S) (E : EnoughValues S U) where
   -- the releases of a Stop that is a called root
@@ -162,7 +126,7 @@ module _ (S : Scheme) (U : Values) (A : Accepted S) (E : EnoughValues S U) where
       one-less c (ending S U k j v) (S .thread k) (spot k j) (spot k (suc j)) (A .thread-inside k) (λ ϑ. refl)
       (f .stands (S .thread k) (spot k j) (spot k (suc j)) (rw (same-self (S .thread k)))) (rw h (omega arith))
   quiet-less c (is-silent g l h) f b = absurd (false≢true b)
-  quiet-less c (is-communication s a z l r x y m i j hs hr df ta tx tz re own) f b = absurd (false≢true b)
+  quiet-less c (is-communication s a z l r x y m i j hs hr df im tz re own) f b = absurd (false≢true b)
 
   quiet-run : {c d : Configuration} {ls : List Description} → Run S U c ls d → AllQuiet ls → leftInAll c ≡ length ls + leftInAll d
   quiet-run done b = omega arith
@@ -177,9 +141,9 @@ module _ (S : Scheme) (U : Values) (A : Accepted S) (E : EnoughValues S U) where
 
   -- what is left in all is at most twice the bound names
   pub left-bound : (c : Configuration) → WellFormed S U c → leftInAll c ≤ S .bounds + S .bounds
-  left-bound c W = omega (arith, left-names c W (S .threads) (omega arith), shares (S .nameThread) (S .publics) (S .bounds) (S .threads))
+  left-bound c W = omega (arith, left-names c W (S .threads) (omega arith), owned-most (S .nameThread) (S .publics) (S .bounds) (S .threads))
 
   -- at most 2 B bookkeeping firings in a row
   pub quiet-bound : {c d : Configuration} {ls : List Description} → WellFormed S U c → Run S U c ls d → AllQuiet ls → length ls ≤ S .bounds + S .bounds
   quiet-bound {c} {d} {ls} W r b =
-      omega (arith, quiet-run r b, left-names c W (S .threads) (omega arith), shares (S .nameThread) (S .publics) (S .bounds) (S .threads))
+      omega (arith, quiet-run r b, left-names c W (S .threads) (omega arith), owned-most (S .nameThread) (S .publics) (S .bounds) (S .threads))

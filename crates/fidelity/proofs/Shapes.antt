@@ -1,19 +1,19 @@
 -- The descriptions of an accepted table are well shaped: their threads pass between places of their own, and the names held at the places change as the
 -- commands say.
-use Prim.Native.Nat.{ℕ, zero, suc, _+_, _-_, _≤_, _<_}
-use mathlib.Core.Path.{_≡_, refl, sym, ap, _∙_, subst}
-use mathlib.Core.Logic.{_≢_, _⊎_, inl, inr}
-use mathlib.Core.Bool.{Bool, true, false, not, _&&_, _||_, true≢false, false≢true}
-use mathlib.Core.List.{List, [], _∷_, _++_}
+use Prim.Native.Nat.{ℕ, suc, _+_, _-_, _≤_, _<_}
+use mathlib.Core.Path.{_≡_, refl, sym, ap, _∙_}
+use mathlib.Core.Logic.{_≢_}
+use mathlib.Core.Bool.{Bool, true, false, not, _&&_, _||_, true≢false}
+use mathlib.Core.List.{List, [], _∷_}
 use native.Mathlib.Omega.{arith}
 use native.Mathlib.Nat.{zero-sub}
-use lib.Dec.{ltb, leb}
+use lib.Dec.{ltb}
 use lib.ListN.{length, take, drop, getD, drop-of-length-le}
 use lib.Seq.{take-suc, take-all}
 use borrow.Author.Tests.{lt-ltb, le-leb, ltb-true, ltb-false}
 use Rattle.lists.specs.Lists as Lists
 use Rattle.lists.specs.Lists.{pick, same, member}
-use Rattle.lists.proofs.Tests.{and-left, and-right, or-false, or-assoc, same-self, same-true, same-no, same-false}
+use Rattle.lists.proofs.Tests.{or-false, or-assoc, same-self, same-true, same-no, same-false}
 use Rattle.lists.proofs.Members.{member-append, member-getD, member-rest, distinct-earlier}
 use Rattle.scheme.specs.Scheme.{Scheme, Node, stop, choice, new, call, silent, send, receive}
 use Rattle.table.specs.Accepted.{NameOf, Accepted}
@@ -29,6 +29,7 @@ use Rattle.fidelity.specs.Inner.Shapes.{Described, is-new, is-call, is-c
 use Rattle.fidelity.proofs.Basics.{member-snoc, pass-from, pass-to, stay-pass, asks-none, asks-nothing, asks-one, asks-three}
 use Rattle.fidelity.proofs.Tables.{silent-inside, silent-held, silent-thread, send-inside, send-held, send-thread, receive-inside, receive-held}
 use Rattle.fidelity.proofs.Tables.{receive-thread}
+use Rattle.fidelity.proofs.Listed.{common-takes}
 use Rattle.fidelity.proofs.Tables.{root-inside, root-held, formal-name}
 
 module _ (S : Scheme) (U : Values) (A : Accepted S) where
@@ -399,4 +400,5 @@ module _ (S : Scheme) (U : Values) (A : Accepted S) where
   shaped (is-release n d j v h l re p) = release-shaped n d h j v l re p
   shaped (is-ending n j v km h l re p) = ending-shaped n j v km h l re p
   shaped (is-silent b l h) = silent-shaped b l h
-  shaped (is-communication s a z l r x y m i j hs hr df ta tx tz re own) = communication-shaped s a z l r x y m hs hr df i j ta tx tz re
+  shaped (is-communication s a z l r x y m i j hs hr df im tz re own) =
+      let (ta, tx) = common-takes S U A s a z l r x y m i hs hr im in communication-shaped s a z l r x y m hs hr df i j ta tx tz re

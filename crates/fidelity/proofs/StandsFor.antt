@@ -1,38 +1,36 @@
 -- The marking of a well-formed configuration stands for a state, by the test of readback.
-use Prim.Native.Nat.{ℕ, zero, suc, _+_, _-_, _≤_, _<_}
-use mathlib.Core.Path.{_≡_, refl, sym, ap, _∙_, subst}
-use mathlib.Core.Logic.{_≢_, _⊎_, inl, inr}
-use mathlib.Core.Bool.{Bool, true, false, not, _&&_, _||_, true≢false, false≢true}
+use Prim.Native.Nat.{ℕ, _+_, _≤_, _<_}
+use mathlib.Core.Path.{_≡_, refl, sym, ap, _∙_}
+use mathlib.Core.Logic.{_≢_}
+use mathlib.Core.Bool.{Bool, true, false, not, _&&_, _||_, true≢false}
 use mathlib.Core.Option.{Option, none, some}
 use mathlib.Core.List.{List, [], _∷_}
 use native.Mathlib.Decide.{decLe}
 use native.Mathlib.Omega.{arith}
 use borrow.Author.Tests.{lt-ltb, le-ltb}
+use lib.Dec.{ltb}
 use lib.ListN.{length}
-use Rattle.lists.specs.Lists.{pick, bit, same, from, range, every, keep, flat, member}
-use Rattle.lists.proofs.Tests.{and-intro, and-left, and-right, not-true-false, same-self, same-yes, or-true}
-use Rattle.lists.proofs.Ranges.{every-all, below-every, member-from}
-use Rattle.lists.proofs.Members.{distinct-from}
+use Rattle.lists.specs.Lists.{pick, bit, same, from, every, flat, member}
+use Rattle.lists.proofs.Tests.{and-intro, and-left, and-right, not-true-false, same-self}
+use Rattle.lists.proofs.Ranges.{every-all, below-every, member-from, from-member}
+use Rattle.lists.proofs.Members.{distinct-from, member-here, member-there, member-keep}
 use Rattle.lists.proofs.Counts.{flat-keep-length}
 use Rattle.scheme.specs.Scheme.{Scheme}
 use Rattle.table.specs.Accepted.{Accepted}
-use Rattle.places.specs.Values.{Values, allValues, privateValues}
-use Rattle.places.specs.Places.{Place, equals, differs, free, places}
-use Rattle.readback.specs.Configurations.{Spot, Configuration, heldHere}
-use Rattle.readback.specs.Reading.{has, spots, values, configuration, firstValue, oneSpot, oneValue, opposite, freeRight, standsForState}
-use Rattle.fidelity.specs.Inner.Marks.{holds, given, isHeld, mark, used, WellFormed, exists-equals, exists-differs, exists-free}
+use Rattle.places.specs.Values.{Values, privateValues, privateValuesOf}
+use Rattle.places.specs.Places.{Place, equals, differs, free}
+use Rattle.readback.specs.Configurations.{Configuration}
+use Rattle.readback.specs.Reading.{has, configuration, firstValue, oneSpot, oneValue, opposite, freeRight, standsForState}
+use Rattle.fidelity.specs.Inner.Marks.{holds, given, used, allows, WellFormed, exists-equals, exists-differs, exists-free}
+use Rattle.fidelity.specs.Inner.Shapes.{EnoughValues}
 use Rattle.fidelity.proofs.Basics.{holds-eq, holds-some}
 use Rattle.fidelity.proofs.Elements.{member-element}
 use Rattle.fidelity.proofs.Firing.{used-of, used-true}
-use Rattle.fidelity.proofs.Enough.{free-allows, private-allows}
 use Rattle.fidelity.proofs.Sifted.{flat-none, flat-only}
 use Rattle.fidelity.proofs.Readings.{markedBy, valueList, values-read, spots-read}
 use Rattle.fidelity.proofs.Having.{has-mark}
 
-module _ (S : Scheme) (A : Accepted S) (c : Configuration) (W : WellFormed S (allValues S) c) where
-  abbrev U : Values
-  U = allValues S
-
+module _ (S : Scheme) (U : Values) (A : Accepted S) (E : EnoughValues S U) (c : Configuration) (W : WellFormed S U c) where
   abbrev ms : List Place
   ms = markedBy S U A c
 
@@ -55,18 +53,18 @@ module _ (S : Scheme) (A : Accepted S) (c : Configuration) (W : WellFormed S (al
   pair-test true = refl
   pair-test false = refl
 
-  opposites : (x v : ℕ) → S .publics ≤ x → x < S .publics + S .bounds → S .restricted x ≡ false → S .publics ≤ v → v < S .publics + S .bounds
+  opposites : (x v : ℕ) → S .publics ≤ x → x < S .publics + S .bounds → S .restricted x ≡ false → S .publics ≤ v → allows S U x v ≡ true
       → opposite S U ms x v ≡ true
-  opposites x v lo hi r pv vv =
+  opposites x v lo hi r pv al =
       rw (
-        has-mark S U A c (differs x v) (exists-differs lo hi r pv (free-allows S A x v r vv)),
-        has-mark S U A c (equals x v) (exists-equals lo hi (free-allows S A x v r vv)),
+        has-mark S U A c (differs x v) (exists-differs lo hi r pv al),
+        has-mark S U A c (equals x v) (exists-equals lo hi al),
       )
       (pair-test (holds (c .value x) v))
 
   -- ---- free values
 
-  module _ (v : ℕ) (pv : S .publics ≤ v) (vv : v < S .publics + S .bounds) where
+  module _ (v : ℕ) (pv : S .publics ≤ v) (vv : v < S .publics + U .privates) where
     abbrev takers : ℕ → Bool
     takers x = S .restricted x && has ms (equals x v)
 
@@ -74,13 +72,13 @@ module _ (S : Scheme) (A : Accepted S) (c : Configuration) (W : WellFormed S (al
     taker-holds x h =
         let r : S .restricted x ≡ true = and-left (S .restricted x) (has ms (equals x v)) h in
         let (lo, hi) = A .restricted-bound x r in
-        let e : has ms (equals x v) ≡ holds (c .value x) v = has-mark S U A c (equals x v) (exists-equals lo hi (private-allows S A x v pv vv)) in
+        let e : has ms (equals x v) ≡ holds (c .value x) v = has-mark S U A c (equals x v) (exists-equals lo hi (E .makes x v r pv vv)) in
         (r, holds-eq (c .value x) v (sym e ∙ and-right (S .restricted x) (has ms (equals x v)) h))
 
     holds-taker : (x : ℕ) → S .restricted x ≡ true → c .value x ≡ some v → takers x ≡ true
     holds-taker x r q =
         let (lo, hi) = A .restricted-bound x r in
-        rw (r, has-mark S U A c (equals x v) (exists-equals lo hi (private-allows S A x v pv vv))) (holds-some (c .value x) v q)
+        rw (r, has-mark S U A c (equals x v) (exists-equals lo hi (E .makes x v r pv vv))) (holds-some (c .value x) v q)
 
     abbrev each : ℕ → List ℕ
     each x = pick (takers x) (x ∷ []) []
@@ -107,7 +105,6 @@ module _ (S : Scheme) (A : Accepted S) (c : Configuration) (W : WellFormed S (al
             true≢false (sym (used-of S U (c .value) v x (S .publics + S .bounds) (A .restricted-bound x rx .1) rx qx) ∙ u))
 
     free-right : freeRight S U ms v ≡ true
-    unfolding allValues
     free-right =
         rw (
           has-mark S U A c (free v) (exists-free pv vv),
@@ -118,23 +115,35 @@ module _ (S : Scheme) (A : Accepted S) (c : Configuration) (W : WellFormed S (al
 
   -- ---- the whole test
 
-  all-opposite : (x : ℕ) → S .publics ≤ x → x < S .publics + S .bounds → (S .restricted x || every (opposite S U ms x) (privateValues S U)) ≡ true
-  unfolding allValues
+  every-of : (p : ℕ → Bool) (xs : List ℕ) → ((v : ℕ) → member v xs ≡ true → p v ≡ true) → every p xs ≡ true
+  unfolding every
+  every-of p [] h = refl
+  every-of p (x ∷ xs) h = rw (h x (member-here x xs)) (every-of p xs (λ v m. h v (member-there v x xs m)))
+
+  kept-allows : (x v : ℕ) → member v (privateValuesOf S U x) ≡ true → (S .publics ≤ v) × (allows S U x v ≡ true)
+  unfolding privateValuesOf allows
+  kept-allows x v m =
+      let q : (U .reach x v && member v (privateValues S U)) ≡ true = sym (member-keep (U .reach x) v (privateValues S U)) ∙ m in
+      let (lo, hi) = from-member v (S .publics) (U .privates) (and-right (U .reach x v) (member v (privateValues S U)) q) in
+      let r : U .reach x v ≡ true = and-left (U .reach x v) (member v (privateValues S U)) q in
+      (lo, and-intro (ltb v (S .publics + U .privates)) (U .reach x v) (lt-ltb v (S .publics + U .privates) hi) r)
+
+  all-opposite : (x : ℕ) → S .publics ≤ x → x < S .publics + S .bounds → (S .restricted x || every (opposite S U ms x) (privateValuesOf S U x)) ≡ true
   all-opposite x lo hi = go (S .restricted x) refl
     where
-      go : (b : Bool) → S .restricted x ≡ b → (b || every (opposite S U ms x) (privateValues S U)) ≡ true
+      go : (b : Bool) → S .restricted x ≡ b → (b || every (opposite S U ms x) (privateValuesOf S U x)) ≡ true
       go true r = refl
-      go false r = every-all (opposite S U ms x) (S .publics) (S .bounds) (λ v pv vv. opposites x v lo hi r pv vv)
+      go false r = every-of (opposite S U ms x) (privateValuesOf S U x) (λ v m. let (pv, al) = kept-allows x v m in opposites x v lo hi r pv al)
 
   pub stands-for : standsForState S U ms ≡ true
-  unfolding standsForState allValues
+  unfolding standsForState
   stands-for =
       rw (
         below-every (oneSpot S U ms) (S .threads) one-spot,
         every-all (oneValue S U ms) (S .publics) (S .bounds) one-value,
-        every-all (λ x. S .restricted x || every (opposite S U ms x) (privateValues S U)) (S .publics) (S .bounds) all-opposite,
+        every-all (λ x. S .restricted x || every (opposite S U ms x) (privateValuesOf S U x)) (S .publics) (S .bounds) all-opposite,
       )
-      (every-all (freeRight S U ms) (S .publics) (S .bounds) free-right)
+      (every-all (freeRight S U ms) (S .publics) (U .privates) free-right)
 
   -- ---- the configuration read
 

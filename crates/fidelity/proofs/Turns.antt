@@ -1,9 +1,9 @@
 -- Numbers fired in turn on a built net follow the plain process: each is bookkeeping or an open step, and no more than 2B bookkeeping firings are in a row.
-use Prim.Native.Nat.{ℕ, zero, suc, _+_, _-_, _*_, _≤_, _<_}
-use mathlib.Core.Path.{_≡_, refl, sym, ap, _∙_, subst}
-use mathlib.Core.Logic.{_≢_, _⊎_, inl, inr}
-use mathlib.Core.Bool.{Bool, true, false, not, _&&_, _||_, true≢false, false≢true}
-use mathlib.Core.List.{List, [], _∷_, _++_}
+use Prim.Native.Nat.{ℕ, suc, _+_, _*_, _≤_, _<_}
+use mathlib.Core.Path.{_≡_, refl, sym, ap, _∙_}
+use mathlib.Core.Logic.{_⊎_, inl, inr}
+use mathlib.Core.Bool.{Bool, true, false, _||_}
+use mathlib.Core.List.{List, [], _∷_}
 use native.Mathlib.Omega.{arith}
 use lib.Dec.{leb}
 use lib.ListN.{length}
@@ -16,10 +16,11 @@ use Rattle.process.specs.States.{State}
 use Rattle.process.specs.Steps.{isOpen}
 use Rattle.process.specs.Labels.{isBookkeeping}
 use Rattle.net.specs.Image.{Label, labelAt}
-use Rattle.net.specs.Firing.{Outcome, outcome, Step, made, refused, step, inTurn}
+use Rattle.net.specs.Firing.{Outcome, made, refused, step, inTurn}
 use Rattle.net.specs.Firing as Firing
 use Rattle.net.proofs.Steps.{turn-made, turn-refused}
-use Rattle.places.specs.Values.{Values, allValues}
+use Rattle.places.specs.Values.{Values}
+use Rattle.places.specs.Held.{valuesFor}
 use Rattle.places.specs.Image.{netOf, imageOf}
 use Rattle.places.specs.Transitions.{descriptions}
 use Rattle.readback.specs.Configurations.{Configuration}
@@ -31,7 +32,6 @@ use Rattle.fidelity.specs.Inner.Standing.{advanced, Shows, markingOf}
 use Rattle.fidelity.specs.Inner.Runs.{quiet}
 use Rattle.fidelity.proofs.Enough.{enough-values}
 use Rattle.fidelity.proofs.Rows.{leftInAll, quiet-less, left-bound}
-use Rattle.fidelity.proofs.Firing.{well-formed-after}
 use Rattle.fidelity.proofs.Built as Built
 use Rattle.fidelity.proofs.Built.{descriptionAt, described-at, label-is, Does, fires, past, idle, does, fired-shows, fired-lawful}
 
@@ -43,7 +43,7 @@ module _ (w : List ℕ) (A : Accepted (scheme w)) where
   S = scheme w
 
   abbrev pub U : Values
-  U = allValues S
+  U = valuesFor S
 
   abbrev pub E : EnoughValues S U
   E = enough-values S A

@@ -1,14 +1,13 @@
 -- At a marking that stands for a state, every open step can be fired by number, after at most B bookkeeping numbers.
-use Prim.Native.Nat.{ℕ, zero, suc, _+_, _-_, _≤_, _<_}
-use mathlib.Core.Path.{_≡_, refl, sym, ap, _∙_, subst}
-use mathlib.Core.Logic.{_≢_, _⊎_, inl, inr}
-use mathlib.Core.Bool.{Bool, true, false, not, _&&_, _||_}
+use Prim.Native.Nat.{ℕ, suc, _≤_, _<_}
+use mathlib.Core.Path.{_≡_, refl, ap, _∙_, subst}
+use mathlib.Core.Bool.{true}
 use mathlib.Core.List.{List, [], _∷_, _++_}
 use native.Mathlib.Omega.{arith}
 use lib.ListN.{length, getD}
 use Rattle.lists.specs.Lists.{every}
 use Rattle.lists.proofs.Tests.{and-intro}
-use Rattle.scheme.specs.Scheme.{Scheme, scheme}
+use Rattle.scheme.specs.Scheme.{scheme}
 use Rattle.scheme.specs.Words.{bounds}
 use Rattle.table.specs.Accepted.{Accepted}
 use Rattle.process.specs.States.{State}
@@ -23,8 +22,8 @@ use Rattle.readback.specs.Configurations.{Configuration}
 use Rattle.fidelity.specs.Calls.{labelWords, isQuiet, stepAt}
 use Rattle.fidelity.specs.Inner.Marks.{after, Fits, WellFormed}
 use Rattle.fidelity.specs.Inner.Shapes.{Described}
-use Rattle.fidelity.specs.Inner.Standing.{Shows, markingOf, Stands}
-use Rattle.fidelity.specs.Inner.Runs.{quiet, AllQuiet, stepNamed, Run, done, more}
+use Rattle.fidelity.specs.Inner.Standing.{Shows, markingOf}
+use Rattle.fidelity.specs.Inner.Runs.{quiet, AllQuiet, Run, done, more}
 use Rattle.fidelity.proofs.Elements.{element-position}
 use Rattle.fidelity.proofs.Firing.{well-formed-after}
 use Rattle.fidelity.proofs.Shapes.{shaped}
@@ -41,7 +40,7 @@ module _ (w : List ℕ) (A : Accepted (scheme w)) where
     pub label : labelAt (image w) number ≡ t .label
     pub steps : step (image w) (markingOf (S w A) (U w A) c) number ≡ made (markingOf (S w A) (U w A) (after (S w A) t c))
 
-  number-of : {t : Description} (c : Configuration) → WellFormed (S w A) (U w A) c → Described (S w A) (U w A) t → Fits (S w A) t c → Number t c
+  pub number-of : {t : Description} (c : Configuration) → WellFormed (S w A) (U w A) c → Described (S w A) (U w A) t → Fits (S w A) t c → Number t c
   unfolding imageOf netOf
   number-of {t} c W D f = go (element-position nothing (descriptions (S w A) (U w A)) (described-listed (S w A) (U w A) A (E w A) D))
     where

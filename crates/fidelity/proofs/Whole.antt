@@ -1,6 +1,6 @@
 -- Demand 3 from its clauses. Two facts come from elsewhere: states alike but for the names of private values have the same words, and the image is small.
 use Prim.Native.Nat.{ℕ, _+_, _^_, _≤_, _<_}
-use mathlib.Core.Path.{_≡_, refl, sym, ap, _∙_, subst}
+use mathlib.Core.Path.{_≡_, ap, _∙_, subst}
 use mathlib.Core.Logic.{inl}
 use mathlib.Core.Bool.{true}
 use mathlib.Core.Option.{some}
@@ -13,14 +13,13 @@ use Rattle.table.specs.Accepted.{Accepted}
 use Rattle.process.specs.States.{State, Renamed}
 use Rattle.process.specs.StateWords.{stateWords}
 use Rattle.net.specs.Firing.{isMarking}
-use Rattle.places.specs.Values.{allValues}
 use Rattle.places.specs.Places.{places}
 use Rattle.places.specs.Image.{netWith}
 use Rattle.readback.specs.Configurations.{Configuration, stateShown}
 use Rattle.readback.specs.Reading.{readBack, words}
 use Rattle.fidelity.specs.Calls.{Call, world}
 use Rattle.fidelity.specs.Demand.{Demand3}
-use Rattle.fidelity.specs.Inner.Standing.{Shows, markingOf, Stands}
+use Rattle.fidelity.specs.Inner.Standing.{Shows, Stands}
 use Rattle.fidelity.proofs.Tables.{no-thread}
 use Rattle.fidelity.proofs.Turns.{image, S, U}
 use Rattle.fidelity.proofs.Histories.{played-marking, world-played}

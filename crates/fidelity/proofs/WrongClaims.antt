@@ -17,7 +17,8 @@ use Rattle.process.specs.StateWords.{stateWords}
 use Rattle.net.specs.Image.{transitionCount}
 use Rattle.net.specs.Net.{encode}
 use Rattle.net.specs.Firing.{initialMarking}
-use Rattle.places.specs.Values.{Values, allValues}
+use Rattle.places.specs.Values.{Values}
+use Rattle.places.specs.Held.{valuesFor}
 use Rattle.places.specs.Transitions.{Description, releases, copies, calling, ofNode, ofPair}
 use Rattle.places.specs.Image.{transitionOf, netOf, imageOf}
 use Rattle.readback.specs.Reading.{readBack, words}
@@ -89,7 +90,7 @@ module _ (S : Scheme) (U : Values) where
 unfoldable pub imageReleasing : List ℕ → List ℕ
 imageReleasing w =
     let S = scheme w in
-    let U = allValues S in
+    let U = valuesFor S in
     encode (record { places = netOf S .places; initial = netOf S .initial; transitions = map (transitionOf S U) (descriptionsReleasing S U) })
 
 -- ν r. D(r), D(f) = τ.0

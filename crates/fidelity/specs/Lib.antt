@@ -1,4 +1,5 @@
 pub mod Calls
 pub mod Demand
+pub mod Fresh
 pub mod SelfCalls
 pub mod Inner

@@ -12,11 +12,11 @@ use Rattle.lists.proofs.Ranges.{from-more, from-done, from-whole, member-from}
 use Rattle.lists.proofs.Members.{member-getD, member-map}
 use Rattle.lists.proofs.Tests.{same-yes, same-no}
 use Rattle.lists.proofs.Slices.{slice-step, slice-none}
-use Rattle.scheme.specs.Words.{publics, bounds, branches, branchKind, isStop, isChoice, isNew, isSilent, isSend, isReceive, nodeFirst, nodeSecond}
+use Rattle.scheme.specs.Words.{publics, branches, branchKind, isStop, isChoice, isNew, isSilent, isSend, isReceive, nodeFirst, nodeSecond}
 use Rattle.scheme.specs.Words.{channel, branchName, argumentsOf}
 use Rattle.scheme.specs.Owners.{held, branchThread}
 use Rattle.scheme.specs.Scheme.{scheme}
-use Rattle.places.specs.Inner.Plan.{freeNames}
+use Rattle.places.specs.Inner.Plan.{privatesOf, freeNames}
 use Rattle.places.specs.Inner.Counting.{Sums, Few, addTimes, over, releaseSums, copySums, silentSums, nodeSums}
 use Rattle.places.specs.Inner.Counting.{pairSums, partnerSums, sendSums}
 
@@ -143,16 +143,16 @@ module _ (w : List ℕ) where
   pub release-grows : (s : Sums) (z : ℕ) → Grows s (releaseSums w s z)
   unfolding releaseSums
   release-grows s z =
-      grows-pick (scheme w .restricted z) s (addTimes s (bounds w) 2 2) (addTimes (addTimes s (publics w) 2 1) (bounds w) 2 2)
-      (grows-times s (bounds w) 2 2) (grows-twice s (publics w) 2 1 (bounds w) 2 2)
+      grows-pick (scheme w .restricted z) s (addTimes s (privatesOf w) 2 2) (addTimes (addTimes s (publics w) 2 1) (privatesOf w) 2 2)
+      (grows-times s (privatesOf w) 2 2) (grows-twice s (publics w) 2 1 (privatesOf w) 2 2)
 
   pub copy-grows : (s : Sums) (a : ℕ) → Grows s (copySums w s a)
   unfolding copySums
   copy-grows s a =
       grows-pick (ltb a (publics w)) s (addTimes s 1 1 2)
-      (pick (scheme w .restricted a) (addTimes s (bounds w) 3 3) (addTimes (addTimes s (publics w) 2 3) (bounds w) 3 3)) (grows-times s 1 1 2)
-      (grows-pick (scheme w .restricted a) s (addTimes s (bounds w) 3 3) (addTimes (addTimes s (publics w) 2 3) (bounds w) 3 3)
-      (grows-times s (bounds w) 3 3) (grows-twice s (publics w) 2 3 (bounds w) 3 3))
+      (pick (scheme w .restricted a) (addTimes s (privatesOf w) 3 3) (addTimes (addTimes s (publics w) 2 3) (privatesOf w) 3 3)) (grows-times s 1 1 2)
+      (grows-pick (scheme w .restricted a) s (addTimes s (privatesOf w) 3 3) (addTimes (addTimes s (publics w) 2 3) (privatesOf w) 3 3)
+      (grows-times s (privatesOf w) 3 3) (grows-twice s (publics w) 2 3 (privatesOf w) 3 3))
 
   pub silent-grows : (s : Sums) (b : ℕ) → Grows s (silentSums w s b)
   unfolding silentSums
@@ -163,7 +163,7 @@ module _ (w : List ℕ) where
   node-grows s n =
       grows-pick (isStop w n) s _ _ (over-grows (releaseSums w) release-grows s (held w n))
       (grows-pick (isChoice w n) s _ _ (over-grows (silentSums w) silent-grows s (from (nodeFirst w n) (nodeSecond w n)))
-      (grows-pick (isNew w n) s _ _ (grows-times s (bounds w) (freeNames w + 2) (freeNames w + 2))
+      (grows-pick (isNew w n) s _ _ (grows-times s (privatesOf w) (freeNames w + 2) (freeNames w + 2))
       (grows-on s called _
       (grows-on s (addTimes s 1 1 1) called (grows-times s 1 1 1) (over-grows (copySums w) copy-grows (addTimes s 1 1 1) (argumentsOf w n)))
       (over-grows (releaseSums w) release-grows called (held w n)))))

@@ -15,7 +15,8 @@ use Rattle.lists.proofs.Members.{keep-same}
 use Rattle.lists.proofs.Standing.{keep-in, number-in}
 use Rattle.scheme.specs.Scheme.{Scheme}
 use Rattle.table.specs.Accepted.{Accepted}
-use Rattle.places.specs.Values.{Values, allValues, valuesOf}
+use Rattle.places.specs.Values.{Values, valuesOf}
+use Rattle.places.specs.Held.{valuesFor}
 use Rattle.places.specs.Places.{Place, equals, differs, free, control, controls, places}
 use Rattle.places.specs.Rows.{numberOf, IsBound, Exists, has-equals, has-differs, has-free, has-control}
 use Rattle.places.specs.Transitions.{Description, isInput, isOutput, on, releasing, copying, making}
@@ -78,7 +79,7 @@ module _ (S : Scheme) (U : Values) where
 
 module _ (S : Scheme) (ok : Accepted S) where
   abbrev U : Values
-  U = allValues S
+  U = valuesFor S
 
   abbrev inputs : Description → List ℕ
   inputs d = positions (isInput S d) (places S U)
@@ -86,21 +87,17 @@ module _ (S : Scheme) (ok : Accepted S) where
   abbrev outputs : Description → List ℕ
   outputs d = positions (isOutput S d) (places S U)
 
-  pub privates-are : U .privates ≡ S .bounds
-  unfolding allValues
-  privates-are = refl
-
-  pub value-below : (x v : ℕ) → IsBound S U x → member v (valuesOf S U x) ≡ true → v < S .publics + S .bounds
+  pub value-below : (x v : ℕ) → IsBound S U x → member v (valuesOf S U x) ≡ true → v < S .publics + U .privates
   value-below x v b m = go (value-exists S U x v b m)
     where
-      go : Exists S U (equals x v) → v < S .publics + S .bounds
-      go (has-equals c u r) = omega (arith, privates-are)
+      go : Exists S U (equals x v) → v < S .publics + U .privates
+      go (has-equals c u r) = omega arith
 
-  free-has : (v : ℕ) → S .publics ≤ v → v < S .publics + S .bounds → Exists S U (free v)
-  free-has v l u = has-free (l, omega (arith, privates-are))
+  free-has : (v : ℕ) → S .publics ≤ v → v < S .publics + U .privates → Exists S U (free v)
+  free-has v l u = has-free (l, omega arith)
 
-  differs-has : (x v : ℕ) → IsBound S U x → S .restricted x ≡ false → S .publics ≤ v → v < S .publics + S .bounds → Exists S U (differs x v)
-  differs-has x v b r l u = has-differs b r (l, omega (arith, privates-are)) (private-reached S x v l)
+  differs-has : (x v : ℕ) → IsBound S U x → S .restricted x ≡ false → S .publics ≤ v → v < S .publics + U .privates → Exists S U (differs x v)
+  differs-has x v b r l u = has-differs b r (l, omega arith) (private-reached S x v l)
 
   -- [x=v] is there where x is bound, [x≠v] where v is private
   pub equals-bit : (x v : ℕ) → x < S .publics + S .bounds → member v (valuesOf S U x) ≡ true → exists S U (equals x v) ≡ leb (S .publics) x
@@ -110,7 +107,7 @@ module _ (S : Scheme) (ok : Accepted S) where
       go (yes l) = has-exists S U (equals x v) (value-exists S U x v (l, u) m) ∙ sym (le-leb (S .publics) x l)
       go (no l) = let h : x < S .publics = omega arith in equals-public S U x v h ∙ sym (lt-leb (S .publics) x h)
 
-  pub differs-bit : (x v : ℕ) → IsBound S U x → S .restricted x ≡ false → v < S .publics + S .bounds → exists S U (differs x v) ≡ leb (S .publics) v
+  pub differs-bit : (x v : ℕ) → IsBound S U x → S .restricted x ≡ false → v < S .publics + U .privates → exists S U (differs x v) ≡ leb (S .publics) v
   differs-bit x v b r u = go (decLe (S .publics) v)
     where
       go : Dec (S .publics ≤ v) → exists S U (differs x v) ≡ leb (S .publics) v
@@ -144,7 +141,7 @@ module _ (S : Scheme) (ok : Accepted S) where
   -- ---- copies: f from a
 
   module _ (n m k f a v : ℕ) (l : n < S .nodes) (u : m < S .nodes) (h : k < controls S n) (b : IsBound S U f) (r : S .restricted f ≡ false)
-      (c : a < S .publics + S .bounds) (d : a ≡ f → ⊥) (i : member v (valuesOf S U a) ≡ true) (w : v < S .publics + S .bounds) where
+      (c : a < S .publics + S .bounds) (d : a ≡ f → ⊥) (i : member v (valuesOf S U a) ≡ true) (w : v < S .publics + U .privates) where
     pub copy-inputs : length (inputs (copying S U n m k f a v)) ≡ 1 + (bit (leb (S .publics) a) + bit (leb (S .publics) v))
     copy-inputs =
         ap (λ (xs : List ℕ). length xs) (copying-inputs S U n m k f a v r (has-control l h))
@@ -161,13 +158,13 @@ module _ (S : Scheme) (ok : Accepted S) where
         apart e (List·Memᴰ·head q) = let z : _≡_ {A = ℕ} 0 1 = cc in omega arith
 
     reached-value : U .reach f v ≡ true
-    unfolding allValues
+    unfolding valuesFor
     reached-value = rw r
 
     pub copy-outputs : length (outputs (copying S U n m k f a v)) ≡ 2 + bit (leb (S .publics) a)
     copy-outputs =
         let next = next-place S U n k m l u in
-        let e : exists S U (equals f v) ≡ true = has-exists S U (equals f v) (has-equals b (omega (arith, privates-are)) reached-value) in
+        let e : exists S U (equals f v) ≡ true = has-exists S U (equals f v) (has-equals b (omega arith) reached-value) in
         ap (λ (xs : List ℕ). length xs) (copying-outputs S U n k m (next .place) (next .goes) (next .has) f a v r)
         ∙ length-append (numbersOf S U (equals a v ∷ equals f v ∷ [])) (numberOf S U (next .place) ∷ [])
         ∙ rw (
@@ -183,7 +180,7 @@ module _ (S : Scheme) (ok : Accepted S) where
 
   -- ---- New
 
-  differ-count : (v : ℕ) → S .publics ≤ v → v < S .publics + S .bounds → length (differNumbers S U v (S .publics) (S .bounds)) ≡ otherNames S
+  differ-count : (v : ℕ) → S .publics ≤ v → v < S .publics + U .privates → length (differNumbers S U v (S .publics) (S .bounds)) ≡ otherNames S
   unfolding differNumbers
   differ-count v l u =
       length-map (keep (λ x. exists S U (differs x v)) (from (S .publics) (S .bounds))) (λ x. numberOf S U (differs x v))
@@ -197,14 +194,14 @@ module _ (S : Scheme) (ok : Accepted S) where
           go false r = has-exists S U (differs x v) (differs-has x v (from-member x (S .publics) (S .bounds) m) r l u)
 
   module _ (n r k v : ℕ) (l : n < S .nodes) (u : k < S .nodes) (h : S .restricted r ≡ true) (b : IsBound S U r) (p : S .publics ≤ v)
-      (q : v < S .publics + S .bounds) where
+      (q : v < S .publics + U .privates) where
     first-has : (n : ℕ) → n < S .nodes → Exists S U (control n 0)
     first-has n l = has-control {n = n} {k = 0} l (omega (arith, some-control S U n))
 
     pub new-inputs : length (inputs (making S U n r k v)) ≡ otherNames S + 2
     new-inputs =
         let D = differNumbers S U v (S .publics) (S .bounds) in
-        ap (λ (xs : List ℕ). length xs) (making-inputs S U n r k v h (p, omega (arith, privates-are)) (first-has n l))
+        ap (λ (xs : List ℕ). length xs) (making-inputs S U n r k v h (p, omega arith) (first-has n l))
         ∙ omega (
           arith,
           length-append (D ++ (numberOf S U (free v) ∷ [])) (numberOf S U (control n 0) ∷ []),
@@ -217,7 +214,7 @@ module _ (S : Scheme) (ok : Accepted S) where
         let low = differNumbers S U v (S .publics) (r - S .publics) in
         let high = differNumbers S U v (r + 1) (S .publics + S .bounds - (r + 1)) in
         ap (λ (xs : List ℕ). length xs)
-        (making-outputs S U n r k v h b (has-equals b (omega (arith, privates-are)) (private-reached S r v p)) (first-has k u))
+        (making-outputs S U n r k v h b (has-equals b (omega arith) (private-reached S r v p)) (first-has k u))
         ∙ omega (
           arith,
           length-append (low ++ (numberOf S U (equals r v) ∷ high)) (numberOf S U (control k 0) ∷ []),

@@ -12,7 +12,8 @@ use Rattle.net.specs.Image.{placeCount, transitionCount, headerRight, recordRig
 use Rattle.net.specs.Firing.{put, initialMarking, step, stepOf}
 use Rattle.net.specs.Net.{Transition, blank, transitionAt, ascending, isAscending, encode}
 use Rattle.net.proofs.Encode
-use Rattle.places.specs.Values.{Values, allValues}
+use Rattle.places.specs.Values.{Values}
+use Rattle.places.specs.Held.{valuesFor}
 use Rattle.places.specs.Places.{places, isInitial}
 use Rattle.places.specs.Transitions.{Description, isInput, isOutput, descriptions}
 use Rattle.places.specs.Image.{transitionOf, netWith, netOf, imageOf}
@@ -97,7 +98,7 @@ module _ (w : List ℕ) where
   S = scheme w
 
   abbrev U : Values
-  U = allValues (scheme w)
+  U = valuesFor (scheme w)
 
   pub image-is : imageOf w ≡ encode (netWith S U)
   unfolding imageOf netOf
@@ -115,7 +116,7 @@ module _ (w : List ℕ) where
   pub image-initial : initialMarking (imageOf w) ≡ put 1 (replicate (length (places S U)) 0) (positions (isInitial S U) (places S U))
   image-initial = rw image-is (initial-is S U)
 
-  module _ (d : Description) (k : ℕ) (h : k < length (descriptions (scheme w) (allValues (scheme w)))) where
+  module _ (d : Description) (k : ℕ) (h : k < length (descriptions (scheme w) (valuesFor (scheme w)))) where
     pub image-record : recordRight (imageOf w) k ≡ true
     image-record = rw image-is (record-right S U d k h)
 

@@ -12,7 +12,8 @@ use Rattle.lists.specs.Lists.{bit, member, positions}
 use Rattle.lists.proofs.Tests.{false-true}
 use Rattle.scheme.specs.Scheme.{Scheme, send, receive, present}
 use Rattle.table.specs.Accepted.{Accepted, NameOf, Usable}
-use Rattle.places.specs.Values.{Values, allValues, valuesOf}
+use Rattle.places.specs.Values.{Values, valuesOf}
+use Rattle.places.specs.Held.{valuesFor}
 use Rattle.places.specs.Places.{Place, equals, differs, control, places}
 use Rattle.places.specs.Rows.{has-equals, has-control}
 use Rattle.places.specs.Transitions.{Description, isInput, isOutput, communicating}
@@ -25,7 +26,7 @@ use Rattle.places.proofs.ArcCounts.{numbers-step, equals-bit, differs-b
 
 module _ (S : Scheme) (ok : Accepted S) where
   abbrev U : Values
-  U = allValues S
+  U = valuesFor S
 
   abbrev inputs : Description → List ℕ
   inputs d = positions (isInput S d) (places S U)
@@ -108,7 +109,7 @@ module _ (S : Scheme) (ok : Accepted S) where
         two-controls l m ls lr (λ q. differ (sym ts ∙ q ∙ tr))
 
     module _ (i j : ℕ) (ia : member i (valuesOf S U a) ≡ true) (ie : member i (valuesOf S U e) ≡ true) (jz : member j (valuesOf S U z) ≡ true)
-        (low : j < S .publics + S .bounds) where
+        (low : j < S .publics + U .privates) where
       abbrev bound : ℕ → ℕ
       bound x = bit (leb (S .publics) x)
 
@@ -125,7 +126,7 @@ module _ (S : Scheme) (ok : Accepted S) where
       bit-y = differs-bit S ok y j (ny .low, ny .high) free-y low
 
       given-y : exists S U (equals y j) ≡ true
-      unfolding allValues
+      unfolding valuesFor
       given-y = has-exists S U (equals y j) (has-equals (ny .low, ny .high) low (rw free-y))
 
       pub communication-inputs : (z ≡ a → ⊥)
@@ -195,7 +196,7 @@ module _ (S : Scheme) (ok : Accepted S) where
           three h (List·Memᴰ·head q) = not-y z uz (cc)
 
     -- "A name sent on itself has only j=i."
-    module _ (i : ℕ) (is : z ≡ a) (ia : member i (valuesOf S U a) ≡ true) (ie : member i (valuesOf S U e) ≡ true) (low : i < S .publics + S .bounds) where
+    module _ (i : ℕ) (is : z ≡ a) (ia : member i (valuesOf S U a) ≡ true) (ie : member i (valuesOf S U e) ≡ true) (low : i < S .publics + U .privates) where
       abbrev bound′ : ℕ → ℕ
       bound′ x = bit (leb (S .publics) x)
 
@@ -239,7 +240,7 @@ module _ (S : Scheme) (ok : Accepted S) where
           two h (List·Memᴰ·head q) = let w : _≡_ {A = ℕ} 0 1 = cc in omega arith
 
       given-y′ : exists S U (equals y i) ≡ true
-      unfolding allValues
+      unfolding valuesFor
       given-y′ = has-exists S U (equals y i) (has-equals (ny .low, ny .high) low (rw free-y))
 
       pub self-outputs : length (outputs (communicating S U s a z l r e y m i i)) ≡ 3 + (bound′ e + bound′ a)

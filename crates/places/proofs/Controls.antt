@@ -15,25 +15,26 @@ use Rattle.scheme.specs.Scheme.{Scheme, Node, stop, choice, new, call, scheme}
 use Rattle.table.specs.Causes.{cause}
 use Rattle.table.specs.Accepted.{Accepted}
 use Rattle.table.proofs.Accepted.{accepted}
-use Rattle.places.specs.Values.{allValues}
+use Rattle.places.specs.Held.{valuesFor}
 use Rattle.places.specs.Places.{controlsAt, controls}
 use Rattle.places.specs.Rows.{rowLength, freeStart, controlStart}
-use Rattle.places.specs.Inner.Plan.{today, controlOf, SpotsBelow}
+use Rattle.places.specs.Inner.Plan.{today, privatesOf, controlOf, SpotsBelow}
 use Rattle.places.proofs.Rows.{free-start, control-first, control-next}
 use Rattle.places.proofs.Today.{row-length-today}
 use Rattle.places.proofs.Weights.{held-few}
+use Rattle.places.proofs.Few.{private-few}
 
 module _ (S : Scheme) (ok : Accepted S) where
-  as-many : allValues S .privates ≡ S .bounds
-  unfolding allValues
-  as-many = refl
+  as-many : valuesFor S .privates ≤ S .bounds
+  unfolding valuesFor
+  as-many = private-few S ok
 
   node-few : (n : ℕ) → controls S n ≤ 65
   unfolding controls
   node-few n = go (S .node n)
     where
       held : length (S .held n) ≤ S .bounds
-      held = held-few S (allValues S) ok (omega (arith, as-many)) n
+      held = held-few S (valuesFor S) ok as-many n
 
       go : (ν : Node) → controlsAt S n ν ≤ 65
       go stop = omega (arith, held, ok .few-bounds)
@@ -41,19 +42,19 @@ module _ (S : Scheme) (ok : Accepted S) where
       go (new r l) = omega arith
       go (call d) = omega (arith, held, ok .few-formals d, ok .few-bounds)
 
-  row-few : (x : ℕ) → S .publics ≤ x → rowLength S (allValues S) x ≤ 96
+  row-few : (x : ℕ) → S .publics ≤ x → rowLength S (valuesFor S) x ≤ 96
   row-few x h = rw (row-length-today S x h) (go (S .restricted x))
     where
-      go : (b : Bool) → pick b (S .bounds) (S .publics + 2 * S .bounds) ≤ 96
-      go true = omega (arith, ok .few-bounds)
-      go false = omega (arith, ok .few-bounds, ok .few-publics)
+      go : (b : Bool) → pick b (valuesFor S .privates) (S .publics + 2 * valuesFor S .privates) ≤ 96
+      go true = omega (arith, as-many, ok .few-bounds)
+      go false = omega (arith, as-many, ok .few-bounds, ok .few-publics)
 
-  rows-few : freeStart S (allValues S) ≤ 3072
+  rows-few : freeStart S (valuesFor S) ≤ 3072
   rows-few =
-      let a = sum-few (rowLength S (allValues S)) 96 (from (S .publics) (S .bounds)) (λ x m. row-few x (from-member x (S .publics) (S .bounds) m .0)) in
-      omega (arith, free-start S (allValues S), rw (from-length (S .publics) (S .bounds)) at a, ok .few-bounds)
+      let a = sum-few (rowLength S (valuesFor S)) 96 (from (S .publics) (S .bounds)) (λ x m. row-few x (from-member x (S .publics) (S .bounds) m .0)) in
+      omega (arith, free-start S (valuesFor S), rw (from-length (S .publics) (S .bounds)) at a, ok .few-bounds)
 
-  starts-few : (n : ℕ) → controlStart S (allValues S) n ≤ 3104 + n * 65
+  starts-few : (n : ℕ) → controlStart S (valuesFor S) n ≤ 3104 + n * 65
   unfolding controlStart
   starts-few n =
       let a = sum-few (controls S) 65 (range n) (λ k m. node-few k) in
@@ -74,12 +75,8 @@ module _ (w : List ℕ) where
   unfolding scheme
   bounds-are = refl
 
-  pub privates-are : today w .privates ≡ scheme w .bounds
-  unfolding allValues
-  privates-are = refl
-
-  pub control-begins : controlOf w 0 ≡ freeStart (scheme w) (today w) + bounds w
-  control-begins = omega (arith, control-first (scheme w) (today w), privates-are, bounds-are)
+  pub control-begins : controlOf w 0 ≡ freeStart (scheme w) (today w) + privatesOf w
+  control-begins = control-first (scheme w) (today w)
 
   pub control-goes-on : (n : ℕ) → controlOf w (n + 1) ≡ controlOf w n + controls (scheme w) n
   control-goes-on n = control-next (scheme w) (today w) n
@@ -101,6 +98,12 @@ module _ (w : List ℕ) (h : cause w ≡ 0) where
 
   pub few-bounds : bounds w ≤ 32
   few-bounds = omega (arith, bounds-are w, accepted w h .few-bounds)
+
+  pub as-many-privates : privatesOf w ≤ scheme w .bounds
+  as-many-privates = as-many (scheme w) (accepted w h)
+
+  pub few-privates : privatesOf w ≤ 32
+  few-privates = omega (arith, as-many-privates, accepted w h .few-bounds)
 
   pub free-few : freeStart (scheme w) (today w) ≤ 3072
   free-few = rows-few (scheme w) (accepted w h)

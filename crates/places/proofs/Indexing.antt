@@ -3,14 +3,14 @@ use mathlib.Core.Path.{_≡_, sym, ap, _∙_}
 use mathlib.Core.Bool.{Bool, true, not}
 use borrow.Author.Tests.{not-true}
 use mathlib.Core.List.{List, map}
-use Prim.Native.Nat.{ℕ, _≤_, _<_}
+use Prim.Native.Nat.{ℕ, _≤_}
 use native.Mathlib.Omega.{arith}
 use lib.ListN.{length, length-map}
 use Rattle.lists.specs.Lists.{same, word, range}
 use Rattle.lists.proofs.Ranges.{from-length}
 use Rattle.lists.proofs.Tests.{same-true, same-yes, false-true}
 use Rattle.scheme.specs.Words.{nodes, branches, definitions}
-use Rattle.scheme.specs.Owners.{owner, home, definition}
+use Rattle.scheme.specs.Owners.{owner, home}
 use Rattle.scheme.specs.Index.{ownerNumber, FirstDefinitions}
 use Rattle.scheme.specs.Scheme.{scheme}
 use Rattle.table.specs.Causes.{cause}
@@ -78,7 +78,13 @@ module _ (w owners homes defs : List ℕ) (n m k : ℕ) (all : k ≡ nodes w) (o
 
 pub counted : (w rows : List ℕ) (plan : Layout) → Rowed w rows plan → Counted w plan
 counted w rows plan r =
-    record { few-publics = r .few-publics; few-bounds = r .few-bounds; publics-are = r .publics-are; privates-are = r .privates-are }
+    record {
+      few-publics = r .few-publics;
+      few-bounds = r .few-bounds;
+      few-privates = r .few-privates;
+      publics-are = r .publics-are;
+      privates-are = r .privates-are;
+    }
 
 module _ (w owners homes defs rows spots : List ℕ) (x : Planned) (right : PlanRight w owners homes defs rows spots x) where
   pub plan-places : (plan : Layout) → x ≡ Places plan → Known w owners homes × Defined w homes defs × Laid w rows spots plan

@@ -1,5 +1,9 @@
+pub mod Tallies
+pub mod Few
 pub mod Rows
+pub mod AllValues
 pub mod Today
+pub mod RowPlaces
 pub mod Order
 pub mod Ascends
 pub mod Sorted
@@ -21,6 +25,7 @@ pub mod Threads
 pub mod Counts
 pub mod Controls
 pub mod ByWords
+pub mod Holding
 pub mod Reaches
 pub mod Tokens
 pub mod Adding

@@ -1,24 +1,24 @@
 -- Names of a table as the code reads them: whether one is restricted, the values that one may hold, where its row starts.
 use mathlib.Core.Path.{_≡_, refl, sym, ap, _∙_}
-use mathlib.Core.Bool.{Bool, true, false, not, _||_}
+use mathlib.Core.Bool.{Bool, true, false, not}
 use mathlib.Core.List.{List, [], _∷_, _++_, append-nil}
-use Prim.Native.Nat.{ℕ, zero, suc, _+_, _-_, _*_, _≤_, _<_}
+use Prim.Native.Nat.{ℕ, suc, _+_, _-_, _*_, _≤_, _<_}
 use native.Mathlib.Omega.{arith}
-use lib.Dec.{leb, eqb}
+use lib.Dec.{eqb}
 use lib.ListN.{length, getD, set, length-append, List·getD-append}
 use lib.Seq.{getD-append-add, getD-set-same, getD-set-other}
 use native.Mathlib.Decide.{ℕ-discrete}
-use borrow.Author.Tests.{le-leb, lt-leb, lt-ltb, le-ltb, eq-eqb, ne-eqb}
+use borrow.Author.Tests.{le-leb, lt-leb, lt-ltb, eq-eqb, ne-eqb}
 use Rattle.lists.specs.Lists.{pick, same, word, from, range, keep, member}
-use Rattle.lists.proofs.Tests.{same-yes, same-no}
 use Rattle.lists.proofs.Ranges.{from-append, from-member, from-more, from-done, from-length, from-getD}
 use Rattle.lists.proofs.Members.{keep-append, keep-all, keep-none, keep-yes, keep-no}
 use Rattle.scheme.specs.Words.{publics, bounds, names, nameKind}
 use Rattle.scheme.specs.Scheme.{Scheme, scheme}
-use Rattle.places.specs.Values.{Values, allValues, valuesOf}
+use Rattle.places.specs.Values.{valuesOf}
+use Rattle.places.specs.Held.{valuesFor}
 use Rattle.places.specs.Places.{equals, differs, free}
-use Rattle.places.specs.Rows.{rowStart, freeStart, rowLength, numberOf}
-use Rattle.places.specs.Inner.Plan.{today, values, rowOf, freeNames, Rowed, RowsBelow, Holds, Differs, reached, Lists}
+use Rattle.places.specs.Rows.{freeStart, rowLength, numberOf}
+use Rattle.places.specs.Inner.Plan.{today, privatesOf, values, rowOf, freeNames, Rowed, RowsBelow, Holds, Differs, reached, Lists}
 use Rattle.places.specs.declared.layout.Layout.{Layout}
 use Rattle.places.specs.declared.layout.Reach.{Reach}
 use Rattle.places.proofs.Rows.{values-bound, row-first, row-next}
@@ -80,8 +80,8 @@ module _ (w : List ℕ) where
   unfolding scheme
   bounds-of = refl
 
-  counts-of : S .publics + today w .privates ≡ publics w + bounds w
-  unfolding allValues scheme
+  counts-of : S .publics + today w .privates ≡ publics w + privatesOf w
+  unfolding scheme
   counts-of = refl
 
   pub public-free : (x : ℕ) → x < publics w → S .restricted x ≡ false
@@ -104,67 +104,67 @@ module _ (w : List ℕ) where
   unfolding valuesOf scheme
   values-public x h = rw (lt-ltb x (publics w) h)
 
-  all-values : (x : ℕ) → publics w ≤ x → values w x ≡ keep (today w .reach x) (range (publics w) ++ from (publics w) (bounds w))
+  all-values : (x : ℕ) → publics w ≤ x → values w x ≡ keep (today w .reach x) (range (publics w) ++ from (publics w) (privatesOf w))
   all-values x h =
       let z : 0 + publics w ≡ publics w = omega arith in
       values-bound S (today w) x (rw publics-of h)
       ∙ ap (λ (k : ℕ). keep (today w .reach x) (range k)) counts-of
-      ∙ ap (keep (today w .reach x)) (from-append 0 (publics w) (bounds w) ∙ rw z)
+      ∙ ap (keep (today w .reach x)) (from-append 0 (publics w) (privatesOf w) ∙ rw z)
 
-  pub values-restricted : (x : ℕ) → publics w ≤ x → S .restricted x ≡ true → values w x ≡ from (publics w) (bounds w)
-  unfolding allValues scheme
+  pub values-restricted : (x : ℕ) → publics w ≤ x → S .restricted x ≡ true → values w x ≡ from (publics w) (privatesOf w)
+  unfolding valuesFor scheme
   values-restricted x h r =
-      all-values x h ∙ keep-append (today w .reach x) (range (publics w)) (from (publics w) (bounds w))
-      ∙ rw (keep-none (today w .reach x) (range (publics w)) below, keep-all (today w .reach x) (from (publics w) (bounds w)) above)
+      all-values x h ∙ keep-append (today w .reach x) (range (publics w)) (from (publics w) (privatesOf w))
+      ∙ rw (keep-none (today w .reach x) (range (publics w)) below, keep-all (today w .reach x) (from (publics w) (privatesOf w)) above)
     where
       below : (z : ℕ) → member z (range (publics w)) ≡ true → today w .reach x z ≡ false
       below z m = rw (r, lt-leb (publics w) z (omega (arith, from-member z 0 (publics w) m)))
 
-      above : (z : ℕ) → member z (from (publics w) (bounds w)) ≡ true → today w .reach x z ≡ true
-      above z m = rw (r, le-leb (publics w) z (omega (arith, from-member z (publics w) (bounds w) m)))
+      above : (z : ℕ) → member z (from (publics w) (privatesOf w)) ≡ true → today w .reach x z ≡ true
+      above z m = rw (r, le-leb (publics w) z (omega (arith, from-member z (publics w) (privatesOf w) m)))
 
-  pub values-free : (x : ℕ) → publics w ≤ x → S .restricted x ≡ false → values w x ≡ range (publics w) ++ from (publics w) (bounds w)
-  unfolding allValues scheme
-  values-free x h r = all-values x h ∙ keep-all (today w .reach x) (range (publics w) ++ from (publics w) (bounds w)) (λ z m. reached-free z)
+  pub values-free : (x : ℕ) → publics w ≤ x → S .restricted x ≡ false → values w x ≡ range (publics w) ++ from (publics w) (privatesOf w)
+  unfolding valuesFor scheme
+  values-free x h r = all-values x h ∙ keep-all (today w .reach x) (range (publics w) ++ from (publics w) (privatesOf w)) (λ z m. reached-free z)
     where
       reached-free : (z : ℕ) → today w .reach x z ≡ true
       reached-free z = rw r
 
   -- ---- a value that a bound name may hold
 
-  pub restricted-private : (x v : ℕ) → Holds w x v → S .restricted x ≡ true → (publics w ≤ v) × (v < names w)
+  pub restricted-private : (x v : ℕ) → Holds w x v → S .restricted x ≡ true → (publics w ≤ v) × (v < publics w + privatesOf w)
   restricted-private x v h r =
-      from-member v (publics w) (bounds w) (ap (member v) (sym (values-restricted x (h .low) r)) ∙ h .value)
+      from-member v (publics w) (privatesOf w) (ap (member v) (sym (values-restricted x (h .low) r)) ∙ h .value)
 
-  pub free-value : (x v : ℕ) → Holds w x v → S .restricted x ≡ false → v < names w
+  pub free-value : (x v : ℕ) → Holds w x v → S .restricted x ≡ false → v < publics w + privatesOf w
   free-value x v h r =
       let z : 0 + publics w ≡ publics w = omega arith in
-      let e : values w x ≡ range (publics w + bounds w) =
-      values-free x (h .low) r ∙ sym (from-append 0 (publics w) (bounds w) ∙ rw z) in
-      omega (arith, from-member v 0 (publics w + bounds w) (ap (member v) (sym e) ∙ h .value))
+      let e : values w x ≡ range (publics w + privatesOf w) =
+      values-free x (h .low) r ∙ sym (from-append 0 (publics w) (privatesOf w) ∙ rw z) in
+      omega (arith, from-member v 0 (publics w + privatesOf w) (ap (member v) (sym e) ∙ h .value))
 
-  pub held-value : (x v : ℕ) → Holds w x v → v < names w
+  pub held-value : (x v : ℕ) → Holds w x v → v < publics w + privatesOf w
   held-value x v h = go (S .restricted x) refl
     where
-      go : (b : Bool) → S .restricted x ≡ b → v < names w
+      go : (b : Bool) → S .restricted x ≡ b → v < publics w + privatesOf w
       go true e = restricted-private x v h e .1
       go false e = free-value x v h e
 
   -- ---- as a reach
 
-  pub reach-public : (x p : ℕ) → p ≡ publics w → x < p → Lists (publics w) (bounds w) (record { low = x; high = x + 1; privates = false }) (values w x)
+  pub reach-public : (x p : ℕ) → p ≡ publics w → x < p → Lists (publics w) (privatesOf w) (record { low = x; high = x + 1; privates = false }) (values w x)
   unfolding reached from
   reach-public x p e h =
       let one : x + 1 - x ≡ 1 = omega arith in
       record { is = rw one (sym (values-public x (omega (arith, e)))); order = omega arith; inside = omega (arith, e) }
 
   pub reach-restricted : (x : ℕ) → publics w ≤ x → S .restricted x ≡ true
-      → Lists (publics w) (bounds w) (record { low = 0; high = 0; privates = true }) (values w x)
+      → Lists (publics w) (privatesOf w) (record { low = 0; high = 0; privates = true }) (values w x)
   unfolding reached from
   reach-restricted x h r = record { is = sym (values-restricted x h r); order = omega arith; inside = omega arith }
 
   pub reach-free : (x p : ℕ) → p ≡ publics w → publics w ≤ x → S .restricted x ≡ false
-      → Lists (publics w) (bounds w) (record { low = 0; high = p; privates = true }) (values w x)
+      → Lists (publics w) (privatesOf w) (record { low = 0; high = p; privates = true }) (values w x)
   unfolding reached
   reach-free x p e h r =
       let z : p - 0 ≡ publics w = omega (arith, e) in
@@ -195,8 +195,10 @@ module _ (w : List ℕ) where
 
   -- ---- rows
 
-  pub row-length : (x : ℕ) → publics w ≤ x → rowLength S (today w) x ≡ pick (S .restricted x) (bounds w) (publics w + 2 * bounds w)
-  row-length x h = row-length-today S x (rw publics-of h) ∙ rw (publics-of, bounds-of)
+  pub row-length : (x : ℕ) → publics w ≤ x → rowLength S (today w) x ≡ pick (S .restricted x) (privatesOf w) (publics w + 2 * privatesOf w)
+  row-length x h =
+      row-length-today S x (rw publics-of h)
+      ∙ ap (λ (p : ℕ). pick (S .restricted x) (privatesOf w) (p + 2 * privatesOf w)) publics-of
 
   -- ---- places
 
@@ -225,7 +227,7 @@ module _ (w : List ℕ) where
     differs-of x v row e h =
         let a : word rows x ≡ rowOf w x = k .row-is x (h .low) (h .high) in
         let n = differs-number S x v (rw publics-of (h .low)) (h .free) in
-        omega (arith, n, a, e, publics-of, bounds-of, k .privates-are, h .private)
+        omega (arith, n, a, e, publics-of, k .privates-are, h .private)
 
     pub free-of : (v : ℕ) → publics w ≤ v → plan .free + (v - plan .publics) ≡ numberOf S (today w) (free v)
     free-of v h = rw (k .free-is, k .publics-are, publics-of)

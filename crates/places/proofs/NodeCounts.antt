@@ -19,8 +19,8 @@ use Rattle.scheme.specs.Index.{heldIn, HeldNames}
 use Rattle.scheme.specs.Scheme.{scheme}
 use Rattle.table.specs.Causes.{cause}
 use Rattle.table.proofs.Accepted.{accepted}
-use Rattle.places.specs.Transitions.{common}
-use Rattle.places.specs.Inner.Plan.{today, values, freeNames, Known, Named, Counted, Lists, reached, InBoth}
+use Rattle.places.specs.Places.{common}
+use Rattle.places.specs.Inner.Plan.{today, privatesOf, values, freeNames, Known, Named, Counted, Lists, reached, InBoth}
 use Rattle.places.specs.Inner.Counting.{Sums, Few, addTimes, over, releaseSums, copySums, silentSums, nodeSums, boundBit, publicCount, privateCount}
 use Rattle.places.specs.Inner.Counting.{sums, pairSums, partnerSums, sendSums, allSums}
 use Rattle.places.specs.declared.layout.Layout.{Layout}
@@ -35,8 +35,12 @@ use Rattle.places.proofs.Adding.{over-few, few-part, grows-times, relea
 
 held-small : (w : List ℕ) → cause w ≡ 0 → (n : ℕ) → length (held w n) ≤ 32
 held-small w h n =
-    let few : today w .privates ≤ scheme w .bounds = omega (arith, Controls.privates-are w) in
-    omega (arith, held-few (scheme w) (today w) (accepted w h) few n, ap (λ (xs : List ℕ). length xs) (held-of w h n), accepted w h .few-bounds)
+    omega (
+      arith,
+      held-few (scheme w) (today w) (accepted w h) (Controls.as-many-privates w h) n,
+      ap (λ (xs : List ℕ). length xs) (held-of w h n),
+      accepted w h .few-bounds,
+    )
 
 pub held-named : (w : List ℕ) → cause w ≡ 0 → (n : ℕ) → Named w (held w n)
 held-named w h n x m =
@@ -88,7 +92,7 @@ module _ (w : List ℕ) (h : cause w ≡ 0) (n : ℕ) (l : n < nodes w) (s : Sum
   unfolding nodeSums
   choice-sums e = rw (no-kind 1 0 e (λ q. omega arith), same-yes (nodeKind w n) 1 e)
 
-  pub new-sums : nodeKind w n ≡ 2 → nodeSums w s n ≡ addTimes s (bounds w) (freeNames w + 2) (freeNames w + 2)
+  pub new-sums : nodeKind w n ≡ 2 → nodeSums w s n ≡ addTimes s (privatesOf w) (freeNames w + 2) (freeNames w + 2)
   unfolding nodeSums
   new-sums e = rw (no-kind 2 0 e (λ q. omega arith), no-kind 2 1 e (λ q. omega arith), same-yes (nodeKind w n) 2 e)
 
@@ -100,7 +104,7 @@ module _ (w : List ℕ) (h : cause w ≡ 0) (n : ℕ) (l : n < nodes w) (s : Sum
     pub chosen : (f g : ℕ) → f ≡ nodeFirst w n → g ≡ nodeSecond w n → k ≡ 1 → nodeSums w s n ≡ over (silentSums w) s (from f (f + g - f))
     chosen f g is-f is-g e = let c : f + g - f ≡ g = omega arith in rw (c, is-f, is-g) (choice-sums (sym is ∙ e))
 
-    pub made : (p m : ℕ) → p ≡ bounds w → m ≡ freeNames w → k ≡ 2 → nodeSums w s n ≡ addTimes s p (m + 2) (m + 2)
+    pub made : (p m : ℕ) → p ≡ privatesOf w → m ≡ freeNames w → k ≡ 2 → nodeSums w s n ≡ addTimes s p (m + 2) (m + 2)
     made p m is-p is-m e = rw (is-p, is-m) (new-sums (sym is ∙ e))
 
     pub other-kind : (i : ℕ) → (k ≡ i → ⊥) → nodeKind w n ≡ i → ⊥
@@ -209,12 +213,12 @@ pub record Read (w : List ℕ) (b r a z e : ℕ) (x : Reach) (ba be v : ℕ) : T
   pub channel-is : a ≡ channel w b
   pub name-is : z ≡ branchName w b
   pub other-is : e ≡ channel w r
-  pub lists : Lists (publics w) (bounds w) x (common (scheme w) (today w) a e)
+  pub lists : Lists (publics w) (privatesOf w) x (common (scheme w) (today w) a e)
   pub bit-is : ba ≡ boundBit w a
   pub bit-other : be ≡ boundBit w e
-  pub privates-are : v ≡ pick (x .privates) (bounds w) 0
+  pub privates-are : v ≡ pick (x .privates) (privatesOf w) 0
   pub few-publics : publics w ≤ 32
-  pub few-bounds : bounds w ≤ 32
+  pub few-privates : privatesOf w ≤ 32
 
 pick-few : (b : Bool) (n : ℕ) → pick b n 0 ≤ n
 pick-few true n = omega arith
@@ -222,19 +226,19 @@ pick-few false n = omega arith
 
 pub reads : (w : List ℕ) (plan : Layout) (b r a z e : ℕ) (ra re x : Reach) (ba be v : ℕ) → Counted w plan
     → a ≡ channel w b → z ≡ branchName w b → e ≡ channel w r
-    → Lists (publics w) (bounds w) ra (values w a) → Lists (publics w) (bounds w) re (values w e) → InBoth ra re x
+    → Lists (publics w) (privatesOf w) ra (values w a) → Lists (publics w) (privatesOf w) re (values w e) → InBoth ra re x
     → ba ≡ bit (not (ltb a (plan .publics))) → be ≡ bit (not (ltb e (plan .publics))) → v ≡ pick (x .privates) (plan .privates) 0
     → Read w b r a z e x ba be v
 reads w plan b r a z e ra re x ba be v k ea ez ee la le both eb ef ev = record {
   channel-is = ea;
   name-is = ez;
   other-is = ee;
-  lists = both (publics w) (bounds w) (values w a) (values w e) la le;
+  lists = both (publics w) (privatesOf w) (values w a) (values w e) la le;
   bit-is = eb ∙ rw (k .publics-are);
   bit-other = ef ∙ rw (k .publics-are);
   privates-are = ev ∙ rw (k .privates-are);
   few-publics = k .few-publics;
-  few-bounds = k .few-bounds;
+  few-privates = k .few-privates;
 }
 
 module _ (w : List ℕ) (b r a z e : ℕ) (x : Reach) (ba be v : ℕ) (k : Read w b r a z e x ba be v) where
@@ -248,7 +252,7 @@ module _ (w : List ℕ) (b r a z e : ℕ) (x : Reach) (ba be v : ℕ) (k : Read 
   publics-few = omega (arith, k .lists .inside, k .few-publics)
 
   pub privates-few : v ≤ 32
-  privates-few = omega (arith, k .privates-are, pick-few (x .privates) (bounds w), k .few-bounds)
+  privates-few = omega (arith, k .privates-are, pick-few (x .privates) (privatesOf w), k .few-privates)
 
   abbrev vs : List ℕ
   vs = common (scheme w) (today w) a e
@@ -266,22 +270,22 @@ module _ (w : List ℕ) (b r a z e : ℕ) (x : Reach) (ba be v : ℕ) (k : Read 
   self-sums s q = record {
     is = pair-read s ∙ rw (
       same-yes z a q,
-      reach-publics (publics w) (bounds w) x vs (k .lists),
-      reach-privates (publics w) (bounds w) x vs (k .lists),
+      reach-publics (publics w) (privatesOf w) x vs (k .lists),
+      reach-privates (publics w) (privatesOf w) x vs (k .lists),
       k .privates-are,
     );
   }
 
-  pub other-sums : (s : Sums) (y : Reach) (bz u : ℕ) → (z ≡ a → ⊥) → Lists (publics w) (bounds w) y (values w z) → bz ≡ boundBit w z
-      → u ≡ pick (y .privates) (bounds w) 0
+  pub other-sums : (s : Sums) (y : Reach) (bz u : ℕ) → (z ≡ a → ⊥) → Lists (publics w) (privatesOf w) y (values w z) → bz ≡ boundBit w z
+      → u ≡ pick (y .privates) (privatesOf w) 0
       → Twice s (pairSums w b s r) ((x .high - x .low + v) * (y .high - y .low)) (ba + be + bz + 2) (ba + be + bz + 3)
       ((x .high - x .low + v) * u) (ba + be + bz + 3) (ba + be + bz + 3)
   other-sums s y bz u d ly eb eu = record {
     is = pair-read s ∙ rw (
       same-no z a d,
-      reach-publics (publics w) (bounds w) y (values w z) ly,
-      reach-privates (publics w) (bounds w) y (values w z) ly,
-      reach-length (publics w) (bounds w) x vs (k .lists),
+      reach-publics (publics w) (privatesOf w) y (values w z) ly,
+      reach-privates (publics w) (privatesOf w) y (values w z) ly,
+      reach-length (publics w) (privatesOf w) x vs (k .lists),
       k .privates-are,
       eb,
       eu,

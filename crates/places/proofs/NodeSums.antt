@@ -3,7 +3,7 @@ use mathlib.Core.Path.{_≡_, refl, sym, ap, _∙_}
 use mathlib.Core.Bool.{Bool, true, false}
 use mathlib.Core.List.{List, [], _∷_, _++_, map}
 use mathlib.Core.Logic.{inl, inr}
-use Prim.Native.Nat.{ℕ, suc, _+_, _-_, _*_, _≤_, _<_}
+use Prim.Native.Nat.{ℕ, suc, _+_, _*_, _≤_, _<_}
 use native.Mathlib.Decide.{decLt, ℕ-discrete}
 use native.Mathlib.Omega.{arith}
 use lib.Dec.{ltb}
@@ -14,7 +14,7 @@ use Rattle.lists.proofs.Tests.{false-true, same-no}
 use Rattle.lists.proofs.Ranges.{from-length, from-member}
 use Rattle.lists.proofs.Members.{member-here, member-there}
 use Rattle.lists.proofs.Sums.{sum-append}
-use Rattle.scheme.specs.Words.{publics, bounds, nodes, branches, branchKind, nodeKind, nodeFirst, nodeSecond, channel, branchName, next, isSend, isReceive}
+use Rattle.scheme.specs.Words.{publics, nodes, branches, branchKind, nodeKind, nodeFirst, nodeSecond, channel, branchName, next, isSend, isReceive}
 use Rattle.scheme.specs.Words.{argumentsOf}
 use Rattle.scheme.specs.Owners.{held}
 use Rattle.scheme.specs.Scheme.{Scheme, Node, new, call, absent, send, receive, branchAt, scheme}
@@ -25,7 +25,7 @@ use Rattle.places.specs.Values.{Values, privateValues, valuesOf}
 use Rattle.places.specs.Places.{control, controls, places}
 use Rattle.places.specs.Rows.{IsBound, Exists, has-control}
 use Rattle.places.specs.Transitions.{Description, isInput, isOutput, releasing, releases, copying, copies, making, going, silents, calling, ofNode}
-use Rattle.places.specs.Inner.Plan.{today, freeNames}
+use Rattle.places.specs.Inner.Plan.{today, privatesOf, freeNames}
 use Rattle.places.specs.Inner.Counting.{Sums, sums, addTimes, over, releaseSums, copySums, silentSums, nodeSums}
 use Rattle.places.proofs.Today.{values-free, values-restricted, otherNames}
 use Rattle.places.proofs.Names.{values-public}
@@ -34,7 +34,7 @@ use Rattle.places.proofs.Explicit.{going-inputs, going-outputs, calling
 use Rattle.places.proofs.ArcCounts.{next-place, new-inputs, new-outputs}
 use Rattle.places.proofs.Totals.{inputSum, outputSum, privatesAmong, boundBit, privates-bound, privates-public, total-same, total-each, sum-of-map}
 use Rattle.places.proofs.Totals.{release-input-sum, release-output-sum, copy-input-sum, copy-output-sum}
-use Rattle.places.proofs.Controls.{nodes-are, publics-are, bounds-are, privates-are}
+use Rattle.places.proofs.Controls.{nodes-are, publics-are, bounds-are}
 use Rattle.places.proofs.ByWords.{other-call, stop-node, choice-node, new-node, call-node, silent-branch, held-of, arguments-of, choice-inside}
 use Rattle.places.proofs.Adding.{over-one, over-none, silent-yes, silent-no}
 use Rattle.places.proofs.NodeCounts.{stop-sums, choice-sums, new-sums, call-sums}
@@ -97,18 +97,18 @@ module _ (w : List ℕ) (h : cause w ≡ 0) where
         ins : inputSum S ok ds ≡ length (valuesOf S U z) * 2
         ins = release-input-sum S ok n m k z l u c b
 
-        outs : outputSum S ok ds ≡ length (valuesOf S U z) + S .bounds
+        outs : outputSum S ok ds ≡ length (valuesOf S U z) + U .privates
         outs = release-output-sum S ok n m k z l u c b
 
         go : (r : Bool) → S .restricted z ≡ r
-            → pick r (addTimes s (bounds w) 2 2) (addTimes (addTimes s (publics w) 2 1) (bounds w) 2 2) ≡ plus s ds
+            → pick r (addTimes s (privatesOf w) 2 2) (addTimes (addTimes s (publics w) 2 1) (privatesOf w) 2 2) ≡ plus s ds
         go true e =
             let v = values-restricted S z (b .0) e in
-            plus-is s ds _ _ _ (omega (arith, size, v, bounds-are w)) (omega (arith, ins, v, bounds-are w)) (omega (arith, outs, v, bounds-are w))
+            plus-is s ds _ _ _ (omega (arith, size, v)) (omega (arith, ins, v)) (omega (arith, outs, v))
         go false e =
             let v = values-free S z (b .0) e in
-            plus-is s ds _ _ _ (omega (arith, size, v, bounds-are w, publics-are w)) (omega (arith, ins, v, bounds-are w, publics-are w))
-            (omega (arith, outs, v, bounds-are w, publics-are w))
+            plus-is s ds _ _ _ (omega (arith, size, v, publics-are w)) (omega (arith, ins, v, publics-are w))
+            (omega (arith, outs, v, publics-are w))
 
     releases-sum : (zs : List ℕ) (k : ℕ) → ((z : ℕ) → member z zs ≡ true → IsBound S U z) → k + length zs ≤ controls S n → (s : Sums)
         → over (releaseSums w) s zs ≡ plus s (releases S U n m k zs)
@@ -140,7 +140,7 @@ module _ (w : List ℕ) (h : cause w ≡ 0) where
         outs = copy-output-sum S ok n m k f a l u c b r low d
 
         go : Dec (a < publics w) → (q : Bool) → S .restricted a ≡ q
-            → pick (ltb a (publics w)) (addTimes s 1 1 2) (pick q (addTimes s (bounds w) 3 3) (addTimes (addTimes s (publics w) 2 3) (bounds w) 3 3))
+            → pick (ltb a (publics w)) (addTimes s 1 1 2) (pick q (addTimes s (privatesOf w) 3 3) (addTimes (addTimes s (publics w) 2 3) (privatesOf w) 3 3))
             ≡ plus s ds
         go (yes p) q e =
             let p′ : a < S .publics = omega (arith, publics-are w) in
@@ -153,16 +153,16 @@ module _ (w : List ℕ) (h : cause w ≡ 0) where
             let v = values-restricted S a p′ e in
             let one : boundBit S ok a ≡ 1 = rw (le-leb (S .publics) a p′) in
             rw (le-ltb a (publics w) (omega arith))
-            (plus-is s ds _ _ _ (omega (arith, size, v, bounds-are w)) (rw (ins, v, one, privates-bound S ok a p′, bounds-are w) (omega arith))
-            (rw (outs, v, one, bounds-are w) (omega arith)))
+            (plus-is s ds _ _ _ (omega (arith, size, v)) (rw (ins, v, one, privates-bound S ok a p′) (omega arith))
+            (rw (outs, v, one) (omega arith)))
         go (no p) false e =
             let p′ : S .publics ≤ a = omega (arith, publics-are w) in
             let v = values-free S a p′ e in
             let one : boundBit S ok a ≡ 1 = rw (le-leb (S .publics) a p′) in
             rw (le-ltb a (publics w) (omega arith))
-            (plus-is s ds _ _ _ (omega (arith, size, v, bounds-are w, publics-are w))
-            (rw (ins, v, one, privates-bound S ok a p′, bounds-are w, publics-are w) (omega arith))
-            (rw (outs, v, one, bounds-are w, publics-are w) (omega arith)))
+            (plus-is s ds _ _ _ (omega (arith, size, v, publics-are w))
+            (rw (ins, v, one, privates-bound S ok a p′) (omega (arith, publics-are w)))
+            (rw (outs, v, one) (omega (arith, publics-are w))))
 
     copies-sum : (fs as′ : List ℕ) (k : ℕ) → length as′ ≡ length fs → k + length fs ≤ controls S n
         → ((f : ℕ) → member f fs ≡ true → IsBound S U f × (S .restricted f ≡ false))
@@ -222,22 +222,22 @@ module _ (w : List ℕ) (h : cause w ≡ 0) where
         ds : List Description
         ds = map (making S U n r m) (privateValues S U)
 
-        count : length (privateValues S U) ≡ bounds w
-        count = from-length (S .publics) (U .privates) ∙ privates-are w ∙ bounds-are w
+        count : length (privateValues S U) ≡ privatesOf w
+        count = from-length (S .publics) (U .privates)
 
-        size : length ds ≡ bounds w
+        size : length ds ≡ privatesOf w
         size = length-map (privateValues S U) (making S U n r m) ∙ count
 
         others : otherNames S ≡ freeNames w
         others = rw (publics-are w, bounds-are w)
 
-        private : (v : ℕ) → member v (privateValues S U) ≡ true → (S .publics ≤ v) × (v < S .publics + S .bounds)
-        private v q = let b = from-member v (S .publics) (U .privates) q in (b .0, omega (arith, b .1, privates-are w))
+        private : (v : ℕ) → member v (privateValues S U) ≡ true → (S .publics ≤ v) × (v < S .publics + U .privates)
+        private v q = let b = from-member v (S .publics) (U .privates) q in (b .0, b .1)
 
         bound : S .node n ≡ new r m → IsBound S U r
         bound at = let q = ok .new-name n r m at in (q .low, q .high)
 
-        ins : S .node n ≡ new r m → inputSum S ok ds ≡ bounds w * (freeNames w + 2)
+        ins : S .node n ≡ new r m → inputSum S ok ds ≡ privatesOf w * (freeNames w + 2)
         ins at =
             sum-of-map (λ d. length (positions (isInput S d) (places S U))) (making S U n r m) (privateValues S U)
             ∙ total-same (λ v. length (positions (isInput S (making S U n r m v)) (places S U))) (λ v. otherNames S + 2) (privateValues S U)
@@ -245,7 +245,7 @@ module _ (w : List ℕ) (h : cause w ≡ 0) where
             (private v q .1))
             ∙ total-each (otherNames S + 2) (privateValues S U) ∙ rw (count, others)
 
-        outs : S .node n ≡ new r m → outputSum S ok ds ≡ bounds w * (freeNames w + 2)
+        outs : S .node n ≡ new r m → outputSum S ok ds ≡ privatesOf w * (freeNames w + 2)
         outs at =
             sum-of-map (λ d. length (positions (isOutput S d) (places S U))) (making S U n r m) (privateValues S U)
             ∙ total-same (λ v. length (positions (isOutput S (making S U n r m v)) (places S U))) (λ v. otherNames S + 2) (privateValues S U)

@@ -19,7 +19,8 @@ use Rattle.table.specs.Causes.{cause}
 use Rattle.table.specs.Accepted.{Accepted}
 use Rattle.table.proofs.Accepted.{accepted}
 use Rattle.places.specs.Values.{Values}
-use Rattle.places.specs.Transitions.{Description, communicating, common, sentOn, ofPair}
+use Rattle.places.specs.Places.{common}
+use Rattle.places.specs.Transitions.{Description, communicating, sentOn, ofPair}
 use Rattle.places.specs.Inner.Plan.{today, values}
 use Rattle.places.specs.Inner.Counting.{Sums, boundBit, publicCount, privateCount, pairSums, partnerSums, sendSums}
 use Rattle.places.proofs.Totals

@@ -16,7 +16,8 @@ use Rattle.table.specs.Accepted.{Accepted}
 use Rattle.table.proofs.Accepted.{accepted}
 use Rattle.net.specs.Net.{Transition, encode}
 use Rattle.net.proofs.Encode
-use Rattle.places.specs.Values.{Values, allValues, privateValues, valuesOf, privateValuesOf}
+use Rattle.places.specs.Values.{Values, privateValues, valuesOf, privateValuesOf}
+use Rattle.places.specs.Held.{valuesFor}
 use Rattle.places.specs.Places.{controlsAt, controls, places, isInitial}
 use Rattle.places.specs.Rows.{rowLength, controlStart}
 use Rattle.places.specs.Transitions.{Description, descriptions}
@@ -28,6 +29,7 @@ use Rattle.lists.proofs.Sums.{sum, sum-few}
 use Rattle.places.proofs.Weights.{valueBound, receives, nodeWords, pairWords, values-few, held-few, descriptions-weigh}
 use Rattle.places.proofs.Products.{below-fourth, below-words}
 use Rattle.places.proofs.Ascends.{image-is}
+use Rattle.places.proofs.Few.{private-few}
 
 -- ---- the words of a list of transitions
 
@@ -119,9 +121,9 @@ module _ (S : Scheme) (U : Values) (ok : Accepted S) (few : U .privates ≤ S .b
 -- ---- the image of an accepted table
 
 module _ (w : List ℕ) (h : cause w ≡ 0) where
-  as-many : allValues (scheme w) .privates ≤ scheme w .bounds
-  unfolding allValues
-  as-many = omega arith
+  as-many : valuesFor (scheme w) .privates ≤ scheme w .bounds
+  unfolding valuesFor
+  as-many = private-few (scheme w) (accepted w h)
 
   table-words : scheme w .size + scheme w .publics ≡ length w + publics w
   unfolding scheme
@@ -129,8 +131,8 @@ module _ (w : List ℕ) (h : cause w ≡ 0) where
 
   -- "image words ≤ (table words + P)⁴"
   pub image-size : length (imageOf w) ≤ (length w + publics w) ^ 4
-  image-size = rw (image-is w, ← table-words) (net-size (scheme w) (allValues (scheme w)) (accepted w h) as-many)
+  image-size = rw (image-is w, ← table-words) (net-size (scheme w) (valuesFor (scheme w)) (accepted w h) as-many)
 
   -- every count, offset and arc fits 32 bits
   pub image-below : length (imageOf w) < 2 ^ 32
-  image-below = rw (image-is w) (net-below (scheme w) (allValues (scheme w)) (accepted w h) as-many)
+  image-below = rw (image-is w) (net-below (scheme w) (valuesFor (scheme w)) (accepted w h) as-many)

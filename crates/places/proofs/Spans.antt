@@ -12,32 +12,33 @@ use Rattle.lists.specs.Lists.{pick, from, range, keep, member}
 use Rattle.lists.proofs.Ranges.{from-length, member-from, from-member}
 use Rattle.lists.proofs.Positions.{keep-span}
 use Rattle.scheme.specs.Scheme.{Scheme}
-use Rattle.places.specs.Values.{Values, allValues, valuesOf}
-use Rattle.places.specs.Transitions.{common}
+use Rattle.places.specs.Values.{Values, valuesOf}
+use Rattle.places.specs.Held.{valuesFor}
+use Rattle.places.specs.Places.{common}
 use Rattle.places.specs.Inner.Spans.{firstValue, endValue, firstCommon, endCommon}
 
 module _ (S : Scheme) where
   abbrev U : Values
-  U = allValues S
+  U = valuesFor S
 
   pub values-span : (x : ℕ) → valuesOf S U x ≡ from (firstValue S x) (endValue S x - firstValue S x)
-  unfolding valuesOf firstValue endValue allValues from
+  unfolding valuesOf firstValue endValue valuesFor from
   values-span x = go (ltb x (S .publics)) (S .restricted x)
     where
       one : x + 1 - x ≡ 1
       one = omega arith
 
-      go : (b c : Bool) → pick b (x ∷ []) (keep (λ v. not c || leb (S .publics) v) (range (S .publics + S .bounds)))
-          ≡ from (pick b x (pick c (S .publics) 0)) (pick b (x + 1) (S .publics + S .bounds) - pick b x (pick c (S .publics) 0))
+      go : (b c : Bool) → pick b (x ∷ []) (keep (λ v. not c || leb (S .publics) v) (range (S .publics + U .privates)))
+          ≡ from (pick b x (pick c (S .publics) 0)) (pick b (x + 1) (S .publics + U .privates) - pick b x (pick c (S .publics) 0))
       go true c = rw one
       go false true =
-          keep-span (λ v. leb (S .publics) v) 0 (S .publics + S .bounds) (S .publics) (S .publics + S .bounds) (omega arith) (omega arith)
+          keep-span (λ v. leb (S .publics) v) 0 (S .publics + U .privates) (S .publics) (S .publics + U .privates) (omega arith) (omega arith)
           (λ v l u h. (low v h, omega arith)) (λ v l u. le-leb (S .publics) v l)
         where
           low : (v : ℕ) → leb (S .publics) v ≡ true → S .publics ≤ v
           low v h = leb-true (S .publics) v h
       go false false =
-          keep-span (λ v. true) 0 (S .publics + S .bounds) 0 (S .publics + S .bounds) (omega arith) (omega arith) (λ v l u h. (omega arith, omega arith))
+          keep-span (λ v. true) 0 (S .publics + U .privates) 0 (S .publics + U .privates) (omega arith) (omega arith) (λ v l u h. (omega arith, omega arith))
           (λ v l u. refl)
 
   pub value-member : (x v : ℕ) → member v (valuesOf S U x) ≡ true → (firstValue S x ≤ v) × (v < endValue S x)
@@ -56,7 +57,7 @@ module _ (S : Scheme) where
   unfolding firstValue endValue
   span-rises x = go (ltb x (S .publics)) (S .restricted x)
     where
-      go : (b c : Bool) → pick b x (pick c (S .publics) 0) ≤ pick b (x + 1) (S .publics + S .bounds)
+      go : (b c : Bool) → pick b x (pick c (S .publics) 0) ≤ pick b (x + 1) (S .publics + U .privates)
       go true c = omega arith
       go false true = omega arith
       go false false = omega arith

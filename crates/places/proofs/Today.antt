@@ -1,129 +1,58 @@
--- The row facts for today's values: N = B, an input or formal ranges over all values, a restricted name over the private ones.
-use mathlib.Core.Path.{_≡_, refl, sym, ap, _∙_}
-use mathlib.Core.Bool.{Bool, true, false, not, _||_}
+-- The row facts of the values in force.
+use mathlib.Core.Path.{_≡_}
+use mathlib.Core.Bool.{true, false, not}
 use Prim.Native.Nat.{ℕ, _+_, _-_, _*_, _≤_}
-use native.Mathlib.Nat.{mul-add, add-mul, mul-assoc, mul-left-comm}
-use native.Mathlib.Omega.{arith}
-use lib.Dec.{leb}
 use lib.ListN.{length}
-use borrow.Author.Tests.{le-leb, lt-leb}
-use Rattle.lists.specs.Lists.{pick, from, range, keep, member}
-use Rattle.lists.proofs.Ranges.{from-length, from-append, from-member}
-use Rattle.lists.proofs.Members.{keep-append, keep-all, keep-none}
-use Rattle.lists.proofs.Sums.{total-pick}
+use Rattle.lists.specs.Lists.{pick, from, keep}
 use Rattle.scheme.specs.Scheme.{Scheme}
-use Rattle.places.specs.Values.{Values, allValues, valuesOf, privateValuesOf}
+use Rattle.places.specs.Values.{Values, valuesOf, privateValuesOf}
 use Rattle.places.specs.Places.{equals, differs}
-use Rattle.places.specs.Rows.{rowLength, rowStart, controlStart, numberOf}
-use Rattle.places.proofs.Rows.{values-bound, free-start, control-first}
+use Rattle.places.specs.Rows.{rowLength, rowStart, numberOf}
+use Rattle.places.specs.Held.{privateCount, valuesFor}
+use Rattle.places.proofs.AllValues as all
 
 module _ (S : Scheme) where
   abbrev U : Values
-  U = allValues S
+  U = valuesFor S
 
-  -- the values below v that a name may hold
-  values-below : (x v : ℕ) → S .restricted x ≡ false → length (keep (U .reach x) (range v)) ≡ v
-  unfolding allValues
-  values-below x v r = rw (keep-all (U .reach x) (range v) (λ z m. rw r)) (from-length 0 v)
-
-  privates-below : (x v : ℕ) → S .restricted x ≡ true → S .publics ≤ v → length (keep (U .reach x) (range v)) ≡ v - S .publics
-  unfolding allValues
-  privates-below x v r h =
-      let e : v ≡ S .publics + (v - S .publics) = omega arith in
-      let z : 0 + S .publics ≡ S .publics = omega arith in
-      ap (λ (k : ℕ). length (keep (U .reach x) (range k))) e
-      ∙ rw (
-        from-append 0 (S .publics) (v - S .publics),
-        z,
-        keep-append (U .reach x) (range (S .publics)) (from (S .publics) (v - S .publics)),
-        keep-none (U .reach x) (range (S .publics)) below,
-        keep-all (U .reach x) (from (S .publics) (v - S .publics)) above,
-      )
-      (from-length (S .publics) (v - S .publics))
-    where
-      below : (z : ℕ) → member z (range (S .publics)) ≡ true → U .reach x z ≡ false
-      below z m = rw (r, lt-leb (S .publics) z (omega (arith, from-member z 0 (S .publics) m)))
-
-      above : (z : ℕ) → member z (from (S .publics) (v - S .publics)) ≡ true → U .reach x z ≡ true
-      above z m = rw (r, le-leb (S .publics) z (omega (arith, from-member z (S .publics) (v - S .publics) m)))
+  -- the names that are not restricted
+  abbrev pub otherNames : ℕ
+  otherNames = length (keep (λ x. not (S .restricted x)) (from (S .publics) (S .bounds)))
 
   -- every name may hold every private value
   pub private-reached : (x v : ℕ) → S .publics ≤ v → U .reach x v ≡ true
-  unfolding allValues
-  private-reached x v h = go (S .restricted x)
-    where
-      go : (b : Bool) → (not b || leb (S .publics) v) ≡ true
-      go true = le-leb (S .publics) v h
-      go false = refl
-
-  privates-from : (x n : ℕ) → length (keep (U .reach x) (from (S .publics) n)) ≡ n
-  privates-from x n =
-      rw (keep-all (U .reach x) (from (S .publics) n) (λ z m. private-reached x z (omega (arith, from-member z (S .publics) n m))))
-      (from-length (S .publics) n)
-
-  privates-are : U .privates ≡ S .bounds
-  unfolding allValues
-  privates-are = refl
+  unfolding valuesFor
+  private-reached = all.private-reached S (privateCount S)
 
   -- ---- how many values a bound name has
 
-  pub values-free : (x : ℕ) → S .publics ≤ x → S .restricted x ≡ false → length (valuesOf S U x) ≡ S .publics + S .bounds
-  values-free x h r = rw (values-bound S U x h, values-below x (S .publics + U .privates) r, privates-are)
+  pub values-free : (x : ℕ) → S .publics ≤ x → S .restricted x ≡ false → length (valuesOf S U x) ≡ S .publics + U .privates
+  unfolding valuesFor
+  values-free = all.values-free S (privateCount S)
 
-  pub values-restricted : (x : ℕ) → S .publics ≤ x → S .restricted x ≡ true → length (valuesOf S U x) ≡ S .bounds
-  values-restricted x h r =
-      rw (values-bound S U x h, privates-below x (S .publics + U .privates) r (omega arith), privates-are) (omega arith)
+  pub values-restricted : (x : ℕ) → S .publics ≤ x → S .restricted x ≡ true → length (valuesOf S U x) ≡ U .privates
+  unfolding valuesFor
+  values-restricted = all.values-restricted S (privateCount S)
 
-  pub privates-length : (x : ℕ) → length (privateValuesOf S U x) ≡ S .bounds
-  unfolding privateValuesOf
-  privates-length x = privates-from x (U .privates) ∙ privates-are
+  pub privates-length : (x : ℕ) → length (privateValuesOf S U x) ≡ U .privates
+  unfolding valuesFor
+  privates-length = all.privates-length S (privateCount S)
 
   -- ---- the numbers of places
 
   pub equals-number : (x v : ℕ) → S .restricted x ≡ false → numberOf S U (equals x v) ≡ rowStart S U x + v
-  equals-number x v r = rw (values-below x v r)
+  unfolding valuesFor
+  equals-number = all.equals-number S (privateCount S)
 
   pub equals-restricted : (x v : ℕ) → S .restricted x ≡ true → S .publics ≤ v → numberOf S U (equals x v) ≡ rowStart S U x + (v - S .publics)
-  equals-restricted x v r h = rw (privates-below x v r h)
+  unfolding valuesFor
+  equals-restricted = all.equals-restricted S (privateCount S)
 
   pub differs-number : (x v : ℕ) → S .publics ≤ x → S .restricted x ≡ false
-      → numberOf S U (differs x v) ≡ rowStart S U x + (S .publics + S .bounds) + (v - S .publics)
-  differs-number x v h r = rw (values-free x h r, privates-from x (v - S .publics)) (omega arith)
+      → numberOf S U (differs x v) ≡ rowStart S U x + (S .publics + U .privates) + (v - S .publics)
+  unfolding valuesFor
+  differs-number = all.differs-number S (privateCount S)
 
-  -- ---- "(I+F)P + (2I+2F+R+1)N, I, F, R counting inputs, formals, restricted names"
-
-  abbrev pub restrictedNames : ℕ
-  restrictedNames = length (keep (S .restricted) (from (S .publics) (S .bounds)))
-
-  abbrev pub otherNames : ℕ
-  otherNames = length (keep (λ x. not (S .restricted x)) (from (S .publics) (S .bounds)))
-
-  pub row-length-today : (x : ℕ) → S .publics ≤ x → rowLength S U x ≡ pick (S .restricted x) (S .bounds) (S .publics + 2 * S .bounds)
-  unfolding rowLength
-  row-length-today x h = go (S .restricted x) refl
-    where
-      go : (b : Bool) → S .restricted x ≡ b
-          → length (valuesOf S U x) + pick (S .restricted x) 0 (length (privateValuesOf S U x))
-          ≡ pick (S .restricted x) (S .bounds) (S .publics + 2 * S .bounds)
-      go true e = rw (values-restricted x h e, e) (omega arith)
-      go false e = rw (values-free x h e, e, privates-length x) (omega arith)
-
-  pub count-today : controlStart S U 0 ≡ otherNames * S .publics + (2 * otherNames + restrictedNames + 1) * S .bounds
-  count-today =
-      omega (
-        arith,
-        control-first S U,
-        privates-are,
-        free-start S U,
-        total-pick (rowLength S U) (S .restricted) (S .bounds) (S .publics + 2 * S .bounds) (from (S .publics) (S .bounds)) today,
-        mul-add otherNames (S .publics) (2 * S .bounds),
-        two otherNames (S .bounds),
-        add-mul (2 * otherNames + restrictedNames) 1 (S .bounds),
-        add-mul (2 * otherNames) restrictedNames (S .bounds),
-      )
-    where
-      today : (x : ℕ) → member x (from (S .publics) (S .bounds)) ≡ true → rowLength S U x ≡ pick (S .restricted x) (S .bounds) (S .publics + 2 * S .bounds)
-      today x m = row-length-today x (from-member x (S .publics) (S .bounds) m .0)
-
-      two : (m n : ℕ) → m * (2 * n) ≡ 2 * m * n
-      two m n = mul-left-comm m 2 n ∙ sym (mul-assoc 2 m n)
+  pub row-length-today : (x : ℕ) → S .publics ≤ x → rowLength S U x ≡ pick (S .restricted x) (U .privates) (S .publics + 2 * U .privates)
+  unfolding valuesFor
+  row-length-today = all.row-length-all S (privateCount S)

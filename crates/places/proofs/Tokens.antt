@@ -18,10 +18,11 @@ use Rattle.scheme.specs.Scheme.{Scheme, scheme}
 use Rattle.table.specs.Causes.{cause}
 use Rattle.table.specs.Accepted.{Accepted}
 use Rattle.table.proofs.Accepted.{accepted}
-use Rattle.places.specs.Values.{Values, allValues, valuesOf, privateValuesOf}
+use Rattle.places.specs.Values.{Values, valuesOf, privateValuesOf}
+use Rattle.places.specs.Held.{valuesFor}
 use Rattle.places.specs.Rows.{rowStart, freeStart, controlStart}
 use Rattle.places.specs.Inner.Arcs.{startsAt, initialNumbers}
-use Rattle.places.specs.Inner.Plan.{today, freeNames}
+use Rattle.places.specs.Inner.Plan.{today, privatesOf, freeNames}
 use Rattle.places.proofs.Today.{otherNames, privates-length}
 use Rattle.places.proofs.Controls.{few-bounds}
 
@@ -44,11 +45,7 @@ distinct-map f g (x ∷ xs) h d =
 
 module _ (S : Scheme) (ok : Accepted S) where
   abbrev U : Values
-  U = allValues S
-
-  privates-are : U .privates ≡ S .bounds
-  unfolding allValues
-  privates-are = refl
+  U = valuesFor S
 
   abbrev first : ℕ → ℕ
   first t = S .root (S .entry t)
@@ -84,14 +81,14 @@ module _ (S : Scheme) (ok : Accepted S) where
   abbrev differing : ℕ → List ℕ
   differing x = pick (S .restricted x) [] (from (rowStart S U x + length (valuesOf S U x)) (length (privateValuesOf S U x)))
 
-  row-tokens : (x : ℕ) → length (differing x) ≡ pick (S .restricted x) 0 (S .bounds)
+  row-tokens : (x : ℕ) → length (differing x) ≡ pick (S .restricted x) 0 (U .privates)
   row-tokens x = go (S .restricted x)
     where
-      go : (b : Bool) → length (pick b [] (from (rowStart S U x + length (valuesOf S U x)) (length (privateValuesOf S U x)))) ≡ pick b 0 (S .bounds)
+      go : (b : Bool) → length (pick b [] (from (rowStart S U x + length (valuesOf S U x)) (length (privateValuesOf S U x)))) ≡ pick b 0 (U .privates)
       go true = refl
       go false = from-length (rowStart S U x + length (valuesOf S U x)) (length (privateValuesOf S U x)) ∙ privates-length S x
 
-  initial-count : length (initialNumbers S U) ≡ otherNames S * S .bounds + S .bounds + S .threads
+  initial-count : length (initialNumbers S U) ≡ otherNames S * U .privates + U .privates + S .threads
   unfolding initialNumbers
   initial-count =
       let xs = from (S .publics) (S .bounds) in
@@ -102,15 +99,14 @@ module _ (S : Scheme) (ok : Accepted S) where
         length-append (flat differing xs) (fs ++ ns),
         length-append fs ns,
         flat-length differing xs,
-        total-pick (λ x. length (differing x)) (S .restricted) 0 (S .bounds) xs (λ x m. row-tokens x),
+        total-pick (λ x. length (differing x)) (S .restricted) 0 (U .privates) xs (λ x m. row-tokens x),
         from-length (freeStart S U) (U .privates),
-        privates-are,
         flat-keep-length (startsAt S U) (controlStart S U) (range (S .nodes)),
         starts-count,
       )
 
 module _ (w : List ℕ) (h : cause w ≡ 0) where
-  pub tokens-are : length (initialNumbers (scheme w) (today w)) ≡ freeNames w * bounds w + bounds w + threads w
+  pub tokens-are : length (initialNumbers (scheme w) (today w)) ≡ freeNames w * privatesOf w + privatesOf w + threads w
   unfolding scheme
   tokens-are = initial-count (scheme w) (accepted w h)
 
@@ -118,8 +114,7 @@ module _ (w : List ℕ) (h : cause w ≡ 0) where
   unfolding scheme
   few-threads = accepted w h .few-threads
 
-  pub product-few : (f b : ℕ) → f ≤ b → b ≡ bounds w → f * b ≤ 1024
-  product-few f b l e =
+  pub product-few : (f b : ℕ) → f ≤ bounds w → b ≤ 32 → f * b ≤ 1024
+  product-few f b l v =
       let u : f ≤ 32 = omega (arith, few-bounds w h) in
-      let v : b ≤ 32 = omega (arith, few-bounds w h) in
       mul-le-mul u v

@@ -15,10 +15,11 @@ use Rattle.lists.proofs.Members.{member-here, member-there, member-keep}
 use Rattle.lists.proofs.Sums.{sum, sum-append}
 use Rattle.scheme.specs.Scheme.{Scheme, send, receive}
 use Rattle.table.specs.Accepted.{Accepted}
-use Rattle.places.specs.Values.{Values, allValues, valuesOf}
-use Rattle.places.specs.Places.{controls, places}
+use Rattle.places.specs.Values.{Values, valuesOf}
+use Rattle.places.specs.Held.{valuesFor}
+use Rattle.places.specs.Places.{controls, places, common}
 use Rattle.places.specs.Rows.{IsBound}
-use Rattle.places.specs.Transitions.{Description, isInput, isOutput, releasing, copying, communicating, common, sentOn}
+use Rattle.places.specs.Transitions.{Description, isInput, isOutput, releasing, copying, communicating, sentOn}
 use Rattle.places.specs.Inner.Spans.{firstValue, endValue}
 use Rattle.places.proofs.Spans.{values-span, value-member}
 use Rattle.places.proofs.ArcCounts.{release-inputs, release-outputs, copy-inputs, copy-outputs}
@@ -71,7 +72,7 @@ total-from p a (suc n) = go (decLe p a) (decLe p (a + 1)) (total-from p (a + 1) 
 
 module _ (S : Scheme) (ok : Accepted S) where
   abbrev U : Values
-  U = allValues S
+  U = valuesFor S
 
   abbrev pub inputSum : List Description → ℕ
   inputSum ds = sum (λ d. length (positions (isInput S d) (places S U))) ds
@@ -86,19 +87,19 @@ module _ (S : Scheme) (ok : Accepted S) where
   abbrev pub boundBit : ℕ → ℕ
   boundBit x = bit (leb (S .publics) x)
 
-  pub privates-bound : (x : ℕ) → S .publics ≤ x → privatesAmong (valuesOf S U x) ≡ S .bounds
+  pub privates-bound : (x : ℕ) → S .publics ≤ x → privatesAmong (valuesOf S U x) ≡ U .privates
   unfolding firstValue endValue
   privates-bound x h =
       rw (values-span S x) (total-from (S .publics) (firstValue S x) (endValue S x - firstValue S x) ∙ rw (le-ltb x (S .publics) h) (go (S .restricted x)))
     where
       go : (b : Bool)
-          → pick b (S .publics) 0 + (S .publics + S .bounds - pick b (S .publics) 0) - pick (ltb (pick b (S .publics) 0) (S .publics)) (S .publics)
+          → pick b (S .publics) 0 + (S .publics + U .privates - pick b (S .publics) 0) - pick (ltb (pick b (S .publics) 0) (S .publics)) (S .publics)
           (pick b (S .publics) 0)
-          ≡ S .bounds
+          ≡ U .privates
       go true = rw (le-ltb (S .publics) (S .publics) (omega arith)) (omega arith)
       go false = zero-case (decLe (S .publics) 0)
         where
-          zero-case : Dec (S .publics ≤ 0) → 0 + (S .publics + S .bounds - 0) - pick (ltb 0 (S .publics)) (S .publics) 0 ≡ S .bounds
+          zero-case : Dec (S .publics ≤ 0) → 0 + (S .publics + U .privates - 0) - pick (ltb 0 (S .publics)) (S .publics) 0 ≡ U .privates
           zero-case (yes l) = rw (le-ltb 0 (S .publics) l) (omega arith)
           zero-case (no l) = rw (lt-ltb 0 (S .publics) (omega arith)) (omega arith)
 
@@ -116,18 +117,18 @@ module _ (S : Scheme) (ok : Accepted S) where
         (λ v i. release-inputs S ok n m k z v l u h b i)
         ∙ total-each 2 (valuesOf S U z)
 
-    pub release-output-sum : outputSum (map (releasing S U n m k z) (valuesOf S U z)) ≡ length (valuesOf S U z) + S .bounds
+    pub release-output-sum : outputSum (map (releasing S U n m k z) (valuesOf S U z)) ≡ length (valuesOf S U z) + U .privates
     release-output-sum =
         sum-of-map (λ d. length (positions (isOutput S d) (places S U))) (releasing S U n m k z) (valuesOf S U z)
         ∙ total-same (λ v. length (positions (isOutput S (releasing S U n m k z v)) (places S U))) (λ v. 1 + bit (leb (S .publics) v)) (valuesOf S U z)
         (λ v i. release-outputs S ok n m k z v l u h b i)
         ∙ total-line 1 (λ v. bit (leb (S .publics) v)) (valuesOf S U z) ∙ rw (privates-bound z (b .0)) (omega arith)
 
-  value-small : (x v : ℕ) → member v (valuesOf S U x) ≡ true → v < S .publics + S .bounds
+  value-small : (x v : ℕ) → member v (valuesOf S U x) ≡ true → v < S .publics + U .privates
   unfolding endValue
   value-small x v m = go (decLe (S .publics) x) (value-member S x v m .1)
     where
-      go : Dec (S .publics ≤ x) → v < pick (ltb x (S .publics)) (x + 1) (S .publics + S .bounds) → v < S .publics + S .bounds
+      go : Dec (S .publics ≤ x) → v < pick (ltb x (S .publics)) (x + 1) (S .publics + U .privates) → v < S .publics + U .privates
       go (yes l) h = rw (le-ltb x (S .publics) l) at h
       go (no l) h =
           let k : x < S .publics = omega arith in

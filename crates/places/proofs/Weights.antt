@@ -15,7 +15,8 @@ use Rattle.scheme.specs.Scheme.{Scheme, Node, stop, choice, new, call, Branch, 
 use Rattle.scheme.specs.Kinds.{isReceive}
 use Rattle.table.specs.Accepted.{Accepted}
 use Rattle.places.specs.Values.{Values, privateValues, valuesOf}
-use Rattle.places.specs.Transitions.{Description, releases, releasing, copies, copying, making, going, silents, calling, ofNode, communicating, common}
+use Rattle.places.specs.Places.{common}
+use Rattle.places.specs.Transitions.{Description, releases, releasing, copies, copying, making, going, silents, calling, ofNode, communicating}
 use Rattle.places.specs.Transitions.{sentOn, ofPair, descriptions}
 use Rattle.places.proofs.Arcs.{wordsOf, words-few}
 use Rattle.lists.proofs.Sums.{sum, sum-append, sum-map, sum-flat, sum-kept}

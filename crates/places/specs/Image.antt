@@ -5,7 +5,8 @@ use lib.ListN.{length}
 use Rattle.lists.specs.Lists.{positions}
 use Rattle.scheme.specs.Scheme.{Scheme, scheme}
 use Rattle.net.specs.Net.{Net, Transition, encode}
-use Rattle.places.specs.Values.{Values, allValues}
+use Rattle.places.specs.Values.{Values}
+use Rattle.places.specs.Held.{valuesFor}
 use Rattle.places.specs.Places.{places, isInitial}
 use Rattle.places.specs.Transitions.{Description, isInput, isOutput, descriptions}
 
@@ -18,7 +19,7 @@ module _ (S : Scheme) (U : Values) where
   netWith = record { places = length (places S U); initial = positions (isInitial S U) (places S U); transitions = map transitionOf (descriptions S U) }
 
 unfoldable pub netOf : Scheme → Net
-netOf S = netWith S (allValues S)
+netOf S = netWith S (valuesFor S)
 
 -- the image of a table's words
 unfoldable pub imageOf : List ℕ → List ℕ

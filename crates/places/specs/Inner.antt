@@ -2,5 +2,6 @@
 pub mod Arcs
 pub mod Spans
 pub mod Plan
+pub mod Holding
 pub mod Counting
 pub mod Planning

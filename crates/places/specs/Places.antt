@@ -1,9 +1,9 @@
 -- The places of a net (document 01, Places). The number of a place is its index in the list.
 use mathlib.Core.Bool.{Bool, true, false, _&&_}
-use mathlib.Core.List.{List, [], _∷_, _++_, map}
+use mathlib.Core.List.{List, [], _++_, map}
 use Prim.Native.Nat.{ℕ, suc, _+_}
 use lib.ListN.{length}
-use Rattle.lists.specs.Lists.{pick, same, from, range, flat, some}
+use Rattle.lists.specs.Lists.{pick, same, from, range, flat, some, keep, member}
 use Rattle.scheme.specs.Scheme.{Scheme, Node, stop, choice, new, call}
 use Rattle.places.specs.Values.{Values, privateValues, valuesOf, privateValuesOf}
 
@@ -37,6 +37,10 @@ module _ (S : Scheme) (U : Values) where
   -- "Per bound name in order", "Then [*≠n] for N"
   unfoldable pub rows : List Place
   rows = flat row (from (S .publics) (S .bounds)) ++ map free (privateValues S U)
+
+  -- "channel value i common to both"
+  abbrev pub common : ℕ → ℕ → List ℕ
+  common a e = keep (λ i. member i (valuesOf S U e)) (valuesOf S U a)
 
   -- "Then control places by node"
   unfoldable pub places : List Place

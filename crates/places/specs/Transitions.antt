@@ -1,15 +1,15 @@
 -- The transitions of a net (document 01, Transitions), described as in document 000, section 5.3: a label, control moves, tests and one command.
 -- Arcs come from the description once, as in its section 5.4.
-use mathlib.Core.Bool.{Bool, true, false, not, _&&_, _||_}
+use mathlib.Core.Bool.{Bool, false, _&&_, _||_}
 use mathlib.Core.List.{List, [], _∷_, _++_, map}
-use Prim.Native.Nat.{ℕ, suc, _+_}
+use Prim.Native.Nat.{ℕ, suc}
 use lib.Dec.{ltb}
 use lib.ListN.{length}
-use Rattle.lists.specs.Lists.{pick, same, from, range, keep, flat, some, member}
+use Rattle.lists.specs.Lists.{pick, same, from, range, flat, some}
 use Rattle.scheme.specs.Scheme.{Scheme, Node, stop, choice, new, call, Branch, absent, silent, send, receive}
 use Rattle.net.specs.Image.{Label, labelOf}
 use Rattle.places.specs.Values.{Values, privateValues, valuesOf}
-use Rattle.places.specs.Places.{Place, equals, differs, free, control, controls}
+use Rattle.places.specs.Places.{Place, equals, differs, free, control, controls, common}
 
 -- from one control place of a thread to another, each by its node and its index
 pub record Move : Type 0 where
@@ -153,9 +153,6 @@ module _ (S : Scheme) (U : Values) where
     command = take y j;
   }
 
-  abbrev pub common : ℕ → ℕ → List ℕ
-  common a e = keep (λ i. member i (valuesOf S U e)) (valuesOf S U a)
-
   -- "A name sent on itself has only j=i."
   abbrev pub sentOn : ℕ → ℕ → ℕ → List ℕ
   sentOn a z i = pick (same z a) (i ∷ []) (valuesOf S U z)
@@ -167,7 +164,7 @@ module _ (S : Scheme) (U : Values) where
   ofPair s (send a z l) r (silent m) = []
   ofPair s (send a z l) r (send e y m) = []
   ofPair s (send a z l) r (receive e y m) =
-      pick (same (S .thread (S .home s)) (S .thread (S .home r))) [] (flat (λ i. map (communicating s a z l r e y m i) (sentOn a z i)) (common a e))
+      pick (same (S .thread (S .home s)) (S .thread (S .home r))) [] (flat (λ i. map (communicating s a z l r e y m i) (sentOn a z i)) (common S U a e))
   ofPair s (receive a y l) r β = []
 
   -- "By node", "Then communications"

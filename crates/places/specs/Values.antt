@@ -1,6 +1,6 @@
 -- The values that names may hold (document 01, Places and Transitions). A value is a number: a public name is itself, private value n is P + n.
 -- Everything that ranges over values goes through these definitions.
-use mathlib.Core.Bool.{Bool, true, false, not, _||_}
+use mathlib.Core.Bool.{Bool, not, _||_}
 use mathlib.Core.List.{List, [], _∷_}
 use Prim.Native.Nat.{ℕ, _+_}
 use lib.Dec.{ltb, leb}
@@ -12,9 +12,9 @@ pub record Values : Type 0 where
   pub privates : ℕ
   pub reach : ℕ → ℕ → Bool
 
--- "N = B private values." "A bound input or formal ranges over all values, a restricted name over the private ones"
-unfoldable pub allValues : Scheme → Values
-allValues S = record { privates = S .bounds; reach = λ x v. not (S .restricted x) || leb (S .publics) v }
+-- "A bound input or formal ranges over all values, a restricted name over the private ones": with n private values
+abbrev pub allValues : Scheme → ℕ → Values
+allValues S n = record { privates = n; reach = λ x v. not (S .restricted x) || leb (S .publics) v }
 
 module _ (S : Scheme) (U : Values) where
   -- the private values, upward

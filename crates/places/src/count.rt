@@ -162,7 +162,7 @@ fn bound(plan: Layout, name: usize) -> usize
     1
 }
 
-fn larger(a: usize, b: usize) -> usize
+pub(crate) fn larger(a: usize, b: usize) -> usize
     ensures { λ r. ⌜ r ≡ pick (ltb a b) b a ⌝ }
 {
     if a < b {

@@ -1,13 +1,14 @@
 // Where places stand: rows of names, [*≠n], control places of nodes.
 ghost use mathlib.Core.Path.{_≡_};
-ghost use Prim.Native.Nat.{_+_, _-_, _*_, _<_, _≤_};
+ghost use Prim.Native.Nat.{_+_, _*_, _<_, _≤_};
 ghost use lib.ListN.{length};
 ghost use Rattle.scheme.specs.Words.{publics, bounds, names, nodes};
 ghost use Rattle.scheme.specs.Scheme.{scheme};
 ghost use Rattle.places.specs.Places.{controls};
 ghost use Rattle.places.specs.Rows.{rowLength, freeStart};
-ghost use Rattle.places.specs.Inner.Plan.{today, values, controlOf, freeNames, Known, Laid};
+ghost use Rattle.places.specs.Inner.Plan.{today, privatesOf, values, controlOf, freeNames, Known, Defined, Laid};
 ghost use Rattle.places.specs.Inner.Plan.{RowsBelow, SpotsBelow, Lists};
+use crate::privates::private_values;
 use lists::store32;
 use lists::word16;
 use scheme::fields::field3;
@@ -46,7 +47,7 @@ pub fn is_restricted(table: &[u16], name: usize) -> bool
 // The values of a name of the table.
 pub fn reach_of(table: &[u16], name: usize) -> Reach
     ensures { λ r. ⌜ (name < names (now (table .entry)) → Lists (publics (now (table .entry)))
-        (bounds (now (table .entry))) r (values (now (table .entry)) name)) ⌝ }
+        (privatesOf (now (table .entry))) r (values (now (table .entry)) name)) ⌝ }
 {
     let publics = word16(table, 0);
     if name < publics {
@@ -71,20 +72,22 @@ pub fn reach_of(table: &[u16], name: usize) -> Reach
 }
 
 // How many places a name's row has.
-fn row_length(table: &[u16], name: usize) -> usize
-    requires { ⌜ (publics (now table) ≤ name) × (name < names (now table)) ⌝ }
+fn row_length(table: &[u16], privates: usize, name: usize) -> usize
+    requires { ⌜ (publics (now table) ≤ name) × (name < names (now table))
+        × (privates ≡ privatesOf (now table)) × (privates ≤ 32) ⌝ }
     ensures { λ r. ⌜ (r ≡ rowLength (scheme (now (table .entry))) (today (now (table .entry))) name)
-        × (r ≤ publics (now (table .entry)) + 2 * bounds (now (table .entry))) ⌝ }
+        × (r ≤ publics (now (table .entry)) + 2 * privates) ⌝ }
 {
     if name_kind(table, name) == 0 {
-        return word16(table, 1);
+        return privates;
     }
-    word16(table, 0) + 2 * word16(table, 1)
+    word16(table, 0) + 2 * privates
 }
 
 // Fills in where each name's row starts and returns where they end.
-fn fill_rows(table: &[u16], rows: &mut [u32]) -> usize
-    requires { ⌜ (publics (now table) ≤ 32) × (bounds (now table) ≤ 32) × (64 ≤ length (now rows)) ⌝ }
+fn fill_rows(table: &[u16], privates: usize, rows: &mut [u32]) -> usize
+    requires { ⌜ (publics (now table) ≤ 32) × (bounds (now table) ≤ 32) × (64 ≤ length (now rows))
+        × (privates ≡ privatesOf (now table)) × (privates ≤ 32) ⌝ }
     ensures { λ r. ⌜ (r ≡ freeStart (scheme (now (table .entry))) (today (now (table .entry))))
         × (r ≤ 3072)
         × RowsBelow (now (table .entry)) (now (rows .exit)) (names (now (table .entry))) ⌝ }
@@ -95,7 +98,7 @@ fn fill_rows(table: &[u16], rows: &mut [u32]) -> usize
     let mut x = publics;
     while x < end {
         store32(rows, x, at as u32);
-        at += row_length(table, x);
+        at += row_length(table, privates, x);
         x += 1;
     }
     at
@@ -166,14 +169,16 @@ pub(crate) fn lay_out(
     table: &[u16],
     owners: &[u32],
     homes: &[u32],
+    definitions: &[u16],
     rows: &mut [u32],
     spots: &mut [u32],
 ) -> Layout
-    requires { ⌜ Known (now table) (now owners) (now homes) × (64 ≤ length (now rows)) × (256 ≤ length (now spots)) ⌝ }
+    requires { ⌜ Known (now table) (now owners) (now homes) × Defined (now table) (now homes) (now definitions)
+        × (64 ≤ length (now rows)) × (256 ≤ length (now spots)) ⌝ }
     ensures { λ r. ⌜ Laid (now (table .entry)) (now (rows .exit)) (now (spots .exit)) r ⌝ }
 {
-    let privates = word16(table, 1);
-    let free = fill_rows(table, rows);
+    let privates = private_values(table, owners, homes, definitions);
+    let free = fill_rows(table, privates, rows);
     let controls = free + privates;
     let places = fill_spots(table, owners, homes, controls, spots);
     Layout {

@@ -1,9 +1,9 @@
 // The net of a table before it is written: where its places stand, and how many transitions and arcs it has.
-ghost use mathlib.Core.Path.{_≡_};
 ghost use Rattle.places.specs.Inner.Planning.{Room, PlanRight, MeasureRight};
 
 pub mod count;
 pub mod layout;
+mod privates;
 
 use count::Totals;
 use layout::Layout;
@@ -75,7 +75,8 @@ pub fn plan(
     let owned: &[u32] = owners;
     let homed: &[u32] = homes;
     scheme::index::first_definitions(owned, homed, word16(table, 4), definitions);
-    Planned::Places(layout::lay_out(table, owned, homed, rows, spots))
+    let defined: &[u16] = definitions;
+    Planned::Places(layout::lay_out(table, owned, homed, defined, rows, spots))
 }
 
 // As `plan`, with the counts of transitions and arcs.

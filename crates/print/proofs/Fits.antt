@@ -1,5 +1,5 @@
 -- Every text that the listing program prints has room in 262,144 bytes: an image of at most 16,384 words is listed in six bytes a word and thirty more.
-use mathlib.Core.Path.{_≡_, refl, sym, ap, subst, _∙_}
+use mathlib.Core.Path.{_≡_, sym, ap, subst, _∙_}
 use mathlib.Core.Bool.{Bool, true, false, _||_}
 use mathlib.Core.List.{List, [], _∷_}
 use mathlib.Core.Logic.{_⊎_, inl, inr}
@@ -20,7 +20,8 @@ use Rattle.rewriting.proofs.Theorem.{rewritten-accepted}
 use Rattle.net.specs.Image.{Label, labelOf}
 use Rattle.net.specs.Net.{transitionAt, encode}
 use Rattle.net.proofs.Encode as Encode
-use Rattle.places.specs.Values.{Values, allValues}
+use Rattle.places.specs.Values.{Values}
+use Rattle.places.specs.Held.{valuesFor}
 use Rattle.places.specs.Transitions.{Description, skip, descriptions}
 use Rattle.places.specs.Image.{netWith, imageOf}
 use Rattle.places.proofs.Rows.{places-length}
@@ -79,7 +80,7 @@ module _ (w : List ℕ) (h : cause w ≡ 0) where
   S = scheme w
 
   abbrev U : Values
-  U = allValues (scheme w)
+  U = valuesFor (scheme w)
 
   -- stands past the last description
   abbrev none : Description

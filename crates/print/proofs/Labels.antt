@@ -11,7 +11,8 @@ use Rattle.lists.proofs.Members.{member-here, member-there}
 use Rattle.scheme.specs.Scheme.{Scheme, Node, stop, choice, new, call, Branch, absent, silent, send, receive}
 use Rattle.table.specs.Accepted.{NameOf, Accepted}
 use Rattle.places.specs.Values.{Values, privateValues, valuesOf}
-use Rattle.places.specs.Transitions.{Description, releases, releasing, copies, copying, making, silents, ofNode, communicating, common, sentOn}
+use Rattle.places.specs.Places.{common}
+use Rattle.places.specs.Transitions.{Description, releases, releasing, copies, copying, making, silents, ofNode, communicating, sentOn}
 use Rattle.places.specs.Transitions.{ofPair, descriptions}
 use Rattle.print.proofs.Lengths.{Each, Small, SmallLabel}
 

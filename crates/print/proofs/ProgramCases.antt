@@ -15,6 +15,7 @@ use Rattle.rewriting.proofs.Cases.{tableLoop}
 use Rattle.net.specs.Image as ImageN
 use Rattle.net.specs.Net as NetN
 use Rattle.places.specs.Values as ValuesB
+use Rattle.places.specs.Held as HeldB
 use Rattle.places.specs.Places as PlacesB
 use Rattle.places.specs.Transitions as TransitionsB
 use Rattle.places.specs.Image as ImageB
@@ -92,7 +93,8 @@ unfolding ListsL.same ListsL.from ListsL.every ListsL.some ListsL.keep ListsL.fl
     RewritingR.definitionWords RewritingR.definitionCopy RewritingR.nodeWords RewritingR.nodeCopy RewritingR.branchWords RewritingR.branchCopy
     RewritingR.namePart RewritingR.definitionPart RewritingR.threadPart RewritingR.nodePart RewritingR.branchPart RewritingR.argumentPart
     RewritingR.rewrittenHeader RewritingR.rewritten OutcomesR.rewriteCause ImageN.headerRight ImageN.recordRight NetN.recordsFrom NetN.encode
-    NetN.isAscending ValuesB.allValues ValuesB.valuesOf ValuesB.privateValuesOf PlacesB.controls PlacesB.controlPlaces PlacesB.row PlacesB.rows
-    PlacesB.places TransitionsB.isInput TransitionsB.isOutput TransitionsB.releases TransitionsB.copies TransitionsB.descriptions ImageB.netWith
-    ImageB.netOf ImageB.imageOf digitsOf line headerLine transitionLine listing wordsOf isOdd programCause programText
+    NetN.isAscending HeldB.largest HeldB.heldCounts HeldB.mostHeld HeldB.privateCount HeldB.valuesFor ValuesB.valuesOf ValuesB.privateValuesOf
+    PlacesB.controls PlacesB.controlPlaces PlacesB.row PlacesB.rows PlacesB.places TransitionsB.isInput TransitionsB.isOutput
+    TransitionsB.releases TransitionsB.copies TransitionsB.descriptions ImageB.netWith ImageB.netOf ImageB.imageOf
+    digitsOf line headerLine transitionLine listing wordsOf isOdd programCause programText
 all-right = (refl, (refl, (refl, (refl, (refl, (refl, (refl, (refl, (refl, (refl, (refl, (refl, (refl, tt)))))))))))))

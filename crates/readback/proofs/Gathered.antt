@@ -1,19 +1,19 @@
 -- The spots of a thread and the values of a bound name among the marked places, by the numbers of places.
 use mathlib.Core.Path.{_≡_, refl, sym, ap, _∙_, fun-ext}
 use mathlib.Core.Logic.{_≢_, _⊎_, inl, inr}
-use mathlib.Core.Bool.{Bool, true, false, _&&_}
-use mathlib.Core.List.{List, [], _∷_, _++_, map, append-nil}
+use mathlib.Core.Bool.{Bool, true, false}
+use mathlib.Core.List.{List, [], _∷_, map, append-nil}
 use Prim.Native.Nat.{ℕ, zero, suc, _+_, _-_, _≤_, _<_}
 use native.Mathlib.Omega.{arith}
-use lib.Dec.{ltb}
 use borrow.Author.Tests.{le-ltb}
-use Rattle.lists.specs.Lists.{pick, same, from, range, keep, flat, member}
-use Rattle.lists.proofs.Tests.{same-self, same-no, true-or-false}
+use Rattle.lists.specs.Lists.{pick, same, from, range, keep, flat}
+use Rattle.lists.proofs.Tests.{same-self, same-no}
 use Rattle.lists.proofs.Ranges.{member-from, from-member}
 use Rattle.lists.proofs.Members.{flat-same, distinct-from}
 use Rattle.lists.proofs.Numbered.{map-keep-flat}
 use Rattle.scheme.specs.Scheme.{Scheme}
-use Rattle.places.specs.Values.{Values, allValues, valuesOf, privateValues, privateValuesOf}
+use Rattle.places.specs.Values.{Values, valuesOf, privateValues, privateValuesOf}
+use Rattle.places.specs.Held.{valuesFor}
 use Rattle.places.specs.Places.{Place, equals, differs, free, control, controls, controlPlaces, row, rows, places}
 use Rattle.places.specs.Rows.{rowStart, controlStart, numberOf}
 use Rattle.places.specs.Inner.Spans.{firstValue, endValue}
@@ -49,7 +49,7 @@ module _ {A : Type 0} (m : List ℕ) (start low count : ℕ) (test : ℕ → Boo
 
 module _ (S : Scheme) (m : List ℕ) where
   abbrev U : Values
-  U = allValues S
+  U = valuesFor S
 
   abbrev among : List Place → List Place
   among ps = keep (chosen S U m) ps
@@ -132,7 +132,7 @@ module _ (S : Scheme) (m : List ℕ) where
         go false = refl
 
     -- the values that a bound name may hold, from its least on
-    values-from : valuesOf S U x ≡ from (lowest S x) (S .publics + S .bounds - lowest S x)
+    values-from : valuesOf S U x ≡ from (lowest S x) (S .publics + U .privates - lowest S x)
     unfolding firstValue endValue
     values-from = rw (le-ltb x (S .publics) lo) at (values-span S x)
 
@@ -145,7 +145,7 @@ module _ (S : Scheme) (m : List ℕ) where
     unfolding valuesAt
     own-values =
         rw (same-self x, values-from)
-        (flat-hits m (rowStart S U x) (lowest S x) (S .publics + S .bounds - lowest S x) (λ v. chosen S U m (equals x v)) (λ v. v)
+        (flat-hits m (rowStart S U x) (lowest S x) (S .publics + U .privates - lowest S x) (λ v. chosen S U m (equals x v)) (λ v. v)
         (λ i l. ap (token m) (number-from (S .restricted x) refl i)))
 
     rows-values : flat g (among (rows S U)) ≡ valuesAt S m x

@@ -1,8 +1,8 @@
 -- The marked control places of one node more, noted for its thread.
-use mathlib.Core.Path.{_≡_, refl, sym, ap, subst, _∙_}
+use mathlib.Core.Path.{_≡_, refl, sym, ap, _∙_}
 use mathlib.Core.Bool.{Bool, true, false}
 use mathlib.Core.List.{List, [], _∷_, _++_, map, append-nil, append-assoc}
-use Prim.Native.Nat.{ℕ, zero, suc, _+_, _-_, _*_, _≤_, _<_}
+use Prim.Native.Nat.{ℕ, zero, suc, _+_, _*_, _≤_, _<_}
 use native.Mathlib.Decide.{ℕ-discrete}
 use native.Mathlib.Numerals.{add-one}
 use native.Mathlib.Omega.{arith}
@@ -14,9 +14,8 @@ use Rattle.lists.proofs.Ranges.{from-snoc, from-member, every-same}
 use Rattle.scheme.specs.Words.{threads, nodes}
 use Rattle.scheme.specs.Index.{threadIn}
 use Rattle.scheme.specs.Scheme.{Scheme, scheme}
-use Rattle.table.specs.Accepted.{Accepted}
 use Rattle.table.proofs.Accepted.{accepted}
-use Rattle.places.specs.Values.{allValues}
+use Rattle.places.specs.Held.{valuesFor}
 use Rattle.places.specs.Places.{controls}
 use Rattle.places.specs.Rows.{controlStart}
 use Rattle.places.specs.Inner.Plan.{controlOf}
@@ -25,7 +24,7 @@ use Rattle.places.proofs.Controls.{controls-few}
 use Rattle.readback.specs.Configurations.{Spot, spot}
 use Rattle.readback.specs.Inner.Hits.{hits, FoundOf}
 use Rattle.readback.specs.Inner.Standing.{firstOf, spotsOn, spotsBelow, spotsAt, spotsRight}
-use Rattle.readback.specs.Inner.Noting.{Placed, Room, Noted, NotedAll, Noting, Seeking, SpotsFound}
+use Rattle.readback.specs.Inner.Noting.{Room, NotedAll, Noting, Seeking, SpotsFound}
 use Rattle.readback.specs.declared.found.Found.{Found}
 use Rattle.readback.proofs.Finding.{hits-few, hits-below}
 use Rattle.readback.proofs.Controls.{nodes-small, starts-at, controls-small}
@@ -64,7 +63,7 @@ module _ (S : Scheme) (m : List ℕ) where
   below-none t = refl
 
   on-few : (n : ℕ) → length (spotsOn S m n) ≤ controls S n
-  on-few n = rw (length-map (hits m (controlStart S (allValues S) n) (controls S n)) (spot n)) (hits-few m (controlStart S (allValues S) n) (controls S n))
+  on-few n = rw (length-map (hits m (controlStart S (valuesFor S) n) (controls S n)) (spot n)) (hits-few m (controlStart S (valuesFor S) n) (controls S n))
 
   below-few : ((n : ℕ) → controls S n ≤ 65) → (n t : ℕ) → length (spotsBelow S m n t) ≤ n * 65
   below-few h zero t = rw (below-none t) (omega arith)

@@ -1,23 +1,23 @@
 -- Where each thread has one marked control place, a name is held at some thread's place exactly where it is held at its own thread's.
-use mathlib.Core.Path.{_≡_, refl, sym, ap, subst, _∙_}
+use mathlib.Core.Path.{_≡_, refl, sym, ap, _∙_}
 use mathlib.Core.Logic.{_⊎_, inl, inr}
 use mathlib.Core.Bool.{Bool, true, false}
-use mathlib.Core.List.{List, [], _∷_, _++_, map}
+use mathlib.Core.List.{List, [], _++_}
 use Prim.Native.Nat.{ℕ, zero, suc, _+_, _-_, _≤_, _<_}
 use native.Mathlib.Decide.{ℕ-discrete}
 use native.Mathlib.Omega.{arith}
 use lib.ListN.{length, take, drop, replicate, length-append, length-map}
-use Rattle.lists.specs.Lists.{pick, bit, same, word, from, range, every, flat, member}
-use Rattle.lists.proofs.Tests.{both-ways, true-or-false, same-true}
+use Rattle.lists.specs.Lists.{pick, bit, same, word, from, range, member}
+use Rattle.lists.proofs.Tests.{both-ways, same-true}
 use Rattle.lists.proofs.Ranges.{from-member, member-from, every-at, every-same}
 use Rattle.lists.proofs.Members.{append-member, member-take, member-drop, member-flat, flat-member}
 use Rattle.scheme.specs.Words.{publics, names, threads, nodes}
 use Rattle.scheme.specs.Scheme.{Scheme, Node, stop, choice, new, call, scheme}
-use Rattle.table.specs.Accepted.{Accepted, NameOf}
+use Rattle.table.specs.Accepted.{Accepted}
 use Rattle.table.specs.Causes.{cause}
 use Rattle.table.proofs.Accepted.{accepted}
 use Rattle.net.specs.Firing.{put}
-use Rattle.places.specs.Values.{allValues}
+use Rattle.places.specs.Held.{valuesFor}
 use Rattle.places.specs.Places.{controls}
 use Rattle.places.specs.Rows.{controlStart}
 use Rattle.places.proofs.Controls.{publics-are, bounds-are}
@@ -41,8 +41,8 @@ module _ (S : Scheme) (m : List ℕ) where
     where
       here : (b : Bool) → same (S .thread n) t ≡ b → (length (pick b (spotsOn S m n) []) ≡ 0 → ⊥) → Own (n + 1) t (firstOf (pick b (spotsOn S m n) []))
       here true q k =
-          rw (first-map n (hits m (controlStart S (allValues S) n) (controls S n))
-          (λ z. k (length-map (hits m (controlStart S (allValues S) n) (controls S n)) (spot n) ∙ z)))
+          rw (first-map n (hits m (controlStart S (valuesFor S) n) (controls S n))
+          (λ z. k (length-map (hits m (controlStart S (valuesFor S) n) (controls S n)) (spot n) ∙ z)))
           (omega arith, same-true (S .thread n) t q)
       here false q k = absurd (k refl)
 

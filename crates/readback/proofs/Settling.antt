@@ -1,25 +1,24 @@
 -- A marking of a table that is laid out: the tests in the code's order decide whether it stands for a state.
 use mathlib.Core.Path.{_≡_, refl, sym, ap, _∙_}
 use mathlib.Core.Bool.{Bool, true, false, _&&_, false≢true}
-use mathlib.Core.List.{List, []}
-use Prim.Native.Nat.{ℕ, zero, suc, _+_, _≤_, _<_}
+use mathlib.Core.List.{List}
+use Prim.Native.Nat.{ℕ, zero, suc}
 use native.Mathlib.Omega.{arith}
 use lib.ListN.{length, replicate}
 use Rattle.lists.specs.Lists.{word}
-use Rattle.scheme.specs.Words.{names, nodes}
+use Rattle.scheme.specs.Words.{names}
 use Rattle.scheme.specs.Scheme.{Scheme, scheme}
 use Rattle.net.specs.Firing.{isMarking, put}
-use Rattle.places.specs.Values.{allValues}
 use Rattle.places.specs.Places
-use Rattle.places.specs.Inner.Plan.{today, controlOf, Known, Defined, Laid}
+use Rattle.places.specs.Inner.Plan.{today, controlOf}
 use Rattle.places.specs.declared.layout.Layout.{Layout}
 use Rattle.places.proofs.Rows.{places-length}
 use Rattle.places.proofs.Controls.{nodes-are}
 use Rattle.readback.specs.Inner.Standing.{spotsRight, valuesRight, heldBit, opposedAll, freedAll}
-use Rattle.readback.specs.Inner.Noting.{Placed, Room, Clear, Seeking, SpotsFound}
+use Rattle.readback.specs.Inner.Noting.{Seeking, SpotsFound}
 use Rattle.readback.specs.Inner.Showing.{AtNodes}
 use Rattle.readback.specs.Inner.Holding.{heldAll, ValuesBelow}
-use Rattle.readback.specs.Inner.Settling.{Ready, Settling, Settled, standsIn, Settles}
+use Rattle.readback.specs.Inner.Settling.{Ready, standsIn, Settles}
 use Rattle.readback.proofs.Stands.{stands-is}
 use Rattle.readback.proofs.Owning.{at-nodes, held-bits}
 

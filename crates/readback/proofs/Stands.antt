@@ -1,24 +1,25 @@
 -- Whether a marking stands for a state, and the configuration that it has, by the numbers of places.
-use mathlib.Core.Path.{_≡_, refl, sym, ap, _∙_, fun-ext}
+use mathlib.Core.Path.{_≡_, refl, ap, _∙_}
 use mathlib.Core.Bool.{Bool, true, false, not, _&&_, _||_}
-use mathlib.Core.Option.{Option, none, some}
+use mathlib.Core.Option.{some}
 use mathlib.Core.List.{List, [], _∷_}
-use Prim.Native.Nat.{ℕ, zero, suc, _+_, _-_, _≤_, _<_}
+use Prim.Native.Nat.{ℕ, zero, suc, _+_, _≤_, _<_}
 use native.Mathlib.Omega.{arith}
 use lib.Dec.{ltb}
 use lib.ListN.{length}
 use borrow.Author.Tests.{le-ltb}
-use Rattle.lists.specs.Lists.{pick, bit, same, from, range, every, keep, member}
+use Rattle.lists.specs.Lists.{pick, same, from, range, every, keep}
 use Rattle.lists.proofs.Ranges.{from-member, every-same}
-use Rattle.lists.proofs.Members.{keep-same}
+use Rattle.lists.proofs.Members.{keep-same, keep-all}
 use Rattle.scheme.specs.Scheme.{Scheme}
 use Rattle.net.specs.Firing.{isMarking}
-use Rattle.places.specs.Values.{Values, allValues, privateValues}
-use Rattle.places.specs.Places.{Place, equals, differs, free, control, places}
-use Rattle.places.specs.Rows.{rowStart, freeStart, numberOf, Exists, has-equals, has-differs, has-free}
+use Rattle.places.specs.Values.{Values, privateValues, privateValuesOf}
+use Rattle.places.specs.Held.{valuesFor}
+use Rattle.places.specs.Places.{Place, equals, differs, free, places}
+use Rattle.places.specs.Rows.{rowStart, freeStart, has-equals, has-differs, has-free}
 use Rattle.places.proofs.Today.{private-reached, equals-number, equals-restricted, differs-number}
-use Rattle.readback.specs.Configurations.{Spot, spot, Configuration, heldHere}
-use Rattle.readback.specs.Reading.{marked, has, spots, values, firstSpot, firstValue, configuration}
+use Rattle.readback.specs.Configurations.{Spot}
+use Rattle.readback.specs.Reading.{marked, has, firstSpot, firstValue, configuration}
 use Rattle.readback.specs.Reading.{oneSpot, oneValue, opposite, freeRight, standsForState}
 use Rattle.readback.specs.Inner.Hits.{token}
 use Rattle.readback.specs.Inner.Standing.{firstOf, valueOf, justOne, spotsAt, valuesAt, opposedAt, opposedAll, holdersAt, freedAll}
@@ -42,7 +43,7 @@ just-one false false = refl
 
 module _ (S : Scheme) (m : List ℕ) where
   abbrev U : Values
-  U = allValues S
+  U = valuesFor S
 
   abbrev ms : List Place
   ms = keep (chosen S U m) (places S U)
@@ -71,30 +72,26 @@ module _ (S : Scheme) (m : List ℕ) where
 
   -- ---- places by their numbers
 
-  has-equal : (x i : ℕ) → S .publics ≤ x → x < S .publics + S .bounds → i < S .bounds → S .restricted x ≡ false
+  has-equal : (x i : ℕ) → S .publics ≤ x → x < S .publics + S .bounds → i < U .privates → S .restricted x ≡ false
       → has ms (equals x (S .publics + i)) ≡ token m (rowStart S U x + S .publics + i)
-  unfolding allValues
   has-equal x i lo hi l r =
       has-number S U m (equals x (S .publics + i)) (has-equals (lo, hi) (omega arith) (private-reached S x (S .publics + i) (omega arith)))
       ∙ ap (token m) (equals-number S x (S .publics + i) r ∙ omega arith)
 
-  has-taken : (x i : ℕ) → S .publics ≤ x → x < S .publics + S .bounds → i < S .bounds → S .restricted x ≡ true
+  has-taken : (x i : ℕ) → S .publics ≤ x → x < S .publics + S .bounds → i < U .privates → S .restricted x ≡ true
       → has ms (equals x (S .publics + i)) ≡ token m (rowStart S U x + i)
-  unfolding allValues
   has-taken x i lo hi l r =
       has-number S U m (equals x (S .publics + i)) (has-equals (lo, hi) (omega arith) (private-reached S x (S .publics + i) (omega arith)))
       ∙ ap (token m) (equals-restricted S x (S .publics + i) r (omega arith) ∙ omega arith)
 
-  has-different : (x i : ℕ) → S .publics ≤ x → x < S .publics + S .bounds → i < S .bounds → S .restricted x ≡ false
-      → has ms (differs x (S .publics + i)) ≡ token m (rowStart S U x + S .publics + S .bounds + i)
-  unfolding allValues
+  has-different : (x i : ℕ) → S .publics ≤ x → x < S .publics + S .bounds → i < U .privates → S .restricted x ≡ false
+      → has ms (differs x (S .publics + i)) ≡ token m (rowStart S U x + S .publics + U .privates + i)
   has-different x i lo hi l r =
       has-number S U m (differs x (S .publics + i))
       (has-differs (lo, hi) r (omega arith, omega arith) (private-reached S x (S .publics + i) (omega arith)))
       ∙ ap (token m) (differs-number S x (S .publics + i) lo r ∙ omega arith)
 
-  has-left : (i : ℕ) → i < S .bounds → has ms (free (S .publics + i)) ≡ token m (freeStart S U + i)
-  unfolding allValues
+  has-left : (i : ℕ) → i < U .privates → has ms (free (S .publics + i)) ≡ token m (freeStart S U + i)
   has-left i l = has-number S U m (free (S .publics + i)) (has-free (omega arith, omega arith)) ∙ ap (token m) (omega arith)
 
   -- ---- the four tests
@@ -112,29 +109,30 @@ module _ (S : Scheme) (m : List ℕ) where
       rw (values-are S m x (b .0) (b .1), at-is (S .nameThread x)))
 
   opposite-right : (x : ℕ) → S .publics ≤ x → x < S .publics + S .bounds → S .restricted x ≡ false
-      → every (opposite S U ms x) (privateValues S U) ≡ every (opposedAt S m x) (range (S .bounds))
-  unfolding allValues
+      → every (opposite S U ms x) (privateValuesOf S U x) ≡ every (opposedAt S m x) (range (U .privates))
+  unfolding privateValuesOf
   opposite-right x lo hi r =
-      every-from (opposite S U ms x) (S .publics) (S .bounds)
-      ∙ every-same (λ i. opposite S U ms x (S .publics + i)) (opposedAt S m x) (range (S .bounds))
+      ap (every (opposite S U ms x)) (keep-all (U .reach x) (privateValues S U) (λ v i. private-reached S x v (from-member v (S .publics) (U .privates) i .0)))
+      ∙ every-from (opposite S U ms x) (S .publics) (U .privates)
+      ∙ every-same (λ i. opposite S U ms x (S .publics + i)) (opposedAt S m x) (range (U .privates))
       (λ i k.
-      let l : i < S .bounds = omega (arith, from-member i 0 (S .bounds) k) in
+      let l : i < U .privates = omega (arith, from-member i 0 (U .privates) k) in
       rw (has-different x i lo hi l r, has-equal x i lo hi l r)
-      (just-one (token m (rowStart S U x + S .publics + i)) (token m (rowStart S U x + S .publics + S .bounds + i))))
+      (just-one (token m (rowStart S U x + S .publics + i)) (token m (rowStart S U x + S .publics + U .privates + i))))
 
-  opposed-right : every (λ x. S .restricted x || every (opposite S U ms x) (privateValues S U)) (from (S .publics) (S .bounds)) ≡ opposedAll S m
+  opposed-right : every (λ x. S .restricted x || every (opposite S U ms x) (privateValuesOf S U x)) (from (S .publics) (S .bounds)) ≡ opposedAll S m
   unfolding opposedAll
   opposed-right =
-      every-same (λ x. S .restricted x || every (opposite S U ms x) (privateValues S U))
-      (λ x. S .restricted x || every (opposedAt S m x) (range (S .bounds))) (from (S .publics) (S .bounds))
+      every-same (λ x. S .restricted x || every (opposite S U ms x) (privateValuesOf S U x))
+      (λ x. S .restricted x || every (opposedAt S m x) (range (U .privates))) (from (S .publics) (S .bounds))
       (λ x i. let b = from-member x (S .publics) (S .bounds) i in go x (b .0) (b .1) (S .restricted x) refl)
     where
       go : (x : ℕ) → S .publics ≤ x → x < S .publics + S .bounds → (b : Bool) → S .restricted x ≡ b
-          → (b || every (opposite S U ms x) (privateValues S U)) ≡ (b || every (opposedAt S m x) (range (S .bounds)))
+          → (b || every (opposite S U ms x) (privateValuesOf S U x)) ≡ (b || every (opposedAt S m x) (range (U .privates)))
       go x lo hi true r = refl
       go x lo hi false r = opposite-right x lo hi r
 
-  holders-are : (i : ℕ) → i < S .bounds → keep (λ x. S .restricted x && has ms (equals x (S .publics + i))) (from (S .publics) (S .bounds)) ≡ holdersAt S m i
+  holders-are : (i : ℕ) → i < U .privates → keep (λ x. S .restricted x && has ms (equals x (S .publics + i))) (from (S .publics) (S .bounds)) ≡ holdersAt S m i
   holders-are i l =
       keep-same (λ x. S .restricted x && has ms (equals x (S .publics + i))) (λ x. S .restricted x && token m (rowStart S U x + i))
       (from (S .publics) (S .bounds))
@@ -146,12 +144,13 @@ module _ (S : Scheme) (m : List ℕ) where
       go x lo hi false r = refl
 
   freed-right : every (freeRight S U ms) (privateValues S U) ≡ freedAll S m
-  unfolding freedAll allValues
+  unfolding freedAll
   freed-right =
-      every-from (freeRight S U ms) (S .publics) (S .bounds)
-      ∙ every-same (λ i. freeRight S U ms (S .publics + i)) (λ n. same (length (holdersAt S m n)) (pick (token m (freeStart S U + n)) 0 1)) (range (S .bounds))
+      every-from (freeRight S U ms) (S .publics) (U .privates)
+      ∙ every-same (λ i. freeRight S U ms (S .publics + i))
+      (λ n. same (length (holdersAt S m n)) (pick (token m (freeStart S U + n)) 0 1)) (range (U .privates))
       (λ i k.
-      let l : i < S .bounds = omega (arith, from-member i 0 (S .bounds) k) in
+      let l : i < U .privates = omega (arith, from-member i 0 (U .privates) k) in
       rw (holders-are i l, has-left i l))
 
   -- ---- a marking of the net

@@ -14,13 +14,13 @@ use Rattle.lists.proofs.Ranges.{from-more, from-done}
 use Rattle.scheme.specs.Words.{publics, bounds, names}
 use Rattle.scheme.specs.Scheme.{Scheme, scheme}
 use Rattle.process.specs.Inner.Values.{valueAt}
-use Rattle.places.specs.Values.{allValues}
+use Rattle.places.specs.Held.{valuesFor}
 use Rattle.places.specs.Rows.{rowStart}
 use Rattle.places.specs.Inner.Plan.{Rowed}
 use Rattle.places.specs.declared.layout.Layout.{Layout}
 use Rattle.places.proofs.Controls.{publics-are, bounds-are}
 use Rattle.readback.specs.Inner.Hits.{token, hits, FoundOf}
-use Rattle.readback.specs.Inner.Standing.{valueOf, justOne, lowest, valuesAt, valueRight, valuesRight, opposedAt, opposedFor, opposedAll}
+use Rattle.readback.specs.Inner.Standing.{valueOf, justOne, lowest, valuesAt, valueRight, valuesRight, opposedFor, opposedAll}
 use Rattle.readback.specs.Inner.Standing.{holdsAt, holdersAt, wantedAt, freedFor, freedAll}
 use Rattle.readback.specs.Inner.Holding.{IsName, Filled, ValuesBelow}
 use Rattle.readback.specs.declared.found.Found.{Found}
@@ -48,17 +48,17 @@ module _ (w rows m held : List ℕ) (plan : Layout) (R : Rowed w rows plan) (x :
   pub low-few : low ≤ plan .publics
   low-few = omega (arith, low-is, lowest-few S x, publics-are w, R .publics-are)
 
-  pub plan-few : plan .publics + plan .bounds ≤ 64
-  plan-few = omega (arith, R .publics-are, R .bounds-are, R .few-publics, R .few-bounds)
+  pub plan-few : plan .publics + plan .privates ≤ 64
+  plan-few = omega (arith, R .publics-are, R .privates-are, R .few-publics, R .few-privates)
 
-  module _ (start : ℕ) (start-is : start ≡ word rows x) (f : Found) (F : FoundOf (hits m start (plan .publics + plan .bounds - low)) f) where
+  module _ (start : ℕ) (start-is : start ≡ word rows x) (f : Found) (F : FoundOf (hits m start (plan .publics + plan .privates - low)) f) where
     abbrev hs : List ℕ
-    hs = hits m (rowStart S (allValues S) x) (S .publics + S .bounds - lowest S x)
+    hs = hits m (rowStart S (valuesFor S) x) (S .publics + valuesFor S .privates - lowest S x)
 
     found-here : FoundOf hs f
     found-here =
-        let e : plan .publics + plan .bounds - low ≡ S .publics + S .bounds - lowest S x
-        = omega (arith, low-is, R .publics-are, R .bounds-are, publics-are w, bounds-are w) in
+        let e : plan .publics + plan .privates - low ≡ S .publics + valuesFor S .privates - lowest S x
+        = omega (arith, low-is, R .publics-are, R .privates-are, publics-are w) in
         rw (start-is ∙ R .row-is x (nm .0) (nm .1), e) at F
 
     length-is : length (valuesAt S m x) ≡ f .count
@@ -84,14 +84,13 @@ module _ (w rows m held : List ℕ) (plan : Layout) (R : Rowed w rows plan) (x :
         omega (
           arith,
           found-here .first-is,
-          hits-below m (rowStart S (allValues S) x) (S .publics + S .bounds - lowest S x) (λ q. d (found-here .count-is ∙ q)),
+          hits-below m (rowStart S (valuesFor S) x) (S .publics + valuesFor S .privates - lowest S x) (λ q. d (found-here .count-is ∙ q)),
           low-is,
           lowest-few S x,
           plan-few,
           R .publics-are,
-          R .bounds-are,
+          R .privates-are,
           publics-are w,
-          bounds-are w,
         )
 
     pub fill-some : (before after : List ℕ) → (f .count ≡ 0 → ⊥) → after ≡ set before x (low + f .first) → Filled w m x before after
@@ -148,14 +147,14 @@ module _ (w rows : List ℕ) (plan : Layout) (R : Rowed w rows plan) (m : List �
 
   pub freed-start : freedAll (scheme w) m ≡ every (freedFor (scheme w) m) (from 0 (plan .privates - 0))
   unfolding freedAll
-  freed-start = let b : scheme w .bounds ≡ plan .privates - 0 = omega (arith, R .privates-are, bounds-are w) in rw b
+  freed-start = let b : valuesFor (scheme w) .privates ≡ plan .privates - 0 = omega (arith, R .privates-are) in rw b
 
   pub opposed-is : (x row : ℕ) → IsName w x → row ≡ word rows x → scheme w .restricted x ≡ false
       → every (λ i. justOne (token m (row + plan .publics + i)) (token m (row + plan .publics + plan .privates + i))) (range (plan .privates))
       ≡ opposedFor (scheme w) m x
   opposed-is x row nm e r =
       let a : plan .publics ≡ scheme w .publics = omega (arith, R .publics-are, publics-are w) in
-      let b : plan .privates ≡ scheme w .bounds = omega (arith, R .privates-are, bounds-are w) in
+      let b : plan .privates ≡ valuesFor (scheme w) .privates = R .privates-are in
       rw (e ∙ R .row-is x (nm .0) (nm .1), a, b, r)
 
   pub wanted-is : (n : ℕ) → pick (token m (plan .free + n)) 0 1 ≡ wantedAt (scheme w) m n

@@ -1,9 +1,9 @@
 -- Configurations: where each thread stands in the net and which value each name has, the names held there, and the state that a configuration shows
 -- (document 01, Transitions, last paragraph).
-use mathlib.Core.Bool.{Bool, true, false, _&&_}
+use mathlib.Core.Bool.{Bool}
 use mathlib.Core.Option.{Option, none, some}
-use mathlib.Core.List.{List, [], _∷_, _++_}
-use Prim.Native.Nat.{ℕ, zero, suc, _+_, _-_}
+use mathlib.Core.List.{List}
+use Prim.Native.Nat.{ℕ, zero, suc, _+_}
 use lib.Dec.{ltb, leb}
 use lib.ListN.{length, take, drop}
 use Rattle.lists.specs.Lists.{pick, same, member}
@@ -11,6 +11,7 @@ use Rattle.scheme.specs.Scheme.{Scheme, Node, stop, choice, new, call}
 use Rattle.scheme.specs.Kinds.{isStop}
 use Rattle.process.specs.States.{State, valueOf}
 use Rattle.process.specs.Steps.{passed}
+use Rattle.places.specs.Held.{namesAt}
 
 -- control place k of a node
 pub record Spot : Type 0 where
@@ -25,13 +26,9 @@ pub record Configuration : Type 0 where
   pub value : ℕ → Option ℕ
 
 module _ (S : Scheme) where
-  -- "In a call's chain the held names are the copied formals and the unreleased caller's names". "In a Stop's chain the unreleased names are held".
-  -- "a Call's own place stands for the Call node"
+  -- the names held at a spot
   abbrev pub heldAt : Node → Spot → List ℕ
-  heldAt stop p = drop (p .index) (S .held (p .node))
-  heldAt (choice f c) p = S .held (p .node)
-  heldAt (new r l) p = S .held (p .node)
-  heldAt (call d) p = take (p .index - 1) (S .formals d) ++ drop (p .index - suc (length (S .formals d))) (S .held (p .node))
+  heldAt ν p = namesAt S ν (p .node) (p .index)
 
   abbrev pub heldHere : Spot → List ℕ
   heldHere p = heldAt (S .node (p .node)) p

@@ -1,9 +1,9 @@
 -- Markings that stand for a state, and reading one back (document 01, Transitions, last paragraph): "A marking stands for a state when each thread has one marked
 -- control place, each name held there one marked value and every other name none, [x≠n] is marked exactly without [x=n], and [*≠n] exactly when no restricted
 -- name has n; two restricted names never share n."
-use mathlib.Core.Bool.{Bool, true, false, not, _&&_, _||_}
+use mathlib.Core.Bool.{Bool, false, not, _&&_, _||_}
 use mathlib.Core.Option.{Option, none, some}
-use mathlib.Core.List.{List, [], _∷_, _++_}
+use mathlib.Core.List.{List, [], _∷_}
 use Prim.Native.Nat.{ℕ, _+_}
 use lib.Dec.{ltb}
 use lib.ListN.{length}
@@ -12,7 +12,8 @@ use Rattle.lists.specs.Lists.{pick, bit, same, from, range, every, keep, member
 use Rattle.scheme.specs.Scheme.{Scheme, scheme}
 use Rattle.process.specs.StateWords.{stateWords}
 use Rattle.net.specs.Firing.{isMarking}
-use Rattle.places.specs.Values.{Values, allValues, privateValues}
+use Rattle.places.specs.Values.{Values, privateValues, privateValuesOf}
+use Rattle.places.specs.Held.{valuesFor}
 use Rattle.places.specs.Places.{Place, equals, differs, free, control, places}
 use Rattle.readback.specs.Configurations.{Spot, spot, Configuration, heldHere, stateShown}
 
@@ -96,7 +97,7 @@ module _ (S : Scheme) (U : Values) (ms : List Place) where
   standsForState =
       every oneSpot (range (S .threads)) &&
       (every oneValue (from (S .publics) (S .bounds)) &&
-      (every (λ x. S .restricted x || every (opposite x) (privateValues S U)) (from (S .publics) (S .bounds)) &&
+      (every (λ x. S .restricted x || every (opposite x) (privateValuesOf S U x)) (from (S .publics) (S .bounds)) &&
       every freeRight (privateValues S U)))
 
 -- a marking read: the cause that refuses it, or the state's words
@@ -108,7 +109,7 @@ pub data Reading : Type 0 where
 unfoldable pub readBack : List ℕ → List ℕ → Reading
 readBack w m =
     let S = scheme w in
-    let U = allValues S in
+    let U = valuesFor S in
     let ms = marked (places S U) m in
     pick (not (isMarking (length (places S U)) m)) (refused 13)
     (pick (not (standsForState S U ms)) (refused 17)

@@ -183,7 +183,7 @@ fn find_value(
     let f = find(
         marking,
         word32(rows, name),
-        plan.publics + plan.bounds - low,
+        plan.publics + plan.privates - low,
     );
     if f.count != word8(held, name) {
         return false;

@@ -1,8 +1,8 @@
 //! Markings that stand for a state, reachable or not, and such markings with one thing spoilt.
 
-use crate::places::Places;
+use crate::places::{names_at, Places};
 use crate::random::Random;
-use crate::table::{Node, Table};
+use crate::table::Table;
 
 /// A marking that stands for a random state: each thread at a random control place, each name held
 /// there at a random value.
@@ -21,10 +21,10 @@ pub fn standing(random: &mut Random, table: &Table, places: &Places) -> Vec<u8> 
     for name in held {
         let value = if table.is_restricted(name) {
             fresh.pop()
-        } else if random.chance(60) {
+        } else if random.chance(60) && !shared.is_empty() {
             random.pick(&shared)
         } else {
-            Some(random.below(table.name_count()))
+            Some(random.below(places.values().len()))
         };
         values[name - table.publics] = value;
     }
@@ -32,7 +32,8 @@ pub fn standing(random: &mut Random, table: &Table, places: &Places) -> Vec<u8> 
     marking
 }
 
-/// A control place of a thread, and the names held there.
+/// A control place of a thread, and the names held there: with no value to give, a place where none
+/// is held.
 fn random_control(
     random: &mut Random,
     table: &Table,
@@ -41,24 +42,15 @@ fn random_control(
 ) -> (usize, Vec<usize>) {
     let of_thread = |&node: &usize| table.thread(node) == thread;
     let nodes: Vec<usize> = (0..table.nodes.len()).filter(of_thread).collect();
-    let node = random.pick(&nodes).unwrap_or(0);
-    let range = places.of_node(table, node);
-    let position = random.below(range.len());
-    let names = &table.held[node];
-    let held = match table.nodes[node] {
-        Node::Stop => names[position..].to_vec(),
-        Node::Call { definition, .. } if position > 0 => {
-            let formals = table.definitions[definition].formals();
-            let copied = formals.len().min(position - 1);
-            let released = position - 1 - copied;
-            formals
-                .take(copied)
-                .chain(names[released..].iter().copied())
-                .collect()
+    loop {
+        let node = random.pick(&nodes).unwrap_or(0);
+        let range = places.of_node(table, node);
+        let position = random.below(range.len());
+        let held: Vec<usize> = names_at(table, node, position).collect();
+        if held.is_empty() || !places.values().is_empty() {
+            return (range.start + position, held);
         }
-        _ => names.clone(),
-    };
-    (range.start + position, held)
+    }
 }
 
 /// Marks the rows of all names for their values.
@@ -116,8 +108,9 @@ pub fn spoil(random: &mut Random, table: &Table, places: &Places, marking: &mut 
         (6, _) => marking.push(random.below(2) as u8),
         (7, Some(name)) => {
             let values: Vec<usize> = places.range(table, name).collect();
-            let value = random.pick(&values).unwrap_or(0);
-            give(table, places, marking, name, value);
+            if let Some(value) = random.pick(&values) {
+                give(table, places, marking, name, value);
+            }
         }
         (_, Some(name)) => {
             let values = places.range(table, name);

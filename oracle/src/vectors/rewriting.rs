@@ -11,7 +11,7 @@ use crate::dialogue::dialogue;
 use crate::generate::{accepted, Shape};
 use crate::random::Random;
 use crate::rewrite::rewritten;
-use crate::size::image_words;
+use crate::size::most_words;
 use crate::table::{accept, accept_sparing, Table};
 
 /// A definition that calls itself at once.
@@ -90,7 +90,7 @@ fn drawn(
     loop {
         let words = draw(random);
         let table = rewritten(&words).and_then(|words| accept(&words));
-        let fits = table.is_ok_and(|table| image_words(&table) < 60_000);
+        let fits = table.is_ok_and(|table| most_words(&table) < 60_000);
         if fits && accept_sparing(&words).is_ok_and(|table| wanted(&table)) {
             return words;
         }

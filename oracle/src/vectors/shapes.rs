@@ -1,5 +1,6 @@
 //! What a table is like.
 
+use crate::places::{names_at, Places};
 use crate::table::{Branch, Node, Table};
 
 /// The names of the shapes.
@@ -20,6 +21,59 @@ pub const SHAPES: [&str; 15] = [
     "public name sent on itself",
     "definition never called",
 ];
+
+/// The names of the shapes that a table has by its private values.
+pub const VALUE_SHAPES: [&str; 7] = [
+    "N = 0 beside bound names",
+    "no values beside bound names",
+    "N below B",
+    "N = B",
+    "N set by a definition never called",
+    "N set by a Call's chain",
+    "N set by a Stop's chain",
+];
+
+/// The shapes that an accepted table has by its private values.
+pub fn value_shapes(table: &Table) -> Vec<&'static str> {
+    let places = Places::of(table);
+    let (bound, privates) = (table.names.len(), places.private_values().len());
+    let is_called = |definition: usize| {
+        let calls = |node: &Node| match *node {
+            Node::Call {
+                definition: called, ..
+            } => called == definition,
+            _ => false,
+        };
+        table.entries.contains(&definition) || table.nodes.iter().any(calls)
+    };
+    // Whether in some thread more names are held at a place as wanted than at any other.
+    let set_by = |wanted: &dyn Fn(usize, usize) -> bool| {
+        let mut most = vec![[0, 0]; table.entries.len()];
+        for node in 0..table.nodes.len() {
+            for position in 0..places.of_node(table, node).len() {
+                let held = names_at(table, node, position).count();
+                let side = usize::from(wanted(node, position));
+                let largest = &mut most[table.thread(node)][side];
+                *largest = held.max(*largest);
+            }
+        }
+        privates > 0 && most.iter().any(|[others, wanted]| wanted > others)
+    };
+    let found = [
+        bound > 0 && privates == 0,
+        bound > 0 && places.values().is_empty(),
+        0 < privates && privates < bound,
+        0 < privates && privates == bound,
+        set_by(&|node, _| !is_called(table.owners[node])),
+        set_by(&|node, position| matches!(table.nodes[node], Node::Call { .. }) && position > 0),
+        set_by(&|node, _| table.nodes[node] == Node::Stop),
+    ];
+    let shapes = VALUE_SHAPES.into_iter().zip(found);
+    shapes
+        .filter(|&(_, has)| has)
+        .map(|(shape, _)| shape)
+        .collect()
+}
 
 /// The shapes of an accepted table.
 pub fn shapes(table: &Table) -> Vec<&'static str> {

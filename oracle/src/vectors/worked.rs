@@ -61,7 +61,7 @@ pub fn play_worked(writer: &mut Writer) {
     for (table, places) in [
         (&INTO_STOP[..], 15),
         (&ON_ITSELF[..], 30),
-        (&REPEATED[..], 36),
+        (&REPEATED[..], 15),
     ] {
         walk(writer, table, places);
     }
@@ -71,7 +71,7 @@ pub fn play_worked(writer: &mut Writer) {
 }
 
 /// K(p0) beside L(p0, p1), K(f) := a choice of receives on f and L(g, h) := a choice of sends of h
-/// on g, as many as the bounds let through: any value on any channel, so an image of more than 400
+/// on g, as many as the bounds let through: any value on any channel, so an image of more than 100
 /// million words.
 fn large() -> Vec<u16> {
     let (f, g, h, first_input) = (32, 33, 34, 35);

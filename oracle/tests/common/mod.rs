@@ -4,7 +4,8 @@
 use std::collections::HashMap;
 
 use oracle::places::Places;
-use oracle::table::{accept, Table};
+use oracle::random::Random;
+use oracle::table::{accept, NameKind, Node, Table};
 use oracle::{build, fire, open_steps, read, replay, size, start, step};
 
 pub type Label = [u32; 3];
@@ -192,4 +193,138 @@ pub fn initial_of(image: &[u32]) -> Vec<u8> {
     let mut marking = vec![1; image[0] as usize];
     assert_eq!(replay(image, &mut marking, &[]), Ok(0));
     marking
+}
+
+/// Document 02's N, by how many names are held at each control place: at a Choice, a New and a Call's
+/// own place the h names of the node; at a Call's k-th copy place h + k − 1, at its k-th release place
+/// f + h − k + 1, f counting the formals; at a Stop's k-th release place h − k + 1.
+pub fn private_count(table: &Table) -> usize {
+    let largest = |node: usize| {
+        let h = table.held[node].len();
+        let f = table.argument_range(node).len();
+        let copies = (1..=f).map(|k| h + k - 1);
+        let releases = (1..=h).map(|k| f + h - k + 1);
+        match table.nodes[node] {
+            Node::Choice { .. } | Node::New { .. } => h,
+            Node::Call { .. } => copies.chain(releases).fold(h, usize::max),
+            Node::Stop => releases.fold(0, usize::max),
+        }
+    };
+    let of_thread = |thread: usize| {
+        let nodes = (0..table.nodes.len()).filter(|&node| table.thread(node) == thread);
+        nodes.map(largest).max().unwrap_or(0)
+    };
+    if table.names.contains(&NameKind::Restricted) {
+        (0..table.entries.len()).map(of_thread).sum()
+    } else {
+        0
+    }
+}
+
+/// How the names of a marking come to their values.
+#[derive(Clone, Copy, PartialEq, Eq)]
+pub enum Values {
+    /// Many inputs and formals have one value, so that steps are open.
+    Shared,
+    /// Each name has a private value of its own.
+    Apart,
+}
+
+/// A random marking that stands for a state, reached or not.
+pub fn standing_marking(net: &Net, random: &mut Random, how: Values) -> Vec<u8> {
+    let (table, places) = (&net.table, &net.places);
+    let mut marking = vec![0; places.count];
+    let mut held = Vec::new();
+    for thread in 0..table.entries.len() {
+        let (place, names) = random_control(net, random, thread);
+        marking[place] = 1;
+        held.extend(names);
+    }
+    let mut left: Vec<usize> = places.private_values().collect();
+    random.shuffle(&mut left);
+    let favourite = random.pick(&left);
+    for name in table.bound_names() {
+        let value = if !held.contains(&name) {
+            None
+        } else if table.is_restricted(name) || how == Values::Apart && !left.is_empty() {
+            left.pop()
+        } else if random.chance(60) && favourite.is_some() {
+            favourite
+        } else {
+            Some(random.below(places.values().len()))
+        };
+        mark_row(net, &mut marking, name, value);
+    }
+    mark_free(net, &mut marking);
+    marking
+}
+
+/// A control place of a thread, a choice rather than another, and the names held there: none, where
+/// there is no value that they could have.
+fn random_control(net: &Net, random: &mut Random, thread: usize) -> (usize, Vec<usize>) {
+    let (table, places) = (&net.table, &net.places);
+    let nodes: Vec<usize> = (0..table.nodes.len())
+        .filter(|&node| table.thread(node) == thread)
+        .collect();
+    let choices: Vec<usize> = nodes
+        .iter()
+        .copied()
+        .filter(|&node| !table.branch_range(node).is_empty())
+        .collect();
+    loop {
+        let choice = if random.chance(60) {
+            random.pick(&choices)
+        } else {
+            None
+        };
+        let node = choice.or_else(|| random.pick(&nodes)).unwrap();
+        let control: Vec<usize> = places.of_node(table, node).collect();
+        let at = random.below(control.len());
+        let names = held_at(table, node, at);
+        if names.is_empty() || !places.values().is_empty() {
+            return (control[at], names);
+        }
+    }
+}
+
+/// The names held at a control place, by its position among those of its node.
+pub fn held_at(table: &Table, node: usize, at: usize) -> Vec<usize> {
+    let held = &table.held[node];
+    match table.nodes[node] {
+        Node::Choice { .. } | Node::New { .. } => held.clone(),
+        Node::Stop => held[at..].to_vec(),
+        Node::Call { definition, .. } => {
+            let formals: Vec<usize> = table.definitions[definition].formals().collect();
+            let copied = at.saturating_sub(1).min(formals.len());
+            let released = at.saturating_sub(1 + formals.len());
+            [&formals[..copied], &held[released..]].concat()
+        }
+    }
+}
+
+fn mark_row(net: &Net, marking: &mut [u8], name: usize, value: Option<usize>) {
+    if let Some(value) = value {
+        marking[net.places.equal(&net.table, name, value)] = 1;
+    }
+    if !net.table.is_restricted(name) {
+        for other in net
+            .places
+            .private_values()
+            .filter(|&other| Some(other) != value)
+        {
+            marking[net.places.unequal(name, other)] = 1;
+        }
+    }
+}
+
+/// "[\*≠n] exactly when no restricted name has n".
+fn mark_free(net: &Net, marking: &mut [u8]) {
+    let (table, places) = (&net.table, &net.places);
+    for value in places.private_values() {
+        let mut restricted = table
+            .bound_names()
+            .filter(|&name| table.is_restricted(name));
+        let taken = restricted.any(|name| marking[places.equal(table, name, value)] == 1);
+        marking[places.free(value)] = u8::from(!taken);
+    }
 }

@@ -1,6 +1,6 @@
 -- What is written of a table's net: the heads, the transitions in turn, the chain of a node, and a send with a receive.
 use mathlib.Core.Path.{_≡_}
-use mathlib.Core.Bool.{Bool, true}
+use mathlib.Core.Bool.{true}
 use mathlib.Core.List.{List, [], _∷_, map}
 use Prim.Native.Nat.{ℕ, _+_, _≤_, _<_}
 use lib.Dec.{ltb}
@@ -12,8 +12,8 @@ use Rattle.scheme.specs.Scheme.{scheme}
 use Rattle.net.specs.Image.{labelOf}
 use Rattle.net.specs.Net.{Transition}
 use Rattle.places.specs.Values.{privateValuesOf}
-use Rattle.places.specs.Places.{Place, controls}
-use Rattle.places.specs.Transitions.{Description, making, communicating, common, sentOn, ofPair}
+use Rattle.places.specs.Places.{Place, controls, common}
+use Rattle.places.specs.Transitions.{Description, making, communicating, sentOn, ofPair}
 use Rattle.places.specs.Image.{transitionOf}
 use Rattle.places.specs.Inner.Arcs.{insert, numbersOf, startsAt}
 use Rattle.places.specs.Inner.Plan.{today, values, controlOf, rowOf, Reads}

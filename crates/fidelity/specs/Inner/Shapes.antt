@@ -1,15 +1,16 @@
 -- The kinds of descriptions that a net has: what membership in the list of descriptions tells.
-use Prim.Native.Nat.{ℕ, zero, suc, _+_, _≤_, _<_}
+use Prim.Native.Nat.{ℕ, suc, _+_, _≤_, _<_}
 use mathlib.Core.Path.{_≡_}
-use mathlib.Core.Bool.{Bool, true, false}
-use mathlib.Core.Option.{Option, none, some}
+use mathlib.Core.Bool.{true}
 use mathlib.Core.List.{List, [], _∷_}
 use lib.Dec.{ltb}
 use lib.ListN.{length, getD}
-use Rattle.lists.specs.Lists.{pick, bit, same}
+use Rattle.lists.specs.Lists.{pick, same, member}
 use Rattle.scheme.specs.Scheme.{Scheme, stop, new, call, silent, send, receive}
 use Rattle.net.specs.Image.{labelOf}
 use Rattle.places.specs.Values.{Values}
+use Rattle.places.specs.Places.{common}
+use Rattle.places.specs.Inner.Holding.{count}
 use Rattle.places.specs.Transitions.{Move, move, test, skip, take, release, Description, making, going, communicating}
 use Rattle.readback.specs.Configurations.{Spot, spot, Configuration}
 use Rattle.fidelity.specs.Inner.Marks.{given, Motion, stay, pass, allows, Takes, WellFormed}
@@ -25,11 +26,6 @@ pair θ a b η c d ϑ = pick (same ϑ θ) (pass a b) (pick (same ϑ η) (pass c 
 -- the move from place k of node n to a spot
 abbrev pub onto : ℕ → ℕ → Spot → List Move
 onto n k b = move n k (b .node) (b .index) ∷ []
-
--- how many of the n numbers from lo pass a test
-unfoldable pub count : (ℕ → Bool) → ℕ → ℕ → ℕ
-count f lo zero = 0
-count f lo (suc n) = bit (f (lo + n)) + count f lo n
 
 module _ (S : Scheme) where
   -- the copies and releases of a call
@@ -83,16 +79,16 @@ module _ (S : Scheme) (U : Values) where
         → (S .restricted (getD (S .held n) j 0) ≡ true → S .publics ≤ v) → Described (ending n j v)
     is-silent : (b l : ℕ) → S .branch b ≡ silent l → Described (goingBy b l)
     is-communication : (s a z l r e y m i j : ℕ) → S .branch s ≡ send a z l → S .branch r ≡ receive e y m
-        → (S .thread (S .home s) ≡ S .thread (S .home r) → ⊥) → Takes S U a i → Takes S U e i → Takes S U z j → allows S U y j ≡ true → (z ≡ a → j ≡ i)
-        → Described (communicating S U s a z l r e y m i j)
+        → (S .thread (S .home s) ≡ S .thread (S .home r) → ⊥) → member i (common S U a e) ≡ true → Takes S U z j → allows S U y j ≡ true
+        → (z ≡ a → j ≡ i) → Described (communicating S U s a z l r e y m i j)
 
   -- the values suffice: what a name is given it may hold, and at every New some private value is in no name
   pub record EnoughValues : Type 0 where
     pub copies : (n d j v : ℕ) → S .node n ≡ call d → j < length (S .formals d) → Takes S U (getD (S .arguments n) j 0) v
         → allows S U (getD (S .formals d) j 0) v ≡ true
     pub meets : (s a z l r e y m i j : ℕ) → S .branch s ≡ send a z l → S .branch r ≡ receive e y m → (S .thread (S .home s) ≡ S .thread (S .home r) → ⊥)
-        → Takes S U a i → Takes S U e i → Takes S U z j → allows S U y j ≡ true
-    pub makes : (n r l v : ℕ) → S .node n ≡ new r l → S .publics ≤ v → v < S .publics + U .privates → allows S U r v ≡ true
+        → member i (common S U a e) ≡ true → Takes S U z j → allows S U y j ≡ true
+    pub makes : (r v : ℕ) → S .restricted r ≡ true → S .publics ≤ v → v < S .publics + U .privates → allows S U r v ≡ true
     pub private : (x v : ℕ) → S .restricted x ≡ true → allows S U x v ≡ true → S .publics ≤ v
     pub room : (c : Configuration) → WellFormed S U c → (n r l : ℕ) → S .node n ≡ new r l → c .at (S .thread n) ≡ spot n 0
         → count (λ x. given (c .value x)) (S .publics) (S .bounds) < U .privates

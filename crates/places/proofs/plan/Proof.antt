@@ -75,9 +75,9 @@ first-definitions-requires c κs = search needs
 
 lay-out-requires : tie.Need-lay-out-requires
 lay-out-requires c κs =
-    let f = c .before .before .before .before in
+    let f = c .before .before .before .before .before in
     let r = room f in
-    (indexed f .0, r .rows-fit, r .spots-fit)
+    (indexed f .0, indexed f .1, r .rows-fit, r .spots-fit)
 
 same-length : tie.Need-same-length
 same-length c = search needs
@@ -96,7 +96,7 @@ same-length-5 c = search needs
 
 returns-3 : tie.Need-returns-3
 returns-3 c =
-    let i = indexed (c .before .before .before .before .before .before .before .before .before) in
+    let i = indexed (c .before .before .before .before .before .before .before .before .before .before) in
     (i .0, i .1, c .before .before .before .before .lay-out .ensures)
 
 pub plan-spec : {M : Type 1} → statement M

@@ -1,16 +1,17 @@
 -- Counts of transitions and of their arcs, by multiplication.
-use mathlib.Core.Bool.{Bool, true, false, _&&_, not}
-use mathlib.Core.List.{List, [], _∷_, _++_, map}
+use mathlib.Core.Bool.{_&&_, not}
+use mathlib.Core.List.{List, [], _∷_}
 use Prim.Native.Nat.{ℕ, _+_, _*_, _<_}
 use lib.Dec.{ltb, leb}
 use lib.ListN.{length}
-use Rattle.lists.specs.Lists.{pick, bit, same, range, from, keep, flat}
-use Rattle.scheme.specs.Words.{publics, bounds, nodes, branches, isStop, isChoice, isNew, isSilent, isSend, isReceive, nodeFirst, nodeSecond, channel, branchName, argumentsOf}
+use Rattle.lists.specs.Lists.{pick, bit, same, range, from, keep}
+use Rattle.scheme.specs.Words.{publics, nodes, branches, isStop, isChoice, isNew, isSilent, isSend, isReceive}
+use Rattle.scheme.specs.Words.{nodeFirst, nodeSecond, channel, branchName, argumentsOf}
 use Rattle.scheme.specs.Owners.{held, branchThread}
 use Rattle.scheme.specs.Scheme.{scheme}
 use Rattle.net.specs.Net.{Transition}
-use Rattle.places.specs.Transitions.{common}
-use Rattle.places.specs.Inner.Plan.{today, values, freeNames}
+use Rattle.places.specs.Places.{common}
+use Rattle.places.specs.Inner.Plan.{today, privatesOf, values, freeNames}
 use Rattle.places.specs.declared.count.Totals.{Totals}
 
 pub record Sums : Type 0 where
@@ -50,13 +51,13 @@ over step s (x ∷ xs) = over step (step s x) xs
 module _ (w : List ℕ) where
   -- the releases of a name
   unfoldable pub releaseSums : Sums → ℕ → Sums
-  releaseSums s z = pick (scheme w .restricted z) (addTimes s (bounds w) 2 2) (addTimes (addTimes s (publics w) 2 1) (bounds w) 2 2)
+  releaseSums s z = pick (scheme w .restricted z) (addTimes s (privatesOf w) 2 2) (addTimes (addTimes s (publics w) 2 1) (privatesOf w) 2 2)
 
   -- the copies of an argument
   unfoldable pub copySums : Sums → ℕ → Sums
   copySums s a =
       pick (ltb a (publics w)) (addTimes s 1 1 2)
-      (pick (scheme w .restricted a) (addTimes s (bounds w) 3 3) (addTimes (addTimes s (publics w) 2 3) (bounds w) 3 3))
+      (pick (scheme w .restricted a) (addTimes s (privatesOf w) 3 3) (addTimes (addTimes s (publics w) 2 3) (privatesOf w) 3 3))
 
   unfoldable pub silentSums : Sums → ℕ → Sums
   silentSums s b = pick (isSilent w b) (addTimes s 1 1 1) s
@@ -65,7 +66,7 @@ module _ (w : List ℕ) where
   nodeSums s n =
       pick (isStop w n) (over releaseSums s (held w n))
       (pick (isChoice w n) (over silentSums s (from (nodeFirst w n) (nodeSecond w n)))
-      (pick (isNew w n) (addTimes s (bounds w) (freeNames w + 2) (freeNames w + 2))
+      (pick (isNew w n) (addTimes s (privatesOf w) (freeNames w + 2) (freeNames w + 2))
       (over releaseSums (over copySums (addTimes s 1 1 1) (argumentsOf w n)) (held w n))))
 
   -- 1 for a bound name, 0 for a public one

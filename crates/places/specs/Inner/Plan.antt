@@ -1,6 +1,6 @@
 -- What is known of a table while its net is built: where rows and control places start, and the values of a name.
 use mathlib.Core.Path.{_≡_}
-use mathlib.Core.Bool.{Bool, true, false, not}
+use mathlib.Core.Bool.{true, false, not}
 use mathlib.Core.List.{List, [], _∷_, _++_, map}
 use Prim.Native.Nat.{ℕ, _+_, _-_, _*_, _≤_, _<_}
 use lib.ListN.{length}
@@ -10,15 +10,20 @@ use Rattle.scheme.specs.Owners.{owner, home, definition}
 use Rattle.scheme.specs.Index.{ownerNumber}
 use Rattle.scheme.specs.Scheme.{scheme}
 use Rattle.table.specs.Causes.{cause}
-use Rattle.places.specs.Values.{Values, allValues, valuesOf}
+use Rattle.places.specs.Values.{Values, valuesOf}
+use Rattle.places.specs.Held.{valuesFor}
 use Rattle.places.specs.Rows.{rowStart, freeStart, controlStart}
 use Rattle.places.specs.Inner.Arcs.{initialNumbers}
 use Rattle.places.specs.declared.layout.Layout.{Layout}
 use Rattle.places.specs.declared.layout.Reach.{Reach}
 
--- the values of today's names
+-- the values in force
 abbrev pub today : List ℕ → Values
-today w = allValues (scheme w)
+today w = valuesFor (scheme w)
+
+-- how many private values there are
+abbrev pub privatesOf : List ℕ → ℕ
+privatesOf w = today w .privates
 
 abbrev pub values : List ℕ → ℕ → List ℕ
 values w x = valuesOf (scheme w) (today w) x
@@ -46,7 +51,8 @@ pub record Rowed (w rows : List ℕ) (plan : Layout) : Type 0 where
   pub few-bounds : bounds w ≤ 32
   pub publics-are : plan .publics ≡ publics w
   pub bounds-are : plan .bounds ≡ bounds w
-  pub privates-are : plan .privates ≡ bounds w
+  pub few-privates : privatesOf w ≤ 32
+  pub privates-are : plan .privates ≡ privatesOf w
   pub free-is : plan .free ≡ freeStart (scheme w) (today w)
   pub few-free : plan .free ≤ 3072
   pub row-is : (x : ℕ) → publics w ≤ x → x < names w → word rows x ≡ rowOf w x
@@ -103,7 +109,7 @@ pub record Differs (w : List ℕ) (x v : ℕ) : Type 0 where
   pub high : x < names w
   pub free : scheme w .restricted x ≡ false
   pub private : publics w ≤ v
-  pub value : v < names w
+  pub value : v < publics w + privatesOf w
 
 -- values that both reaches list
 abbrev pub InBoth : Reach → Reach → Reach → Type 0
@@ -125,7 +131,8 @@ pub record Counted (w : List ℕ) (plan : Layout) : Type 0 where
   pub few-publics : publics w ≤ 32
   pub few-bounds : bounds w ≤ 32
   pub publics-are : plan .publics ≡ publics w
-  pub privates-are : plan .privates ≡ bounds w
+  pub few-privates : privatesOf w ≤ 32
+  pub privates-are : plan .privates ≡ privatesOf w
 
 -- every number of the list is a name
 abbrev pub Named : List ℕ → List ℕ → Type 0

@@ -6,7 +6,7 @@ use Prim.Native.Nat.{ℕ, _+_, _-_}
 use lib.ListN.{length}
 use Rattle.lists.specs.Lists.{pick, bit, same, from, range, every, keep, flat, member}
 use Rattle.scheme.specs.Scheme.{Scheme}
-use Rattle.places.specs.Values.{Values, allValues}
+use Rattle.places.specs.Held.{valuesFor}
 use Rattle.places.specs.Places.{controls}
 use Rattle.places.specs.Rows.{rowStart, freeStart, controlStart}
 use Rattle.readback.specs.Configurations.{Spot, spot, heldHere}
@@ -32,7 +32,7 @@ lowest S x = pick (S .restricted x) (S .publics) 0
 module _ (S : Scheme) (m : List ℕ) where
   -- the marked control places of a node
   abbrev pub spotsOn : ℕ → List Spot
-  spotsOn n = map (spot n) (hits m (controlStart S (allValues S) n) (controls S n))
+  spotsOn n = map (spot n) (hits m (controlStart S (valuesFor S) n) (controls S n))
 
   -- those of the nodes below n that are of a thread
   unfoldable pub spotsBelow : ℕ → ℕ → List Spot
@@ -43,34 +43,34 @@ module _ (S : Scheme) (m : List ℕ) where
 
   -- the marked values of a bound name
   unfoldable pub valuesAt : ℕ → List ℕ
-  valuesAt x = map (λ i. lowest S x + i) (hits m (rowStart S (allValues S) x) (S .publics + S .bounds - lowest S x))
+  valuesAt x = map (λ i. lowest S x + i) (hits m (rowStart S (valuesFor S) x) (S .publics + valuesFor S .privates - lowest S x))
 
   -- "[x≠n] is marked exactly without [x=n]"
   abbrev pub opposedAt : ℕ → ℕ → Bool
   opposedAt x i =
-      justOne (token m (rowStart S (allValues S) x + S .publics + i)) (token m (rowStart S (allValues S) x + S .publics + S .bounds + i))
+      justOne (token m (rowStart S (valuesFor S) x + S .publics + i)) (token m (rowStart S (valuesFor S) x + S .publics + valuesFor S .privates + i))
 
   abbrev pub opposedFor : ℕ → Bool
-  opposedFor x = S .restricted x || every (opposedAt x) (range (S .bounds))
+  opposedFor x = S .restricted x || every (opposedAt x) (range (valuesFor S .privates))
 
   unfoldable pub opposedAll : Bool
   opposedAll = every opposedFor (from (S .publics) (S .bounds))
 
   -- "[*≠n] exactly when no restricted name has n; two restricted names never share n"
   abbrev pub holdsAt : ℕ → ℕ → Bool
-  holdsAt n x = S .restricted x && token m (rowStart S (allValues S) x + n)
+  holdsAt n x = S .restricted x && token m (rowStart S (valuesFor S) x + n)
 
   abbrev pub holdersAt : ℕ → List ℕ
   holdersAt n = keep (holdsAt n) (from (S .publics) (S .bounds))
 
   abbrev pub wantedAt : ℕ → ℕ
-  wantedAt n = pick (token m (freeStart S (allValues S) + n)) 0 1
+  wantedAt n = pick (token m (freeStart S (valuesFor S) + n)) 0 1
 
   abbrev pub freedFor : ℕ → Bool
   freedFor n = same (length (holdersAt n)) (wantedAt n)
 
   unfoldable pub freedAll : Bool
-  freedAll = every freedFor (range (S .bounds))
+  freedAll = every freedFor (range (valuesFor S .privates))
 
   -- "each thread has one marked control place"
   unfoldable pub spotsRight : Bool

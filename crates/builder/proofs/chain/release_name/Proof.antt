@@ -34,7 +34,7 @@ value-count-requires : tie.Need-value-count-requires Inv-loop μ-loop
 value-count-requires c κs =
     let p = c .before .before .before .before .pre in
     let l = c .reach-of .ensures (p .4) in
-    (l .order, omega (arith, l .inside, p .0 .few-publics), omega (arith, p .0 .privates-are, p .0 .few-bounds))
+    (l .order, omega (arith, l .inside, p .0 .few-publics), omega (arith, p .0 .privates-are, p .0 .few-privates))
 
 loop-holds : tie.Need-loop-holds Inv-loop μ-loop
 loop-holds c = (refl, refl, omega arith)
@@ -46,7 +46,7 @@ value-at-requires c κs =
       l .order,
       omega (arith, l .inside, p .0 .few-publics),
       omega (arith, p .0 .publics-are, p .0 .few-publics),
-      omega (arith, p .0 .privates-are, p .0 .few-bounds),
+      omega (arith, p .0 .privates-are, p .0 .few-privates),
       omega (arith, c .before .before .before .value-count .ensures, c .before .loop-test .taken),
     )
 

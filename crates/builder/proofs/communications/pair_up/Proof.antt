@@ -6,11 +6,12 @@ use native.Mathlib.Omega.{arith}
 use borrow.Author.Needs.{needs}
 use lib.ListN.{length, drop}
 use Rattle.lists.specs.Lists.{flat}
-use Rattle.scheme.specs.Words.{publics, bounds}
+use Rattle.scheme.specs.Words.{publics}
 use Rattle.scheme.specs.Scheme.{scheme}
-use Rattle.places.specs.Transitions.{Description, common}
+use Rattle.places.specs.Places.{common}
+use Rattle.places.specs.Transitions.{Description}
 use Rattle.builder.specs.Inner.Writing.{Inside}
-use Rattle.places.specs.Inner.Plan.{today, Lists}
+use Rattle.places.specs.Inner.Plan.{today, privatesOf, Lists}
 use Rattle.builder.specs.Inner.Parts.{state, put, sentTold}
 use Rattle.builder.proofs.PairLoops.{values-few, value-inside, channel-high, heard-high, both-lists, pair-is, pair-done}
 use Rattle.builder.proofs.PairLoops.{pair-needs, pair-more}
@@ -32,7 +33,7 @@ start c = c .before .before .before .before .before .before
 abbrev both : tie.Start Inv-loop μ-loop → List ℕ
 both s = common (scheme (s .args .table .now)) (today (s .args .table .now)) (s .args .p .channel) (s .args .p .heard)
 
-lists : (c : tie.After-common Inv-loop μ-loop) → Lists (publics (start c .args .table .now)) (bounds (start c .args .table .now)) (c .common .result)
+lists : (c : tie.After-common Inv-loop μ-loop) → Lists (publics (start c .args .table .now)) (privatesOf (start c .args .table .now)) (c .common .result)
     (both (start c))
 lists c =
     let s = start c in

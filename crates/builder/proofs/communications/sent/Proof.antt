@@ -12,7 +12,7 @@ use Rattle.places.specs.Transitions.{Description}
 use Rattle.builder.specs.Inner.Writing.{Inside}
 use Rattle.builder.specs.Inner.Parts.{told, state, put}
 use Rattle.builder.proofs.PairLoops.{sent-high, self-is, self-reads, public-is, public-reads, first-run, first-inside, first-none, last-run}
-use Rattle.builder.proofs.PairLoops.{last-inside, sent-both, sent-first}
+use Rattle.builder.proofs.PairLoops.{last-inside, sent-both, sent-none, sent-first}
 use Rattle.builder.proofs.Partners.{same-state}
 use borrow.Author.Needs.{needs}
 use Rattle.builder.proofs.communications.sent.Statement.{statement}
@@ -32,7 +32,8 @@ told-first c =
     let a = s .args in
     let r = c .before .before .reach-of in
     let l = r .ensures (sent-high (a .table .now) (a .rows .now) (a .plan) (s .pre .0) (a .p) (s .pre .1)) in
-    let b : publics (a .table .now) ≤ a .p .sent = omega (arith, s .pre .0 .publics-are, c .before .before .before .if2 .left) in
+    let b : publics (a .table .now) ≤ a .p .sent =
+    omega (arith, s .pre .0 .publics-are, c .before .before .before .if2 .left) in
     let o = c .before .before .before .before .before .before .if1 .left in
     ⊎-elim
     (λ v. same-state (v .3 .last .1 .1 .1 .0) (c .if3 .out) (v .3 .result) (c .if3 .q) (v .6) (v .7) ∙ v .3 .ensures)
@@ -110,7 +111,8 @@ tell-requires c κs =
     let a = s .args in
     let r = c .before .before .before .before .reach-of in
     let l = r .ensures (sent-high (a .table .now) (a .rows .now) (a .plan) (s .pre .0) (a .p) (s .pre .1)) in
-    let b : publics (a .table .now) ≤ a .p .sent = omega (arith, s .pre .0 .publics-are, c .before .before .before .before .before .if2 .left) in
+    let b : publics (a .table .now) ≤ a .p .sent =
+    omega (arith, s .pre .0 .publics-are, c .before .before .before .before .before .if2 .left) in
     let o = c .before .before .before .before .before .before .before .before .if1 .left in (
       s .pre .0,
       s .pre .1,
@@ -124,52 +126,71 @@ tell-requires c κs =
 
 tell-requires-2 : tie.Need-tell-requires-2
 tell-requires-2 c κs =
-    let s = c .before .before .before .before .before .before .before .before .before .before .before .before .before in
+    let s = c .before .before .before .before .before .before .before .before .before .before .before .before .before .before .before in
     let a = s .args in
-    let r = c .before .before .before .before .reach-of in
+    let r = c .before .before .before .before .before .before .reach-of in
     let l = r .ensures (sent-high (a .table .now) (a .rows .now) (a .plan) (s .pre .0) (a .p) (s .pre .1)) in
-    let b : publics (a .table .now) ≤ a .p .sent = omega (arith, s .pre .0 .publics-are, c .before .before .before .before .before .if2 .left) in
-    let o = c .before .before .before .before .before .before .before .before .if1 .left in
-    let j = c .before .before in
-    let h = c .before .if4 .taken in (
+    let b : publics (a .table .now) ≤ a .p .sent =
+    omega (arith, s .pre .0 .publics-are, c .before .before .before .before .before .before .before .if2 .left) in
+    let o = c .before .before .before .before .before .before .before .before .before .before .if1 .left in
+    let j = c .before .before .before .before in
+    let h = c .before .before .before .if4 .taken in (
       s .pre .0,
       s .pre .1,
       s .pre .2,
       s .pre .3,
       last-run (a .table .now) (a .rows .now) (a .plan) (s .pre .0) (a .p) (s .pre .1) (a .i) (s .pre .2)
-          (s .pre .3) (r .result) l o b h,
+          (s .pre .3) (r .result) l o b h (c .before .if5 .taken),
       last-inside (a .table .now) (a .rows .now) (a .plan) (s .pre .0) (a .p) (s .pre .1) (a .i) (s .pre .2)
           (s .pre .3) (r .result) l o b (state (a .out .now) (a .h)) (state (j .if3 .out) (j .if3 .q)) (told-first j) h (s .pre .4),
     )
 
 same-length-3 : tie.Need-same-length-3
-same-length-3 c = c .before .before .tell2 .kept .1 .1 .1 .0 ∙ kept-first (c .before .before .before .before .before)
+same-length-3 c = c .before .before .tell2 .kept .1 .1 .1 .0 ∙ kept-first (c .before .before .before .before .before .before .before)
 
 returns-3 : tie.Need-returns-3
 returns-3 c =
-    let s = c .before .before .before .before .before .before .before .before .before .before .before .before .before .before .before .before in
+    let c9 = c .before .before .before .before .before .before .before .before .before in
+    let s = c9 .before .before .before .before .before .before .before .before .before in
     let a = s .args in
-    let r = c .before .before .before .before .before .before .before .reach-of in
+    let r = c .before .before .before .before .before .before .before .before .before .reach-of in
     let l = r .ensures (sent-high (a .table .now) (a .rows .now) (a .plan) (s .pre .0) (a .p) (s .pre .1)) in
     let b : publics (a .table .now) ≤ a .p .sent = omega
-    (arith, s .pre .0 .publics-are, c .before .before .before .before .before .before .before .before .if2 .left) in
-    let o = c .before .before .before .before .before .before .before .before .before .before .before .if1 .left in
-    let j = c .before .before .before .before .before in
+    (arith, s .pre .0 .publics-are, c .before .before .before .before .before .before .before .before .before .before .if2 .left) in
+    let o = c .before .before .before .before .before .before .before .before .before .before .before .before .before .if1 .left in
+    let j = c .before .before .before .before .before .before .before in
     let u = c .before .before .tell2 in
     sent-both (a .table .now) (a .rows .now) (a .plan) (s .pre .0) (a .p) (s .pre .1) (a .i) (s .pre .2) (s .pre .3) (r .result) l o b
-    (state (a .out .now) (a .h)) (state (j .if3 .out) (j .if3 .q)) (told-first j) (c .before .before .before .before .if4 .taken) (state
+    (state (a .out .now) (a .h)) (state (j .if3 .out) (j .if3 .q)) (told-first j) (c .before .before .before .before .before .before .if4 .taken) (state
     (u .last .1 .1 .1 .0) (u .result)) (u .ensures)
 
 same-length-4 : tie.Need-same-length-4
-same-length-4 c = kept-first (c .before)
+same-length-4 c = kept-first (c .before .before .before)
 
 returns-4 : tie.Need-returns-4
 returns-4 c =
+    let s = c .before .before .before .before .before .before .before .before .before .before .before .before .before .before in
+    let a = s .args in
+    let r = c .before .before .before .before .before .reach-of in
+    let l = r .ensures (sent-high (a .table .now) (a .rows .now) (a .plan) (s .pre .0) (a .p) (s .pre .1)) in
+    let b : publics (a .table .now) ≤ a .p .sent =
+    omega (arith, s .pre .0 .publics-are, c .before .before .before .before .before .before .if2 .left) in
+    let o = c .before .before .before .before .before .before .before .before .before .if1 .left in
+    let j = c .before .before .before in
+    sent-none (a .table .now) (a .rows .now) (a .plan) (s .pre .0) (a .p) (s .pre .1) (a .i) (s .pre .2) (s .pre .3) (r .result) l o b
+    (state (a .out .now) (a .h)) (state (j .if3 .out) (j .if3 .q)) (told-first j) (c .before .before .if4 .taken) (c .if5 .left)
+
+same-length-5 : tie.Need-same-length-5
+same-length-5 c = kept-first (c .before)
+
+returns-5 : tie.Need-returns-5
+returns-5 c =
     let s = c .before .before .before .before .before .before .before .before .before .before .before .before in
     let a = s .args in
     let r = c .before .before .before .reach-of in
     let l = r .ensures (sent-high (a .table .now) (a .rows .now) (a .plan) (s .pre .0) (a .p) (s .pre .1)) in
-    let b : publics (a .table .now) ≤ a .p .sent = omega (arith, s .pre .0 .publics-are, c .before .before .before .before .if2 .left) in
+    let b : publics (a .table .now) ≤ a .p .sent =
+    omega (arith, s .pre .0 .publics-are, c .before .before .before .before .if2 .left) in
     let o = c .before .before .before .before .before .before .before .if1 .left in
     let j = c .before in
     sent-first (a .table .now) (a .rows .now) (a .plan) (s .pre .0) (a .p) (s .pre .1) (a .i) (s .pre .2) (s .pre .3) (r .result) l o b
@@ -192,4 +213,6 @@ sent-spec =
     same-length-3
     returns-3
     same-length-4
-    returns-4)
+    returns-4
+    same-length-5
+    returns-5)

@@ -1,5 +1,4 @@
 -- `builder::layout::differs` meets its contract.
-use mathlib.Core.Path.{_≡_, refl, sym, ap, _∙_}
 use native.Mathlib.Omega.{arith}
 use Rattle.places.proofs.Names.{row-few, differs-of}
 use borrow.Author.Needs.{needs}
@@ -20,7 +19,15 @@ cast-result : tie.Need-cast-result
 cast-result c =
     let a = c .before .before .before .before .args in
     let p = c .before .before .before .before .pre in
-    omega (arith, p .1 .value, p .0 .privates-are, p .0 .few-publics, p .0 .few-bounds, c .before .word32 .ensures .is, row-few (a .table .now) (a .rows .now) (a .plan) (p .0) (a .name) (p .1 .low) (p .1 .high))
+    omega (
+      arith,
+      p .1 .value,
+      p .0 .privates-are,
+      p .0 .few-publics,
+      p .0 .few-privates,
+      c .before .word32 .ensures .is,
+      row-few (a .table .now) (a .rows .now) (a .plan) (p .0) (a .name) (p .1 .low) (p .1 .high),
+    )
 
 returns : tie.Need-returns
 returns c =

@@ -1,8 +1,6 @@
 -- `builder::layout::equals` meets its contract.
-use mathlib.Core.Path.{_≡_, refl, sym, ap, _∙_}
-use Prim.Native.Nat.{ℕ, _+_, _-_, _≤_, _<_}
+use mathlib.Core.Path.{sym, _∙_}
 use native.Mathlib.Omega.{arith}
-use lib.ListN.{length}
 use Rattle.places.proofs.Names.{row-few, restricted-private, free-value, equals-of-restricted, equals-of-free}
 use borrow.Author.Needs.{needs}
 use Rattle.builder.proofs.layout.equals.Statement.{statement}
@@ -22,7 +20,15 @@ sub-result c =
     let p = c .before .before .before .before .before .before .pre in
     let r = sym (c .before .before .is-restricted .ensures (p .1 .high)) ∙ c .before .if1 .taken in
     let v = restricted-private (a .table .now) (a .name) (a .v) (p .1) r in
-    omega (arith, v, p .0 .publics-are, p .0 .few-publics, p .0 .few-bounds, c .before .before .before .word32 .ensures .is, row-few (a .table .now) (a .rows .now) (a .plan) (p .0) (a .name) (p .1 .low) (p .1 .high))
+    omega (
+      arith,
+      v,
+      p .0 .publics-are,
+      p .0 .few-publics,
+      p .0 .few-privates,
+      c .before .before .before .word32 .ensures .is,
+      row-few (a .table .now) (a .rows .now) (a .plan) (p .0) (a .name) (p .1 .low) (p .1 .high),
+    )
 
 add-result : tie.Need-add-result
 add-result c =
@@ -30,7 +36,15 @@ add-result c =
     let p = c .before .before .before .before .before .before .pre in
     let r = sym (c .before .before .is-restricted .ensures (p .1 .high)) ∙ c .before .if1 .taken in
     let v = restricted-private (a .table .now) (a .name) (a .v) (p .1) r in
-    omega (arith, v, p .0 .publics-are, p .0 .few-publics, p .0 .few-bounds, c .before .before .before .word32 .ensures .is, row-few (a .table .now) (a .rows .now) (a .plan) (p .0) (a .name) (p .1 .low) (p .1 .high))
+    omega (
+      arith,
+      v,
+      p .0 .publics-are,
+      p .0 .few-publics,
+      p .0 .few-privates,
+      c .before .before .before .word32 .ensures .is,
+      row-few (a .table .now) (a .rows .now) (a .plan) (p .0) (a .name) (p .1 .low) (p .1 .high),
+    )
 
 cast-result : tie.Need-cast-result
 cast-result c =
@@ -38,7 +52,15 @@ cast-result c =
     let p = c .before .before .before .before .before .before .pre in
     let r = sym (c .before .before .is-restricted .ensures (p .1 .high)) ∙ c .before .if1 .taken in
     let v = restricted-private (a .table .now) (a .name) (a .v) (p .1) r in
-    omega (arith, v, p .0 .publics-are, p .0 .few-publics, p .0 .few-bounds, c .before .before .before .word32 .ensures .is, row-few (a .table .now) (a .rows .now) (a .plan) (p .0) (a .name) (p .1 .low) (p .1 .high))
+    omega (
+      arith,
+      v,
+      p .0 .publics-are,
+      p .0 .few-publics,
+      p .0 .few-privates,
+      c .before .before .before .word32 .ensures .is,
+      row-few (a .table .now) (a .rows .now) (a .plan) (p .0) (a .name) (p .1 .low) (p .1 .high),
+    )
 
 returns : tie.Need-returns
 returns c =
@@ -53,7 +75,14 @@ add-result-2 c =
     let p = c .before .before .before .before .before .pre in
     let r = sym (c .before .is-restricted .ensures (p .1 .high)) ∙ c .if1 .left in
     let v = free-value (a .table .now) (a .name) (a .v) (p .1) r in
-    omega (arith, v, p .0 .few-publics, p .0 .few-bounds, c .before .before .word32 .ensures .is, row-few (a .table .now) (a .rows .now) (a .plan) (p .0) (a .name) (p .1 .low) (p .1 .high))
+    omega (
+      arith,
+      v,
+      p .0 .few-publics,
+      p .0 .few-privates,
+      c .before .before .word32 .ensures .is,
+      row-few (a .table .now) (a .rows .now) (a .plan) (p .0) (a .name) (p .1 .low) (p .1 .high),
+    )
 
 cast-result-2 : tie.Need-cast-result-2
 cast-result-2 c =
@@ -61,7 +90,14 @@ cast-result-2 c =
     let p = c .before .before .before .before .before .pre in
     let r = sym (c .before .is-restricted .ensures (p .1 .high)) ∙ c .if1 .left in
     let v = free-value (a .table .now) (a .name) (a .v) (p .1) r in
-    omega (arith, v, p .0 .few-publics, p .0 .few-bounds, c .before .before .word32 .ensures .is, row-few (a .table .now) (a .rows .now) (a .plan) (p .0) (a .name) (p .1 .low) (p .1 .high))
+    omega (
+      arith,
+      v,
+      p .0 .few-publics,
+      p .0 .few-privates,
+      c .before .before .word32 .ensures .is,
+      row-few (a .table .now) (a .rows .now) (a .plan) (p .0) (a .name) (p .1 .low) (p .1 .high),
+    )
 
 returns-2 : tie.Need-returns-2
 returns-2 c =

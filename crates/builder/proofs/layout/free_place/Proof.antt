@@ -1,5 +1,4 @@
 -- `builder::layout::free_place` meets its contract.
-use mathlib.Core.Path.{_≡_, refl, sym, ap, _∙_}
 use native.Mathlib.Omega.{arith}
 use Rattle.places.proofs.Names.{free-of}
 use borrow.Author.Needs.{needs}
@@ -10,10 +9,10 @@ sub-result : tie.Need-sub-result
 sub-result c = search needs
 
 add-result : tie.Need-add-result
-add-result c = omega (arith, c .before .before .pre .0 .few-free, c .before .before .pre .0 .publics-are, c .before .before .pre .0 .few-publics, c .before .before .pre .0 .few-bounds, c .before .before .pre)
+add-result c = let p = c .before .before .pre in omega (arith, p .0 .few-free, p .0 .publics-are, p .0 .few-publics, p .0 .few-privates, p)
 
 cast-result : tie.Need-cast-result
-cast-result c = omega (arith, c .before .before .pre .0 .few-free, c .before .before .pre .0 .publics-are, c .before .before .pre .0 .few-publics, c .before .before .pre .0 .few-bounds, c .before .before .pre)
+cast-result c = let p = c .before .before .pre in omega (arith, p .0 .few-free, p .0 .publics-are, p .0 .few-publics, p .0 .few-privates, p)
 
 returns : tie.Need-returns
 returns c =

@@ -16,8 +16,8 @@ initial-spots-requires c κs =
     let s = c .before .before .before .before .before .before .before .before .before .before .before .before .before in
     let k = s .pre .rowed in
     let r = c .before .before .before .before .before .before .before .initial-rows in
-    let f = rows-few (s .args .table .now) (k .few-bounds) in
-    (s .pre .spotted, omega (arith, c .before .before .before .count-up .ensures .0, r .ensures .0, f, k .few-bounds, k .privates-are))
+    let f = rows-few (s .args .table .now) (k .few-privates) in
+    (s .pre .spotted, omega (arith, c .before .before .before .count-up .ensures .0, r .ensures .0, f, k .few-bounds, k .few-privates, k .privates-are))
 
 same-length : tie.Need-same-length
 same-length c = search needs

@@ -7,7 +7,8 @@ use lib.ListN.{length, drop}
 use Rattle.lists.specs.Lists
 use Rattle.lists.specs.Lists.{word}
 use Rattle.lists.proofs.Ranges.{from-length, from-getD}
-use Rattle.scheme.specs.Words.{publics, bounds, nodeSecond}
+use Rattle.scheme.specs.Words.{publics, nodeSecond}
+use Rattle.places.specs.Inner.Plan.{privatesOf}
 use Rattle.builder.specs.Inner.Parts.{put, state, ofTable, made}
 use Rattle.builder.proofs.Chains.{state-length}
 use Rattle.builder.proofs.ValueLoops.{map-done, map-inside, map-more}
@@ -21,8 +22,8 @@ use Rattle.scheme.proofs.fields.field3.Reads as field3-reads
 
 abbrev Inv-loop : tie.InvT-loop
 Inv-loop table rows spots plan out₀ n from to q₀ k₀ out q k =
-    (put table out₀ q₀ (map (made table n) (Lists.from (publics table) (bounds table)))
-    ≡ put table out q (map (made table n) (drop k (Lists.from (publics table) (bounds table)))))
+    (put table out₀ q₀ (map (made table n) (Lists.from (publics table) (privatesOf table)))
+    ≡ put table out q (map (made table n) (drop k (Lists.from (publics table) (privatesOf table)))))
     × (length out ≡ length out₀) × (k ≤ plan .privates)
 
 abbrev μ-loop : tie.MeasureT-loop
@@ -49,7 +50,7 @@ loop-holds c = (refl, refl, omega arith)
 add-make : tie.Need-add-make Inv-loop μ-loop
 add-make c =
     let r = c .before .before .before .before .before .before .before .before .before .before .before .before .pre .0 .rowed in
-    omega (arith, c .before .before .if1 .taken, r .publics-are, r .privates-are, r .few-publics, r .few-bounds)
+    omega (arith, c .before .before .if1 .taken, r .publics-are, r .privates-are, r .few-publics, r .few-privates)
 
 make-requires : tie.Need-make-requires Inv-loop μ-loop
 make-requires c κs =
@@ -59,9 +60,9 @@ make-requires c κs =
     let s = p .0 .spotted in
     let w = a .table .now in
     let l = c .before .before .before .before .loop in
-    let vs = Lists.from (publics w) (bounds w) in
-    let u : l .k < bounds w = omega (arith, c .before .before .if1 .taken, r .privates-are) in
-    let e : a .plan .publics + l .k ≡ word vs (l .k) = ap (λ (x : ℕ). x + l .k) (r .publics-are) ∙ sym (from-getD (publics w) (bounds w) (l .k) u) in (
+    let vs = Lists.from (publics w) (privatesOf w) in
+    let u : l .k < privatesOf w = omega (arith, c .before .before .if1 .taken, r .privates-are) in
+    let e : a .plan .publics + l .k ≡ word vs (l .k) = ap (λ (x : ℕ). x + l .k) (r .publics-are) ∙ sym (from-getD (publics w) (privatesOf w) (l .k) u) in (
       r,
       p .1,
       p .2,
@@ -72,7 +73,7 @@ make-requires c κs =
       omega (arith, r .publics-are),
       omega (arith, r .publics-are, u),
       map-inside (ofTable w) _ (state (l .out) (l .q)) vs (l .k) (made w (a .n)) (l .inv .0) (a .plan .publics + l .k)
-          (omega (arith, from-length (publics w) (bounds w), u)) e (p .3),
+          (omega (arith, from-length (publics w) (privatesOf w), u)) e (p .3),
     )
 
 add-k : tie.Need-add-k Inv-loop μ-loop
@@ -81,7 +82,7 @@ add-k c =
       arith,
       c .before .before .before .before .before .if1 .taken,
       c .before .before .before .before .before .before .before .before .before .before .before .before .before .before .before .pre .0 .rowed .privates-are,
-      c .before .before .before .before .before .before .before .before .before .before .before .before .before .before .before .pre .0 .rowed .few-bounds,
+      c .before .before .before .before .before .before .before .before .before .before .before .before .before .before .before .pre .0 .rowed .few-privates,
     )
 
 loop-less : tie.Need-loop-less Inv-loop μ-loop
@@ -94,11 +95,11 @@ loop-again c =
     let r = p .0 .rowed in
     let w = a .table .now in
     let l = c .before .before .before .before .before .before .before .loop in
-    let vs = Lists.from (publics w) (bounds w) in
-    let u : l .k < bounds w = omega (arith, c .before .before .before .before .before .if1 .taken, r .privates-are) in
-    let e : a .plan .publics + l .k ≡ word vs (l .k) = ap (λ (x : ℕ). x + l .k) (r .publics-are) ∙ sym (from-getD (publics w) (bounds w) (l .k) u) in (
+    let vs = Lists.from (publics w) (privatesOf w) in
+    let u : l .k < privatesOf w = omega (arith, c .before .before .before .before .before .if1 .taken, r .privates-are) in
+    let e : a .plan .publics + l .k ≡ word vs (l .k) = ap (λ (x : ℕ). x + l .k) (r .publics-are) ∙ sym (from-getD (publics w) (privatesOf w) (l .k) u) in (
       map-more (ofTable w) _ (state (l .out) (l .q)) vs (l .k) (made w (a .n)) (l .inv .0) (a .plan .publics + l .k)
-          (omega (arith, from-length (publics w) (bounds w), u)) e _ (c .before .before .make .ensures),
+          (omega (arith, from-length (publics w) (privatesOf w), u)) e _ (c .before .before .make .ensures),
       state-length w (l .out) _ (l .q) _ _ (c .before .before .make .ensures) ∙ l .inv .1,
       omega (arith, c .before .before .before .before .before .if1 .taken),
     )
@@ -112,8 +113,8 @@ returns c =
     let r = c .before .before .before .before .before .before .before .before .before .before .pre .0 .rowed in
     let w = a .table .now in
     let l = c .before .before .loop in
-    map-done (ofTable w) _ (state (l .out) (l .q)) (Lists.from (publics w) (bounds w)) (l .k) (made w (a .n)) (l .inv .0)
-    (omega (arith, from-length (publics w) (bounds w), c .if1 .left, r .privates-are))
+    map-done (ofTable w) _ (state (l .out) (l .q)) (Lists.from (publics w) (privatesOf w)) (l .k) (made w (a .n)) (l .inv .0)
+    (omega (arith, from-length (publics w) (privatesOf w), c .if1 .left, r .privates-are))
 
 pub news-spec : {M : Type 1} → statement M
 news-spec =

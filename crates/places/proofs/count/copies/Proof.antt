@@ -1,8 +1,9 @@
 -- `places::count::copies` meets its contract.
-use mathlib.Core.Path.{_≡_, refl, sym, ap, subst, _∙_}
-use Prim.Native.Nat.{ℕ, _+_, _*_}
+use mathlib.Core.Path.{_≡_, sym, ap, subst, _∙_}
+use Prim.Native.Nat.{ℕ}
 use native.Mathlib.Omega.{arith}
-use Rattle.scheme.specs.Words.{publics, bounds}
+use Rattle.scheme.specs.Words.{publics}
+use Rattle.places.specs.Inner.Plan.{privatesOf}
 use Rattle.places.specs.Inner.Counting.{Sums, Few, sumsOf, addTimes}
 use Rattle.places.proofs.Counts.{copy-public, copy-restricted, copy-free}
 use borrow.Author.Needs.{needs}
@@ -68,7 +69,7 @@ more-requires-4 c κs =
     let f = subst Few (copy-free w s (a .argument) (omega (arith, p .0 .publics-are, c .before .before .before .if1 .left)) (sym (c .before .before .is-restricted .ensures (p .1)) ∙ c .before .if2 .left)) (p .2) in
     let e : sumsOf (c .more3 .result) ≡ addTimes s (publics w) 2 3 = c .more3 .ensures ∙ ap (λ (k : ℕ). addTimes s k 2 3) (p .0 .publics-are) in
     subst (λ (k : ℕ). Few (addTimes (sumsOf (c .more3 .result)) k 3 3)) (sym (p .0 .privates-are))
-    (subst (λ (u : Sums). Few (addTimes u (bounds w) 3 3)) (sym e) f)
+    (subst (λ (u : Sums). Few (addTimes u (privatesOf w) 3 3)) (sym e) f)
 
 returns-3 : tie.Need-returns-3
 returns-3 c =

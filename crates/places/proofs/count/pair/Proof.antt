@@ -7,8 +7,8 @@ use native.Mathlib.Omega.{arith}
 use lib.Dec.{ltb}
 use borrow.Author.Needs.{needs}
 use Rattle.lists.specs.Lists.{pick, bit}
-use Rattle.scheme.specs.Words.{publics, bounds}
-use Rattle.places.specs.Inner.Plan.{values}
+use Rattle.scheme.specs.Words.{publics}
+use Rattle.places.specs.Inner.Plan.{privatesOf, values}
 use Rattle.places.specs.Inner.Counting.{Sums, Few, sumsOf, pairSums}
 use Rattle.places.specs.declared.layout.Layout.{Layout}
 use Rattle.places.specs.declared.layout.Reach.{Reach}
@@ -185,7 +185,7 @@ sub-publics c =
     let c6 = c4 .before .before in
     let c8 = c6 .before .before in
     let w = c8 .before .before .args .table .now in
-    let r = c3 .common .ensures (publics w) (bounds w) (values w (c8 .field4 .result)) (values w (c6 .field43 .result)) in
+    let r = c3 .common .ensures (publics w) (privatesOf w) (values w (c8 .field4 .result)) (values w (c6 .field43 .result)) in
     let s = c8 .before .before in
     r (c4 .before .reach-of .ensures (omega (arith, c8 .field4 .ensures .is, s .pre .1))) (c4 .reach-of2 .ensures (omega (arith, c6 .field43 .ensures .is, s .pre .3))) .order
 

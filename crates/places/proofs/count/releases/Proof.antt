@@ -1,9 +1,10 @@
 -- `places::count::releases` meets its contract.
-use mathlib.Core.Path.{_≡_, refl, sym, ap, subst, _∙_}
-use Prim.Native.Nat.{ℕ, _+_, _*_}
+use mathlib.Core.Path.{_≡_, sym, ap, subst, _∙_}
+use Prim.Native.Nat.{ℕ}
 use native.Mathlib.Omega.{arith}
 use Rattle.places.specs.Inner.Counting.{Sums, Few, sumsOf, addTimes}
-use Rattle.scheme.specs.Words.{publics, bounds}
+use Rattle.scheme.specs.Words.{publics}
+use Rattle.places.specs.Inner.Plan.{privatesOf}
 use Rattle.places.proofs.Counts.{release-restricted, release-free}
 use borrow.Author.Needs.{needs}
 use Rattle.places.proofs.count.releases.Statement.{statement}
@@ -46,7 +47,7 @@ more-requires-3 c κs =
     let e : sumsOf (c .more2 .result) ≡ addTimes (sumsOf (a .t)) (a .plan .publics) 2 1 = c .more2 .ensures in
     let q : addTimes (sumsOf (a .t)) (a .plan .publics) 2 1 ≡ addTimes (sumsOf (a .t)) (publics (a .table .now)) 2 1 = ap (λ (k : ℕ). addTimes (sumsOf (a .t)) k 2 1) (p .0 .publics-are) in
     subst (λ (k : ℕ). Few (addTimes (sumsOf (c .more2 .result)) k 2 2)) (sym (p .0 .privates-are))
-    (subst (λ (u : Sums). Few (addTimes u (bounds (a .table .now)) 2 2)) (sym (e ∙ q)) f)
+    (subst (λ (u : Sums). Few (addTimes u (privatesOf (a .table .now)) 2 2)) (sym (e ∙ q)) f)
 
 returns-2 : tie.Need-returns-2
 returns-2 c =

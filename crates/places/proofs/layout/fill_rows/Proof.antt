@@ -1,6 +1,6 @@
 -- `places::layout::fill_rows` meets its contract. Loop: the rows below x stand. Measure: names left.
 use mathlib.Core.Path.{_≡_, refl, sym, ap, subst, _∙_}
-use Prim.Native.Nat.{ℕ, _+_, _-_, _*_, _≤_, _<_}
+use Prim.Native.Nat.{_+_, _-_, _*_, _≤_}
 use native.Mathlib.Omega.{arith}
 use borrow.Author.Needs.{needs}
 use lib.ListN.{length, length-set}
@@ -14,10 +14,11 @@ use Rattle.lists.proofs.store32.Reads as store32-reads
 use Rattle.lists.proofs.word16.Reads as word16-reads
 
 abbrev Inv-loop : tie.InvT-loop
-Inv-loop table rows₀ publics end at₀ x₀ rows at x = (at ≡ rowOf table x) × (at + 96 * publics ≤ 96 * x) × RowsBelow table rows x × (length rows ≡ length rows₀) × (publics ≤ x) × (x ≤ end)
+Inv-loop table privates rows₀ publics end at₀ x₀ rows at x =
+    (at ≡ rowOf table x) × (at + 96 * publics ≤ 96 * x) × RowsBelow table rows x × (length rows ≡ length rows₀) × (publics ≤ x) × (x ≤ end)
 
 abbrev μ-loop : tie.MeasureT-loop
-μ-loop table rows₀ publics end at₀ x₀ rows at x = end - x
+μ-loop table privates rows₀ publics end at₀ x₀ rows at x = end - x
 
 word16-requires : tie.Need-word16-requires Inv-loop μ-loop
 word16-requires c κs = search needs
@@ -41,7 +42,12 @@ store32-requires : tie.Need-store32-requires Inv-loop μ-loop
 store32-requires c κs = search needs
 
 row-length-requires : tie.Need-row-length-requires Inv-loop μ-loop
-row-length-requires c κs = omega (arith, c .before .before .before .before .before .before .before .word16 .ensures .is, c .before .before .before .before .before .before .word162 .ensures .is, c .before .before .before .before .before .loop .inv .4)
+row-length-requires c κs =
+    let s = c .before .before .before .before .before .before .before .before .before .before in
+    let e = c .before .before .before .before .before .before .before .word16 .ensures .is in
+    let n = c .before .before .before .before .before .before .word162 .ensures .is in
+    let h = c .before .before .before .before .before .loop .inv in
+    (omega (arith, e, h .4), omega (arith, e, n), s .pre .3, s .pre .4)
 
 add-at : tie.Need-add-at Inv-loop μ-loop
 add-at c = omega (arith, c .before .before .before .before .before .before .before .before .before .before .before .pre, c .before .before .before .before .before .before .before .before .word16 .ensures .is, c .before .before .before .before .before .before .before .word162 .ensures .is, c .before .before .before .before .before .before .loop .inv .1, c .row-length .ensures .1)

@@ -1,8 +1,6 @@
 -- `places::layout::row_length` meets its contract.
-use mathlib.Core.Path.{_≡_, refl, sym, ap, _∙_}
-use Prim.Native.Nat.{ℕ, _+_, _-_, _≤_, _<_}
+use mathlib.Core.Path.{sym, _∙_}
 use native.Mathlib.Omega.{arith}
-use Rattle.lists.specs.Lists.{pick}
 use Rattle.places.proofs.Names.{kind-restricted, kind-free, row-length}
 use borrow.Author.Needs.{needs}
 use Rattle.places.proofs.layout.row_length.Statement.{statement}
@@ -13,22 +11,16 @@ use Rattle.scheme.proofs.fields.name_kind.Reads as name-kind-reads
 name-kind-requires : tie.Need-name-kind-requires
 name-kind-requires c κs = search needs
 
-word16-requires : tie.Need-word16-requires
-word16-requires c κs = search needs
-
 returns : tie.Need-returns
 returns c =
-    let a = c .before .before .before .before .args in
-    let p = c .before .before .before .before .pre in
-    let k = c .before .before .name-kind in
-    let r = kind-restricted (a .table .now) (a .name) (k .result) (p .0) (p .1) (k .ensures .is) (c .before .if1 .taken) in
-    (c .word16 .ensures .is ∙ sym (row-length (a .table .now) (a .name) (p .0) ∙ rw r), omega (arith, c .word16 .ensures .is))
+    let a = c .before .before .before .args in
+    let p = c .before .before .before .pre in
+    let k = c .before .name-kind in
+    let r = kind-restricted (a .table .now) (a .name) (k .result) (p .0) (p .1) (k .ensures .is) (c .if1 .taken) in
+    (p .2 ∙ sym (row-length (a .table .now) (a .name) (p .0) ∙ rw r), omega arith)
 
-word16-requires-2 : tie.Need-word16-requires-2
-word16-requires-2 c κs = search needs
-
-word16-requires-3 : tie.Need-word16-requires-3
-word16-requires-3 c κs = search needs
+word16-requires : tie.Need-word16-requires
+word16-requires c κs = search needs
 
 mul-result : tie.Need-mul-result
 mul-result c = search needs
@@ -38,21 +30,19 @@ add-result c = search needs
 
 returns-2 : tie.Need-returns-2
 returns-2 c =
-    let a = c .before .before .before .before .before .args in
-    let p = c .before .before .before .before .before .pre in
-    let k = c .before .before .before .name-kind in
-    let r = kind-free (a .table .now) (a .name) (k .result) (p .0) (p .1) (k .ensures .is) (c .before .before .if1 .left) in
-    (rw (c .before .word162 .ensures .is, c .word163 .ensures .is) (sym (row-length (a .table .now) (a .name) (p .0) ∙ rw r)), omega (arith, c .before .word162 .ensures .is, c .word163 .ensures .is))
+    let a = c .before .before .before .before .args in
+    let p = c .before .before .before .before .pre in
+    let k = c .before .before .name-kind in
+    let r = kind-free (a .table .now) (a .name) (k .result) (p .0) (p .1) (k .ensures .is) (c .before .if1 .left) in
+    (rw (c .word16 .ensures .is, p .2) (sym (row-length (a .table .now) (a .name) (p .0) ∙ rw r)), omega (arith, c .word16 .ensures .is))
 
 pub row-length-spec : {M : Type 1} → statement M
 row-length-spec =
     tie.close
     (tie.spec
     name-kind-requires
-    word16-requires
     returns
-    word16-requires-2
-    word16-requires-3
+    word16-requires
     mul-result
     add-result
     returns-2)

@@ -1,17 +1,13 @@
 -- `readback::names::freed` meets its contract. Loop: the private values left decide. Measure: private values left.
-use mathlib.Core.Path.{_≡_, refl, sym, ap, _∙_}
-use mathlib.Core.Bool.{true, false, false≢true}
-use Prim.Native.Nat.{ℕ, _+_, _-_, _≤_, _<_}
+use mathlib.Core.Path.{_≡_, sym, _∙_}
+use Prim.Native.Nat.{_-_}
 use native.Mathlib.Omega.{arith}
-use borrow.Author.Tests.{not-true, not-false}
-use lib.ListN.{length}
-use Rattle.lists.specs.Lists.{pick, bit, same, word, from, range, every, keep}
+use Rattle.lists.specs.Lists.{from, every}
 use Rattle.lists.proofs.Ranges.{every-more, every-stop, every-done}
 use Rattle.scheme.specs.Words.{names}
 use Rattle.scheme.specs.Scheme.{scheme}
 use Rattle.readback.specs.Inner.Standing.{freedFor, freedAll}
 use Rattle.readback.proofs.Valuing.{freed-start, wanted-is, differ-same, equal-same}
-use borrow.Author.Needs.{needs}
 use Rattle.readback.proofs.names.freed.Statement.{statement}
 use Rattle.readback.proofs.names.freed.Tie as tie
 
@@ -29,12 +25,12 @@ loop-holds c =
 holders-requires : tie.Need-holders-requires Inv-loop μ-loop
 holders-requires c κs =
     let s = c .before .before .before .before .before in
-    (s .pre, omega (arith, c .loop-test .taken, s .pre .privates-are, s .pre .few-bounds))
+    (s .pre, omega (arith, c .loop-test .taken, s .pre .privates-are, s .pre .few-privates))
 
 wanted-requires : tie.Need-wanted-requires Inv-loop μ-loop
 wanted-requires c κs =
     let s = c .before .before .before .before .before .before in
-    (s .pre .few-free, omega (arith, c .before .loop-test .taken, s .pre .privates-are, s .pre .few-bounds))
+    (s .pre .few-free, omega (arith, c .before .loop-test .taken, s .pre .privates-are, s .pre .few-privates))
 
 returns : tie.Need-returns Inv-loop μ-loop
 returns c =
@@ -52,7 +48,7 @@ add-n : tie.Need-add-n Inv-loop μ-loop
 add-n c =
     let at-loop-test = c .before .before .before in
     let s = at-loop-test .before .before .before .before .before in
-    omega (arith, at-loop-test .loop-test .taken, s .pre .privates-are, s .pre .few-bounds)
+    omega (arith, at-loop-test .loop-test .taken, s .pre .privates-are, s .pre .few-privates)
 
 loop-less : tie.Need-loop-less Inv-loop μ-loop
 loop-less c = omega arith

@@ -1,14 +1,7 @@
 -- `readback::names::opposed_for` meets its contract.
-use mathlib.Core.Path.{_≡_, refl, sym, ap, _∙_}
-use mathlib.Core.Bool.{true, false, false≢true}
-use Prim.Native.Nat.{ℕ, _+_, _-_, _≤_, _<_}
+use mathlib.Core.Path.{sym, _∙_}
 use native.Mathlib.Omega.{arith}
-use borrow.Author.Tests.{not-true, not-false}
-use lib.ListN.{length}
-use Rattle.lists.specs.Lists.{pick, bit, same, word, from, range, every, keep}
-use Rattle.lists.proofs.Ranges.{every-more, every-stop, every-done}
 use Rattle.scheme.specs.Words.{names}
-use Rattle.scheme.specs.Scheme.{scheme}
 use Rattle.readback.proofs.Valuing.{opposed-is, end-few}
 use borrow.Author.Needs.{needs}
 use Rattle.readback.proofs.names.opposed_for.Statement.{statement}
@@ -43,7 +36,7 @@ add-opposite c =
       end-few (s .args .table .now) (s .args .rows .now) (s .args .plan) (s .pre .0)
           (s .args .marking .now),
       s .pre .0 .privates-are,
-      s .pre .0 .few-bounds,
+      s .pre .0 .few-privates,
     )
 
 opposite-requires : tie.Need-opposite-requires
@@ -62,9 +55,9 @@ opposite-requires c κs =
         end-few (s .args .table .now) (s .args .rows .now) (s .args .plan) (s .pre .0)
             (s .args .marking .now),
         s .pre .0 .privates-are,
-        s .pre .0 .few-bounds,
+        s .pre .0 .few-privates,
       ),
-      omega (arith, s .pre .0 .privates-are, s .pre .0 .few-bounds),
+      omega (arith, s .pre .0 .privates-are, s .pre .0 .few-privates),
     )
 
 returns-2 : tie.Need-returns-2

@@ -1,0 +1,126 @@
+// N: how many private values a net has.
+ghost use mathlib.Core.Path.{_≡_};
+ghost use mathlib.Core.List.{map};
+ghost use Prim.Native.Nat.{_<_, _≤_};
+ghost use lib.Dec.{ltb};
+ghost use lib.ListN.{length, set};
+ghost use Rattle.lists.specs.Lists.{pick, word, range, total};
+ghost use Rattle.scheme.specs.Words.{nodes};
+ghost use Rattle.scheme.specs.Scheme.{scheme};
+ghost use Rattle.table.specs.Causes.{cause};
+ghost use Rattle.places.specs.Inner.Plan.{privatesOf, Known, Defined};
+ghost use Rattle.places.specs.Inner.Holding.{heldMost, HeldBelow, NoneHeld, MostsHeld};
+use crate::count::larger;
+use crate::layout::free_names;
+use lists::store32;
+use lists::word16;
+use lists::word32;
+use scheme::fields::field3;
+use scheme::fields::field4;
+use scheme::index::Parent;
+use scheme::index::step_up;
+use scheme::index::thread;
+
+// How many names a node holds, told from how many the nodes below it hold.
+fn held_count(table: &[u16], owners: &[u32], homes: &[u32], below: &[u32], node: usize) -> usize
+    requires { ⌜ Known (now table) (now owners) (now homes) × (node < nodes (now table))
+        × HeldBelow (scheme (now table)) node (now below) ⌝ }
+    ensures { λ r. ⌜ r ≡ length (scheme (now (table .entry)) .held node) ⌝ }
+{
+    match step_up(owners, homes, node) {
+        Parent::Definition(d) => field4(table, 8, d, 3),
+        Parent::New(m) => word32(below, m) + 1,
+        Parent::Branch(b, m) => {
+            let held = word32(below, m);
+            if field4(table, 11, b, 0) == 2 {
+                return held + 1;
+            }
+            held
+        }
+        Parent::Nobody => 0,
+    }
+}
+
+// The names that a node holds, with the formals of the definition that it calls: the most that its control places, or
+// the first one of the called root, hold.
+fn most_at(table: &[u16], node: usize, held: usize) -> usize
+    requires { ⌜ (cause (now table) ≡ 0) × (node < nodes (now table)) × (held ≡ length (scheme (now table) .held node)) ⌝ }
+    ensures { λ r. ⌜ (r ≡ heldMost (scheme (now (table .entry))) node) × (r ≤ 64) ⌝ }
+{
+    let kind = field3(table, 10, node, 0);
+    if kind == 3 {
+        return field4(table, 8, field3(table, 10, node, 1), 3) + held;
+    }
+    held
+}
+
+// Raises word t to `held`, where it is less.
+fn raise(most: &mut [u32], t: usize, held: usize)
+    requires { ⌜ held ≤ 64 ⌝ }
+    ensures { λ r. ⌜ now (most .exit) ≡ set (now (most .entry)) t
+        (pick (ltb (word (now (most .entry)) t) held) held (word (now (most .entry)) t)) ⌝ }
+{
+    let before = word32(most, t);
+    store32(most, t, larger(before, held) as u32);
+}
+
+// The most names that a control place of each thread holds, in one pass over the nodes: `held` has how many each node
+// passed so far holds.
+fn raise_all(
+    table: &[u16],
+    owners: &[u32],
+    homes: &[u32],
+    definitions: &[u16],
+    held: &mut [u32],
+    most: &mut [u32],
+)
+    requires { ⌜ Known (now table) (now owners) (now homes) × Defined (now table) (now homes) (now definitions)
+        × (256 ≤ length (now held)) × NoneHeld (now most) ⌝ }
+    ensures { λ r. ⌜ MostsHeld (scheme (now (table .entry))) (now (most .exit)) ⌝ }
+{
+    let nodes = word16(table, 4);
+    let mut n = 0;
+    while n < nodes {
+        let count = held_count(table, owners, homes, held, n);
+        store32(held, n, count as u32);
+        raise(
+            most,
+            thread(table, definitions, n),
+            most_at(table, n, count),
+        );
+        n += 1;
+    }
+}
+
+// The sum of the first `count` words.
+fn sum(words: &[u32], count: usize) -> usize
+    requires { ⌜ count ≤ 8 ⌝ }
+    ensures { λ r. ⌜ r ≡ total (map (word (now (words .entry))) (range count)) ⌝ }
+{
+    let mut s = 0;
+    let mut i = 0;
+    while i < count {
+        s += word32(words, i);
+        i += 1;
+    }
+    s
+}
+
+// N: none without restricted names, else what the threads hold at most, added up.
+pub(crate) fn private_values(
+    table: &[u16],
+    owners: &[u32],
+    homes: &[u32],
+    definitions: &[u16],
+) -> usize
+    requires { ⌜ Known (now table) (now owners) (now homes) × Defined (now table) (now homes) (now definitions) ⌝ }
+    ensures { λ r. ⌜ (r ≡ privatesOf (now (table .entry))) × (r ≤ 32) ⌝ }
+{
+    if free_names(table) == word16(table, 1) {
+        return 0;
+    }
+    let mut held = [0u32; 256];
+    let mut most = [0u32; 8];
+    raise_all(table, owners, homes, definitions, &mut held, &mut most);
+    sum(&most, word16(table, 3))
+}
