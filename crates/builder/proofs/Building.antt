@@ -1,33 +1,32 @@
 -- The header, the places marked at first, then the transitions of nodes and the communications: the image of a table in the lent words.
 use mathlib.Core.Path.{_≡_, refl, sym, ap, _∙_}
-use mathlib.Core.Bool.{Bool, true, false}
 use mathlib.Core.List.{List, [], _∷_, _++_, map}
 use Prim.Native.Nat.{ℕ, _+_, _*_, _≤_, _<_}
 use native.Mathlib.Omega.{arith}
-use lib.Dec.{ltb}
 use lib.ListN.{length, drop, length-map, length-append}
 use borrow.Author.Tests.{lt-ltb, le-ltb}
-use Rattle.lists.specs.Lists.{pick, same, range, flat, total}
+use Rattle.lists.specs.Lists.{word, range, flat, total}
 use Rattle.lists.proofs.Tests.{same-yes, same-no}
 use Rattle.scheme.specs.Words.{nodes, branches}
-use Rattle.scheme.specs.Scheme.{Scheme, scheme}
+use Rattle.scheme.specs.Scheme.{scheme}
 use Rattle.table.specs.Causes.{cause}
-use Rattle.net.specs.Net.{Net, Transition, arcsOf, headerWords, recordsOffset, arcsOffset, encode}
+use Rattle.net.specs.Net.{Net, Transition, arcsOf, recordsOffset, arcsOffset}
 use Rattle.net.proofs.Encode
 use Rattle.places.specs.Transitions.{Description, ofNode, ofPair, descriptions}
-use Rattle.places.specs.Image.{transitionOf, netOf, imageOf}
-use Rattle.builder.specs.Answer.{BuildOutcome, outcome, buildOutcome, laidOutcome, extent, sizeOutcome}
+use Rattle.places.specs.Image.{netOf, imageOf}
+use Rattle.builder.specs.Answer.{outcome, buildOutcome, laidOutcome, extent, sizeOutcome}
 use Rattle.places.specs.Inner.Arcs.{initialNumbers}
 use Rattle.builder.specs.Inner.Writing
 use Rattle.builder.specs.Inner.Writing.{writes, heads, putAll, Inside}
-use Rattle.places.specs.Inner.Counting.{sumsOf, allSums}
-use Rattle.places.specs.Inner.Plan.{today, headerOf, Laid}
-use Rattle.builder.specs.Inner.Parts.{put, state, ofTable}
-use Rattle.places.specs.declared.layout.Layout.{Layout}
+use Rattle.places.specs.Inner.Plan.{today, headerOf}
+use Rattle.places.specs.Plan.{placesAt, tokensAt, Laid}
+use Rattle.places.specs.Answers.{sumsOf, netSums}
+use Rattle.builder.specs.Inner.Parts.{ofTable}
 use Rattle.places.specs.declared.count.Totals.{Totals}
 use Rattle.builder.proofs.Writing.{writes-length, put-append, put-place, put-arc, put-length, inside-first, begun, written}
 use Rattle.places.proofs.Size.{image-below}
-use Rattle.places.proofs.WholeSums.{image-words, initial-is, transitions-are, counts-are, tokens-is, header-is, words-are}
+use Rattle.places.proofs.Plans.{net-initial}
+use Rattle.places.proofs.WholeSums.{image-words, transitions-are, counts-are, tokens-is, header-is}
 
 module _ (w : List ℕ) where
   abbrev pub ofNodes : List Description
@@ -41,24 +40,24 @@ module _ (w : List ℕ) where
   unfolding descriptions scheme
   all-descriptions = refl
 
-  module _ (ok : cause w ≡ 0) (rows spots : List ℕ) (plan : Layout) (laid : Laid w rows spots plan) (t : Totals) (all : sumsOf t ≡ allSums w)
+  module _ (ok : cause w ≡ 0) (x : List ℕ) (laid : Laid w x) (t : Totals) (all : sumsOf t ≡ netSums w)
       (out o1 o2 : List ℕ) (room : length (imageOf w) ≤ length out)
-      (first : o1 ≡ writes out 0 (headerOf (plan .places) (t .transitions) (t .inputs) (t .outputs) (plan .tokens)))
+      (first : o1 ≡ writes out 0 (headerOf (word x placesAt) (t .transitions) (t .inputs) (t .outputs) (word x tokensAt)))
       (second : o2 ≡ writes o1 8 (initialNumbers (scheme w) (today w))) where
     abbrev net : Net
     net = netOf (scheme w)
 
     abbrev base : ℕ
-    base = 8 + plan .tokens
+    base = 8 + word x tokensAt
 
     abbrev from-here : Writing.Heads
     from-here = heads o2 base (base + 6 * t .transitions)
 
     begun-is : o2 ≡ begun net out
-    begun-is = second ∙ rw (first, header-is w ok rows spots plan laid t all, initial-is w ok)
+    begun-is = second ∙ rw (first, header-is w ok x laid t all (word x placesAt) (word x tokensAt) refl refl, net-initial w)
 
     heads-are : from-here ≡ heads (begun net out) (recordsOffset net) (arcsOffset net)
-    heads-are = rw (begun-is, tokens-is w ok rows spots plan laid t all, counts-are w ok rows spots plan laid t all .0)
+    heads-are = rw (begun-is, tokens-is w ok x laid t all (word x tokensAt) refl, counts-are w ok x laid t all .0)
 
     pub all-written : putAll (ofTable w) (putAll (ofTable w) from-here ofNodes) ofPairs .out ≡ imageOf w ++ drop (length (imageOf w)) out
     unfolding imageOf
@@ -71,8 +70,9 @@ module _ (w : List ℕ) where
     here-length : length o2 ≡ length out
     here-length =
         rw (second, first)
-        (writes-length (writes out 0 (headerOf (plan .places) (t .transitions) (t .inputs) (t .outputs) (plan .tokens))) 8 (initialNumbers (scheme w) (today w))
-        ∙ writes-length out 0 (headerOf (plan .places) (t .transitions) (t .inputs) (t .outputs) (plan .tokens)))
+        (writes-length (writes out 0 (headerOf (word x placesAt) (t .transitions) (t .inputs) (t .outputs) (word x tokensAt))) 8 (initialNumbers
+        (scheme w) (today w))
+        ∙ writes-length out 0 (headerOf (word x placesAt) (t .transitions) (t .inputs) (t .outputs) (word x tokensAt)))
 
     arcs-total : (xs : List Description) → total (map (λ d. length (arcsOf (ofTable w d))) xs) ≡ length (flat arcsOf (map (ofTable w) xs))
     unfolding total flat
@@ -85,9 +85,10 @@ module _ (w : List ℕ) where
         let xs = ofNodes ++ ofPairs in
         let e = transitions-are w ok ∙ ap (map (ofTable w)) all-descriptions in
         let n : length (net .transitions) ≡ length xs = ap (λ (ts : List Transition). length ts) e ∙ length-map xs (ofTable w) in
-        let a : length (flat arcsOf (net .transitions)) ≡ length (flat arcsOf (map (ofTable w) xs)) = ap (λ (ts : List Transition). length (flat arcsOf ts)) e in
-        let c = counts-are w ok rows spots plan laid t all .0 in
-        let k = tokens-is w ok rows spots plan laid t all in
+        let a : length (flat arcsOf (net .transitions)) ≡ length (flat arcsOf (map (ofTable w) xs)) = ap (λ (ts : List Transition). length
+        (flat arcsOf ts)) e in
+        let c = counts-are w ok x laid t all .0 in
+        let k = tokens-is w ok x laid t all (word x tokensAt) refl in
         let i = image-words w ok in
         let b = image-below w ok in
         record {

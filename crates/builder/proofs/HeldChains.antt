@@ -2,65 +2,68 @@
 use mathlib.Core.Path.{_≡_, refl, sym, ap, _∙_}
 use mathlib.Core.Bool.{true}
 use mathlib.Core.List.{List, [], _∷_, _++_, map}
-use Prim.Native.Nat.{ℕ, suc, _+_, _≤_, _<_}
+use Prim.Native.Nat.{ℕ, suc, _+_, _-_, _≤_, _<_}
 use native.Mathlib.Omega.{arith}
-use lib.ListN.{length, take}
-use lib.Seq.{sets, sets-eq, length-sets, take-append-le, take-length}
+use lib.ListN.{length}
+use lib.Seq.{sets}
 use Rattle.lists.specs.Lists.{word, from, member}
 use Rattle.lists.proofs.Tests.{same-true}
 use Rattle.lists.proofs.Ranges.{from-length, from-member}
 use Rattle.lists.proofs.Members.{map-member}
 use Rattle.scheme.specs.Words.{nodes, definitions, root, firstFormal, formalCount, formals, nodeKind, nodeFirst, nodeSecond, isStop, isCall, argumentsOf}
 use Rattle.scheme.specs.Owners.{held}
-use Rattle.scheme.specs.Index.{heldIn, HeldNames}
+use Rattle.scheme.specs.Index.{heldAt}
 use Rattle.scheme.specs.Scheme.{Scheme, call, scheme}
 use Rattle.table.specs.Causes.{cause}
 use Rattle.table.proofs.Accepted.{accepted}
 use Rattle.places.specs.Places.{controls}
 use Rattle.places.specs.Transitions.{releases, copies, calling, ofNode}
-use Rattle.places.specs.Inner.Plan.{today, Known, Spotted, Named, Bounded, Frees, argumentName}
+use Rattle.places.specs.Inner.Plan.{today, Named, Bounded, Frees, argumentName}
 use Rattle.builder.specs.Inner.Parts.{Chained}
-use Rattle.places.proofs.Controls.{nodes-are, publics-are, bounds-are}
+use Rattle.places.specs.Plan.{nodesIn, Laid}
+use Rattle.places.proofs.Controls.{nodes-are, publics-are, bounds-are, control-goes-on, controls-few}
+use Rattle.places.proofs.Plans.{known, node-is}
 use Rattle.places.proofs.ByWords.{called-inside, arguments-inside, argument-inside, formals-of, arguments-of, held-of, held-known}
 use Rattle.places.proofs.ByWords.{count-stop, count-call}
 
--- ---- the held names in the lent words
+-- ---- the control places of a node, and the names that it holds
 
-module _ (w owners homes : List ℕ) (k : Known w owners homes) (n : ℕ) (l : n < nodes w) (before after : List ℕ) (r : ℕ)
-    (q : HeldNames (heldIn w owners homes n) before r after) (room : r ≤ length before) where
-  held-count : r ≡ length (held w n)
-  held-count = q .count ∙ ap (λ (xs : List ℕ). length xs) (held-known w owners homes k n l)
+module _ (w x : List ℕ) (L : Laid w x) (n : ℕ) (l : n < nodes w) where
+  -- as many as the plan tells
+  controls-between : (f g : ℕ) → f ≡ word (nodesIn x) n → g ≡ word (nodesIn x) (n + 1) → g - f ≡ controls (scheme w) n
+  controls-between f g p q = omega (arith, p, q, node-is w x L n (omega arith), node-is w x L (n + 1) (omega arith), control-goes-on w n)
 
-  pub held-taken : take r after ≡ held w n
-  held-taken =
-      let e : after ≡ sets before 0 (held w n) = q .written ∙ ap (sets before 0) (held-known w owners homes k n l) in
-      let s = sets-eq (held w n) before 0 (omega (arith, held-count)) in
-      rw (e, s, held-count) (take-append-le (length (held w n)) (held w n) _ (omega arith) ∙ take-length (held w n))
+  pub starts-rise : (f g : ℕ) → f ≡ word (nodesIn x) n → g ≡ word (nodesIn x) (n + 1) → f ≤ g
+  starts-rise f g p q = omega (arith, p, q, node-is w x L n (omega arith), node-is w x L (n + 1) (omega arith), control-goes-on w n)
 
-  pub held-room : r ≤ length after
-  held-room = omega (arith, ap (λ (xs : List ℕ). length xs) (q .written), length-sets before 0 (heldIn w owners homes n))
+  names-are : length (heldAt w x n) ≡ length (held w n)
+  names-are = ap (λ (xs : List ℕ). length xs) (held-known w x (known w x L) n l)
 
-  pub held-bounded : Bounded w (take r after)
-  held-bounded x m =
-      let i = accepted w (k .accepted) .held-name n x (rw (held-of w (k .accepted) n) (rw held-taken at m)) in
+  pub held-bounded : Bounded w (held w n)
+  held-bounded y m =
+      let i = accepted w (L .accepted) .held-name n y (rw (held-of w (L .accepted) n) m) in
       (omega (arith, i .low, publics-are w), omega (arith, i .high, publics-are w, bounds-are w))
 
--- ---- the chain of a Stop
+  -- ---- the chain of a Stop
 
-module _ (w owners homes : List ℕ) (k : Known w owners homes) (n : ℕ) (l : n < nodes w) (spots : List ℕ) (s : Spotted w spots) (before after : List ℕ) (r : ℕ)
-    (q : HeldNames (heldIn w owners homes n) before r after) where
-  pub stop-few : isStop w n ≡ true → r ≤ 64
-  stop-few e = omega (arith, count-stop w owners homes k n l before after r (same-true (nodeKind w n) 0 e) q .1)
+  stop-count : isStop w n ≡ true → 1 + length (held w n) ≡ controls (scheme w) n
+  stop-count e =
+      let c = count-stop w x (known w x L) n l [] (sets [] 0 (heldAt w x n)) (length (heldAt w x n)) (same-true (nodeKind w n) 0 e)
+      (record { count = refl; written = refl }) .0 in
+      omega (arith, c, names-are)
 
-  pub stop-chained : isStop w n ≡ true → (f : ℕ) → f ≡ word spots n
-      → Chained w (record { node = n; to = n; first = f; controls = 1 + r; last = f })
-  stop-chained e f g = record {
-    node-inside = l;
-    to-inside = l;
-    first-is = g ∙ s .spot-is n l;
-    controls-are = count-stop w owners homes k n l before after r (same-true (nodeKind w n) 0 e) q .0;
-    last-is = g ∙ s .spot-is n l;
-  }
+  module _ (e : isStop w n ≡ true) (f g : ℕ) (p : f ≡ word (nodesIn x) n) (q : g ≡ word (nodesIn x) (n + 1)) where
+    pub stop-room : 0 + length (held w n) ≤ g - f
+    stop-room = omega (arith, stop-count e, controls-between f g p q)
+
+    pub stop-chained : Chained w (record { node = n; to = n; first = f; controls = g - f; last = f })
+    stop-chained = record {
+      node-inside = l;
+      to-inside = l;
+      first-is = p ∙ node-is w x L n (omega arith);
+      controls-are = controls-between f g p q;
+      last-is = p ∙ node-is w x L n (omega arith);
+    }
 
 -- ---- a Call
 
@@ -126,17 +129,28 @@ module _ (w : List ℕ) (h : cause w ≡ 0) (n : ℕ) (l : n < nodes w) (e : isC
       let o : suc (length (S .formals d)) ≡ 1 + count = omega (arith, z) in
       rw (sym (c .definition-is), o, formals-are, arguments-are, root-of, held-of w h n, q)
 
-module _ (w owners homes : List ℕ) (k : Known w owners homes) (n : ℕ) (l : n < nodes w) (spots : List ℕ) (s : Spotted w spots) (before after : List ℕ) (r : ℕ)
-    (q : HeldNames (heldIn w owners homes n) before r after) (e : isCall w n ≡ true) (d to formal argument count : ℕ)
+module _ (w x : List ℕ) (L : Laid w x) (n : ℕ) (l : n < nodes w) (e : isCall w n ≡ true) (d to formal argument count : ℕ)
     (c : Called w n d to formal argument count) where
-  counted : (1 + count + r ≡ controls (scheme w) n) × (1 + count + r ≤ 65)
-  counted = count-call w owners homes k n l before after count r (same-true (nodeKind w n) 3 e) (c .count-is ∙ ap (formalCount w) (c .definition-is)) q
+  call-count : 1 + count + length (held w n) ≡ controls (scheme w) n
+  call-count =
+      let r = count-call w x (known w x L) n l [] (sets [] 0 (heldAt w x n)) count (length (heldAt w x n)) (same-true (nodeKind w n) 3 e)
+      (c .count-is ∙ ap (formalCount w) (c .definition-is)) (record { count = refl; written = refl }) .0 in
+      omega (arith, r, names-are w x L n l)
 
-  pub call-few : count + r ≤ 64
-  call-few = omega (arith, counted .1)
+  pub call-few : count ≤ 64
+  call-few = omega (arith, call-count, controls-few w (L .accepted) n)
 
-  pub call-chained : (f g : ℕ) → f ≡ word spots n → g ≡ word spots to
-      → Chained w (record { node = n; to = to; first = f; controls = 1 + count + r; last = g })
-  call-chained f g i j =
-      let t = call-root w (k .accepted) n l e d to formal argument count c in
-      record { node-inside = l; to-inside = t; first-is = i ∙ s .spot-is n l; controls-are = counted .0; last-is = j ∙ s .spot-is to t }
+  module _ (f g : ℕ) (p : f ≡ word (nodesIn x) n) (q : g ≡ word (nodesIn x) (n + 1)) where
+    pub call-room : 1 + count + length (held w n) ≤ g - f
+    call-room = omega (arith, call-count, controls-between w x L n l f g p q)
+
+    pub call-chained : (m : ℕ) → m ≡ word (nodesIn x) to → Chained w (record { node = n; to = to; first = f; controls = g - f; last = m })
+    call-chained m j =
+        let t = call-root w (L .accepted) n l e d to formal argument count c in
+        record {
+          node-inside = l;
+          to-inside = t;
+          first-is = p ∙ node-is w x L n (omega arith);
+          controls-are = controls-between w x L n l f g p q;
+          last-is = j ∙ node-is w x L to (omega (arith, t));
+        }

@@ -18,3 +18,4 @@ pub mod Rising
 pub mod Series
 pub mod Runs
 pub mod Partners
+pub mod Counted

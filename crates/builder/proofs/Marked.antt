@@ -24,9 +24,11 @@ use Rattle.places.specs.Places.{controls}
 use Rattle.places.specs.Rows.{freeStart}
 use Rattle.places.specs.Inner.Arcs.{insert, startsAt, initialNumbers}
 use Rattle.builder.specs.Inner.Writing.{writes}
-use Rattle.places.specs.Inner.Plan.{today, privatesOf, values, controlOf, rowOf, Rowed, Spotted}
+use Rattle.places.specs.Inner.Plan.{today, privatesOf, values, controlOf, rowOf}
+use Rattle.places.specs.Plan.{privatesAt, freeAt, rowsIn, nodesIn, Laid}
+use Rattle.places.proofs.Plans
+use Rattle.builder.proofs.Counted.{Counted}
 use Rattle.builder.specs.Inner.Parts.{Rising, Inserted, initialRows, initialSpots}
-use Rattle.places.specs.declared.layout.Layout.{Layout}
 use Rattle.places.proofs.Rows.{control-next}
 use Rattle.places.proofs.Order.{control-rises}
 use Rattle.places.proofs.Today
@@ -63,32 +65,32 @@ pub marks-skip : (w : List ℕ) (x e : ℕ) → x < e → scheme w .restricted x
 unfolding rowMarks
 marks-skip w x e h r = marks-more w x e h ∙ rw r
 
-module _ (w rows : List ℕ) (plan : Layout) (k : Rowed w rows plan) where
-  row-marks : (x row : ℕ) → publics w ≤ x → x < names w → row ≡ word rows x → scheme w .restricted x ≡ false
-      → rowMarks w x ≡ from (row + plan .publics + plan .privates) (plan .privates)
+module _ (w y : List ℕ) (L : Laid w y) (ps ns : ℕ) (k : Counted w ps ns) where
+  row-marks : (x row : ℕ) → publics w ≤ x → x < names w → row ≡ word (rowsIn y) x → scheme w .restricted x ≡ false
+      → rowMarks w x ≡ from (row + ps + ns) ns
   unfolding rowMarks
   row-marks x row h l e r =
       let v : length (values w x) ≡ scheme w .publics + privatesOf w = Today.values-free (scheme w) x (omega (arith, publics-are w)) r in
       let p : length (privateValuesOf (scheme w) (today w) x) ≡ privatesOf w = Today.privates-length (scheme w) x in
-      let a : word rows x ≡ rowOf w x = k .row-is x h l in
-      let b : rowOf w x + (scheme w .publics + privatesOf w) ≡ row + plan .publics + plan .privates
+      let a : word (rowsIn y) x ≡ rowOf w x = Plans.row-is w y L x h l in
+      let b : rowOf w x + (scheme w .publics + privatesOf w) ≡ row + ps + ns
       = omega (arith, e, a, k .publics-are, k .privates-are, publics-are w) in
       rw (r, v, p, b, k .privates-are)
 
   -- a name that is not restricted: its marks are written, then those of the names behind it
-  pub marks-written : (out : List ℕ) (at x e row : ℕ) → x < e → publics w ≤ x → x < names w → row ≡ word rows x → scheme w .restricted x ≡ false
+  pub marks-written : (out : List ℕ) (at x e row : ℕ) → x < e → publics w ≤ x → x < names w → row ≡ word (rowsIn y) x → scheme w .restricted x ≡ false
       → writes out at (rowsMarks w x e)
-      ≡ writes (writes out at (from (row + plan .publics + plan .privates) (plan .privates))) (at + plan .privates) (rowsMarks w (x + 1) e)
+      ≡ writes (writes out at (from (row + ps + ns) ns)) (at + ns) (rowsMarks w (x + 1) e)
   marks-written out at x e row s h l q r =
-      let f = from (row + plan .publics + plan .privates) (plan .privates) in
-      let n : length f ≡ plan .privates = from-length (row + plan .publics + plan .privates) (plan .privates) in
+      let f = from (row + ps + ns) ns in
+      let n : length f ≡ ns = from-length (row + ps + ns) ns in
       rw (marks-more w x e s, row-marks x row h l q r) (writes-append out at f (rowsMarks w (x + 1) e) ∙ rw n)
 
-  pub marks-counted : (x e row : ℕ) → x < e → publics w ≤ x → x < names w → row ≡ word rows x → scheme w .restricted x ≡ false
-      → length (rowsMarks w x e) ≡ plan .privates + length (rowsMarks w (x + 1) e)
+  pub marks-counted : (x e row : ℕ) → x < e → publics w ≤ x → x < names w → row ≡ word (rowsIn y) x → scheme w .restricted x ≡ false
+      → length (rowsMarks w x e) ≡ ns + length (rowsMarks w (x + 1) e)
   marks-counted x e row s h l q r =
-      let f = from (row + plan .publics + plan .privates) (plan .privates) in
-      let n : length f ≡ plan .privates = from-length (row + plan .publics + plan .privates) (plan .privates) in
+      let f = from (row + ps + ns) ns in
+      let n : length f ≡ ns = from-length (row + ps + ns) ns in
       rw (marks-more w x e s, row-marks x row h l q r) (length-append f (rowsMarks w (x + 1) e) ∙ rw n)
 
 -- the loop over rows: what is left is still to be written from `at` on
@@ -100,16 +102,16 @@ pub record RowsTurn (w begin : List ℕ) (end : ℕ) (out : List ℕ) (at x : �
   pub low : publics w ≤ x
   pub high : x ≤ names w
 
-module _ (w rows : List ℕ) (plan : Layout) (k : Rowed w rows plan) (begin : List ℕ) where
+module _ (w y : List ℕ) (L : Laid w y) (ps ns bs : ℕ) (k : Counted w ps ns) (bounds-are : bs ≡ bounds w) (begin : List ℕ) where
   abbrev end : ℕ
-  end = plan .publics + plan .bounds
+  end = ps + bs
 
   end-is : end ≡ names w
-  end-is = omega (arith, k .publics-are, k .bounds-are)
+  end-is = omega (arith, k .publics-are, bounds-are)
 
-  pub rows-begin : RowsTurn w begin end begin 8 (plan .publics)
+  pub rows-begin : RowsTurn w begin end begin 8 ps
   rows-begin =
-      let e = marks-start w (plan .publics) end (k .publics-are) (omega (arith, k .bounds-are)) in
+      let e = marks-start w ps end (k .publics-are) (omega (arith, bounds-are)) in
       record {
         written = ap (writes begin 8) e;
         counted = ap (λ (l : List ℕ). 8 + length l) e;
@@ -132,16 +134,16 @@ module _ (w rows : List ℕ) (plan : Layout) (k : Rowed w rows plan) (begin : Li
         high = omega (arith, end-is);
       }
 
-  pub rows-put : (out after : List ℕ) (at to x row : ℕ) → RowsTurn w begin end out at x → x < end → row ≡ word rows x → scheme w .restricted x ≡ false
-      → to ≡ at + plan .privates → after ≡ writes out at (from (row + plan .publics + plan .privates) (plan .privates))
+  pub rows-put : (out after : List ℕ) (at to x row : ℕ) → RowsTurn w begin end out at x → x < end → row ≡ word (rowsIn y) x → scheme w .restricted x ≡ false
+      → to ≡ at + ns → after ≡ writes out at (from (row + ps + ns) ns)
       → RowsTurn w begin end after to (x + 1)
   rows-put out after at to x row i l q r t a =
       let u : x < names w = omega (arith, end-is) in
-      let f = from (row + plan .publics + plan .privates) (plan .privates) in
-      let e = marks-written w rows plan k out at x end row l (i .low) u q r in
+      let f = from (row + ps + ns) ns in
+      let e = marks-written w y L ps ns k out at x end row l (i .low) u q r in
       record {
         written = i .written ∙ e ∙ rw (a, t);
-        counted = omega (arith, i .counted, marks-counted w rows plan k x end row l (i .low) u q r);
+        counted = omega (arith, i .counted, marks-counted w y L ps ns k x end row l (i .low) u q r);
         kept = rw a (writes-length out at f ∙ i .kept);
         few = omega (arith, i .few, k .privates-are, k .few-bounds);
         low = omega (arith, i .low);
@@ -149,11 +151,11 @@ module _ (w rows : List ℕ) (plan : Layout) (k : Rowed w rows plan) (begin : Li
       }
 
   -- the sums that the code forms are small
-  pub rows-room : (out : List ℕ) (at x row : ℕ) → RowsTurn w begin end out at x → x < end → row ≡ word rows x
-      → (row + plan .publics + plan .privates + plan .privates ≤ 4096) × (at ≤ 4096)
+  pub rows-room : (out : List ℕ) (at x row : ℕ) → RowsTurn w begin end out at x → x < end → row ≡ word (rowsIn y) x
+      → (row + ps + ns + ns ≤ 4096) × (at ≤ 4096)
   rows-room out at x row i l e =
       let u : x < names w = omega (arith, end-is) in
-      let f = Names.row-few w rows plan k x (i .low) u in (
+      let f = Plans.row-few w y L x (i .low) u in (
         omega (arith, f, k .publics-are, k .privates-are, k .few-publics, k .few-bounds),
         omega (arith, i .few, i .high, k .few-bounds),
       )
@@ -335,16 +337,16 @@ pub spots-begin : (w list : List ℕ) (end : ℕ) → length list ≡ 8 → Spot
 unfolding ascends
 spots-begin w list end s = record { placed = refl; rises = refl; few = omega arith; low = omega arith; eight = s }
 
-pub spots-put : (w spots : List ℕ) (end : ℕ) (list after : List ℕ) (count to t d n x : ℕ) → Spotted w spots → end ≡ threads w → SpotsTurn w end list count t →
+pub spots-put : (w y : List ℕ) (end : ℕ) (list after : List ℕ) (count to t d n x : ℕ) → Laid w y → end ≡ threads w → SpotsTurn w end list count t →
     t < end
-    → d ≡ entry w t → n ≡ root w d → x ≡ word spots n → x < 4294967296 → Inserted x count list to after
+    → d ≡ entry w t → n ≡ root w d → x ≡ word (nodesIn y) n → x < 4294967296 → Inserted x count list to after
     → length after ≡ length list → SpotsTurn w end after to (t + 1)
-spots-put w spots end list after count to t d n x k e i l p q r u a b =
+spots-put w y end list after count to t d n x k e i l p q r u a b =
     let s : t < threads w = omega arith in
     let c : count ≤ length list = omega (arith, few-threads w (k .accepted), i .eight, i .few) in
     let m : n ≡ root w (entry w t) = q ∙ ap (root w) p in
     let y : x ≡ entryPlace w t =
-    r ∙ ap (word spots) m ∙ k .spot-is (root w (entry w t)) (root-inside w (k .accepted) t s) ∙ sym (entry-place w t) in
+    r ∙ ap (word (nodesIn y)) m ∙ Plans.node-is w y k (root w (entry w t)) (omega (arith, root-inside w (k .accepted) t s)) ∙ sym (entry-place w t) in
     let f : take to after ≡ insert (entryPlace w t) (take count list) = a .first ∙ ap (λ (v : ℕ). insert v (take count list)) y in
     record {
       placed = i .placed ∙ spots-more w (take count list) t end l ∙ ap (λ (o : List ℕ). spotsLeft w o (t + 1) end) (sym f);
@@ -372,16 +374,17 @@ pub marks-are : (w : List ℕ) → initialNumbers (scheme w) (today w) ≡ initi
 unfolding initialNumbers initialRows initialSpots scheme
 marks-are w = refl
 
-pub all-marked : (w rows : List ℕ) (plan : Layout) (begin o1 o2 o3 : List ℕ) (at next : ℕ) → Rowed w rows plan → at ≡ 8 + length (initialRows w)
-    → o1 ≡ writes begin 8 (initialRows w) → next ≡ at + plan .privates → o2 ≡ writes o1 at (from (plan .free) (plan .privates))
+pub all-marked : (w y : List ℕ) (free ns : ℕ) (begin o1 o2 o3 : List ℕ)
+    (at next : ℕ) → Laid w y → free ≡ word y freeAt → ns ≡ word y privatesAt → at ≡ 8 + length (initialRows w)
+    → o1 ≡ writes begin 8 (initialRows w) → next ≡ at + ns → o2 ≡ writes o1 at (from free ns)
     → o3 ≡ writes o2 next (initialSpots w) → o3 ≡ writes begin 8 (initialNumbers (scheme w) (today w))
-all-marked w rows plan begin o1 o2 o3 at next k a e1 n e2 e3 =
+all-marked w y free ns begin o1 o2 o3 at next k ef en a e1 n e2 e3 =
     let xs = initialRows w in
     let fs = from (freeStart (scheme w) (today w)) (privatesOf w) in
     let ys = initialSpots w in
-    let f : from (plan .free) (plan .privates) ≡ fs = rw (k .free-is, k .privates-are) in
+    let f : from free ns ≡ fs = rw (ef ∙ Plans.free-is w y k, en ∙ Plans.privates-are w y k) in
     let l : length fs ≡ privatesOf w = from-length (freeStart (scheme w) (today w)) (privatesOf w) in
-    let m : next ≡ at + length fs = omega (arith, l, k .privates-are) in
+    let m : next ≡ at + length fs = omega (arith, l, en, Plans.privates-are w y k) in
     let b : o2 ≡ writes (writes begin 8 xs) (8 + length xs) fs = e2 ∙ rw (f, e1, a) in
     let c : o3 ≡ writes (writes (writes begin 8 xs) (8 + length xs) fs) (8 + length xs + length fs) ys = e3 ∙ rw (b, m, a) in
     c ∙ sym (ap (writes begin 8) (marks-are w) ∙ writes-append begin 8 xs (fs ++ ys) ∙ writes-append (writes begin 8 xs) (8 + length xs) fs ys)

@@ -16,33 +16,32 @@ use Rattle.places.specs.Places.{common}
 use Rattle.places.specs.Transitions.{Description}
 use Rattle.builder.specs.Inner.Writing
 use Rattle.builder.specs.Inner.Writing.{putAll, Inside}
-use Rattle.places.specs.Inner.Plan.{today, privatesOf, values, Rowed, Reads, Lists, InBoth, reached}
+use Rattle.places.specs.Inner.Plan.{today, privatesOf, values, Reads, Lists, reached}
 use Rattle.builder.specs.Inner.Parts.{ofTable, told, sentTold, pairTold, Paired, Run}
-use Rattle.places.specs.declared.layout.Layout.{Layout}
 use Rattle.places.specs.declared.layout.Reach.{Reach}
 use Rattle.builder.specs.declared.communications.Pair.{Pair}
 use Rattle.builder.proofs.Writing.{put-none, put-append, inside-first}
-use Rattle.places.proofs.Names.{values-public}
+use Rattle.places.specs.Plan.{Laid}
+use Rattle.places.proofs.Names.{values-public, reached-few}
 use Rattle.places.proofs.ByWords.{channel-inside, name-inside}
 use Rattle.builder.proofs.ValueLoops
+use Rattle.builder.proofs.Counted.{Counted}
 
 -- what reading values by their index asks
-module _ (w rows : List ℕ) (plan : Layout) (k : Rowed w rows plan) (r : Reach) (vs : List ℕ) (l : Lists (publics w) (privatesOf w) r vs) where
-  pub values-few : (r .low ≤ r .high) × (r .high ≤ 65536) × (plan .privates < 65536)
+module _ (w : List ℕ) (ps ns : ℕ) (k : Counted w ps ns) (r : Reach) (vs : List ℕ) (l : Lists (publics w) (privatesOf w) r vs) where
+  pub values-few : (r .low ≤ r .high) × (r .high ≤ 65536) × (ns < 65536)
   values-few = (l .order, omega (arith, l .inside, k .few-publics), omega (arith, k .privates-are, k .few-privates))
 
-  pub value-inside : (i n : ℕ) → n ≡ length (reached (plan .publics) (plan .privates) r) → i < n
-      → (r .low ≤ r .high) × (r .high ≤ 65536) × (plan .publics < 65536) × (plan .privates < 65536) × (i < length (reached (plan .publics)
-      (plan .privates) r))
+  pub value-inside : (i n : ℕ) → n ≡ length (reached ps ns r) → i < n
+      → (r .low ≤ r .high) × (r .high ≤ 65536) × (ps < 65536) × (i < 131072)
   value-inside i n e h = (
     l .order,
     omega (arith, l .inside, k .few-publics),
     omega (arith, k .publics-are, k .few-publics),
-    omega (arith, k .privates-are, k .few-privates),
-    omega (arith, e),
+    omega (arith, e, reached-few ps ns r, l .inside, k .few-publics, k .privates-are, k .few-privates),
   )
 
-module _ (w rows : List ℕ) (plan : Layout) (k : Rowed w rows plan) (p : Pair) (q : Paired w p) where
+module _ (w : List ℕ) (ps ns : ℕ) (k : Counted w ps ns) (p : Pair) (q : Paired w p) where
   not-silent : (b n : ℕ) → branchKind w b ≡ n → 1 ≤ n → branchKind w b ≡ 0 → ⊥
   not-silent b n e h z = omega arith
 
@@ -98,16 +97,16 @@ module _ (w rows : List ℕ) (plan : Layout) (k : Rowed w rows plan) (p : Pair) 
       firstTold = map (toldAt i) (from (r .low) (r .high - r .low))
 
       abbrev pub lastTold : List Description
-      lastTold = map (toldAt i) (from (plan .publics) (plan .privates))
+      lastTold = map (toldAt i) (from ps ns)
 
-      values-are : values w (p .sent) ≡ from (r .low) (r .high - r .low) ++ pick (r .privates) (from (plan .publics) (plan .privates)) []
+      values-are : values w (p .sent) ≡ from (r .low) (r .high - r .low) ++ pick (r .privates) (from ps ns) []
       unfolding reached
-      values-are = sym (ValueLoops.reach-is w plan r (values w (p .sent)) (k .publics-are) (k .privates-are) l)
+      values-are = sym (ValueLoops.reach-is w ps ns r (values w (p .sent)) (k .publics-are) (k .privates-are) l)
 
-      split : sentAt i ≡ firstTold ++ map (toldAt i) (pick (r .privates) (from (plan .publics) (plan .privates)) [])
+      split : sentAt i ≡ firstTold ++ map (toldAt i) (pick (r .privates) (from ps ns) [])
       split =
           other-is s ∙ ap (map (toldAt i)) values-are
-          ∙ map-append (toldAt i) (from (r .low) (r .high - r .low)) (pick (r .privates) (from (plan .publics) (plan .privates)) [])
+          ∙ map-append (toldAt i) (from (r .low) (r .high - r .low)) (pick (r .privates) (from ps ns) [])
 
       reads : (v : ℕ) → member v (values w (p .sent)) ≡ true → Reads w (branchName w (p .send)) v
       reads v m = subst (λ (x : ℕ). Reads w x v) (q .sent-is) (record { high = sent-high; value = m })
@@ -118,20 +117,20 @@ module _ (w rows : List ℕ) (plan : Layout) (k : Rowed w rows plan) (p : Pair) 
         bound = b;
         other = s;
         reads = λ v x y. reads v (ap (member v) values-are
-            ∙ member-left v (from (r .low) (r .high - r .low)) (pick (r .privates) (from (plan .publics) (plan .privates)) [])
+            ∙ member-left v (from (r .low) (r .high - r .low)) (pick (r .privates) (from ps ns) [])
             (member-from v (r .low) (r .high - r .low) x y));
         kind = λ v x y. lt-ltb v (publics w) (omega (arith, l .inside)) ∙ sym (lt-ltb (r .low) (publics w) (omega (arith, l .inside)));
       }
 
-      pub last-run : r .privates ≡ true → 0 < plan .privates → Run w p (plan .publics) (plan .privates)
+      pub last-run : r .privates ≡ true → 0 < ns → Run w p ps ns
       last-run h some = record {
         some = some;
         bound = b;
         other = s;
         reads = λ v x y. reads v (ap (member v) values-are
-            ∙ member-right v (from (r .low) (r .high - r .low)) (pick (r .privates) (from (plan .publics) (plan .privates)) [])
-            (rw h (member-from v (plan .publics) (plan .privates) x y)));
-        kind = λ v x y. le-ltb v (publics w) (omega (arith, k .publics-are)) ∙ sym (le-ltb (plan .publics) (publics w) (omega (arith, k .publics-are)));
+            ∙ member-right v (from (r .low) (r .high - r .low)) (pick (r .privates) (from ps ns) [])
+            (rw h (member-from v ps ns x y)));
+        kind = λ v x y. le-ltb v (publics w) (omega (arith, k .publics-are)) ∙ sym (le-ltb ps (publics w) (omega (arith, k .publics-are)));
       }
 
       module _ (begin : Writing.Heads) where
@@ -140,7 +139,7 @@ module _ (w rows : List ℕ) (plan : Layout) (k : Rowed w rows plan) (p : Pair) 
 
         pub first-inside : Inside all → Inside (putAll (ofTable w) begin firstTold)
         first-inside n =
-            inside-first (ofTable w) begin firstTold (map (toldAt i) (pick (r .privates) (from (plan .publics) (plan .privates)) []))
+            inside-first (ofTable w) begin firstTold (map (toldAt i) (pick (r .privates) (from ps ns) []))
             (subst (λ (ds : List Description). Inside (putAll (ofTable w) begin ds)) split n)
 
         pub first-none : (t : Writing.Heads) → r .high ≤ r .low → t ≡ begin → t ≡ putAll (ofTable w) begin firstTold
@@ -162,10 +161,10 @@ module _ (w rows : List ℕ) (plan : Layout) (k : Rowed w rows plan) (p : Pair) 
           sent-both h u f = f ∙ sym (both h)
 
           -- no private value
-          pub sent-none : r .privates ≡ true → plan .privates ≤ 0 → t ≡ all
+          pub sent-none : r .privates ≡ true → ns ≤ 0 → t ≡ all
           unfolding from
           sent-none h z =
-              let e : plan .privates ≡ 0 = omega arith in
+              let e : ns ≡ 0 = omega arith in
               sym (both h ∙ rw e (put-none (ofTable w) t))
 
           pub sent-first : r .privates ≡ false → t ≡ all
@@ -176,10 +175,6 @@ module _ (w rows : List ℕ) (plan : Layout) (k : Rowed w rows plan) (p : Pair) 
   -- ---- the loop over channel values
 
   -- "channel value i common to both"
-  pub both-lists : (a b r : Reach) → Lists (publics w) (privatesOf w) a (values w (p .channel)) → Lists (publics w) (privatesOf w) b (values w (p .heard))
-      → InBoth a b r → Lists (publics w) (privatesOf w) r (common (scheme w) (today w) (p .channel) (p .heard))
-  both-lists a b r l m f = f (publics w) (privatesOf w) (values w (p .channel)) (values w (p .heard)) l m
-
   pub pair-is : pairTold w (p .send) (p .receive) ≡ flat sentAt (common (scheme w) (today w) (p .channel) (p .heard))
   unfolding pairTold
   pair-is = rw (q .channel-is, q .heard-is)
@@ -190,7 +185,7 @@ module _ (w rows : List ℕ) (plan : Layout) (k : Rowed w rows plan) (p : Pair) 
       ≡ putAll (ofTable w) s (flat sentAt (drop n (common (scheme w) (today w) (p .channel) (p .heard))))
 
   module _ (r : Reach) (l : Lists (publics w) (privatesOf w) r (common (scheme w) (today w) (p .channel) (p .heard))) (count : ℕ)
-      (c : count ≡ length (reached (plan .publics) (plan .privates) r)) (begin s : Writing.Heads) (n : ℕ) (left : PairLeft begin s n) where
+      (c : count ≡ length (reached ps ns r)) (begin s : Writing.Heads) (n : ℕ) (left : PairLeft begin s n) where
     abbrev is : List ℕ
     is = common (scheme w) (today w) (p .channel) (p .heard)
 
@@ -198,24 +193,24 @@ module _ (w rows : List ℕ) (plan : Layout) (k : Rowed w rows plan) (p : Pair) 
     whole = putAll (ofTable w) begin (flat sentAt is)
 
     few : count ≡ length is
-    few = ValueLoops.reach-count w plan r is (k .publics-are) (k .privates-are) l count c
+    few = ValueLoops.reach-count w ps ns r is (k .publics-are) (k .privates-are) l count c
 
     pub pair-done : count ≤ n → s ≡ whole
     pair-done h = ValueLoops.flat-done (ofTable w) whole s is n sentAt left (omega (arith, few))
 
-    module _ (v : ℕ) (h : n < count) (e : v ≡ word (reached (plan .publics) (plan .privates) r) n) where
+    module _ (v : ℕ) (h : n < count) (e : v ≡ word (reached ps ns r) n) where
       found : v ≡ word is n
-      found = ValueLoops.reach-at w plan r is (k .publics-are) (k .privates-are) l n v e
+      found = ValueLoops.reach-at w ps ns r is (k .publics-are) (k .privates-are) l n v e
 
       shared : (member v (values w (p .heard)) && member v (values w (p .channel))) ≡ true
       shared =
           sym (member-keep (λ i. member i (values w (p .heard))) v (values w (p .channel)))
-          ∙ ValueLoops.reach-member w plan r is (k .publics-are) (k .privates-are) l n v (omega (arith, few)) e
+          ∙ ValueLoops.reach-member w ps ns r is (k .publics-are) (k .privates-are) l n v (omega (arith, few)) e
 
-      pub pair-needs : Inside whole
-          → Rowed w rows plan × Paired w p × Reads w (channel w (p .send)) v × Reads w (channel w (p .receive)) v × Inside (putAll (ofTable w) s (sentAt v))
-      pair-needs o = (
-        k,
+      pub pair-needs : (x : List ℕ) → Laid w x → Inside whole
+          → Laid w x × Paired w p × Reads w (channel w (p .send)) v × Reads w (channel w (p .receive)) v × Inside (putAll (ofTable w) s (sentAt v))
+      pair-needs x laid o = (
+        laid,
         q,
         subst (λ (x : ℕ). Reads w x v) (q .channel-is)
             (record { high = channel-high; value = and-right (member v (values w (p .heard))) (member v (values w (p .channel))) shared }),

@@ -18,7 +18,10 @@ use Rattle.net.specs.Net.{Transition}
 use Rattle.places.specs.Transitions.{Description, ofPair}
 use Rattle.builder.specs.Inner.Writing
 use Rattle.builder.specs.Inner.Writing.{putAll, Inside}
-use Rattle.places.specs.Inner.Plan.{today, Spotted, Defined}
+use Rattle.scheme.specs.Index.{homesIn}
+use Rattle.places.specs.Plan.{nodesIn, Laid}
+use Rattle.places.specs.Inner.Plan.{today, controlOf}
+use Rattle.places.proofs.Plans.{home-is, node-is}
 use Rattle.builder.specs.Inner.Parts.{state, pairTold, withBranch, withAll, Paired}
 use Rattle.builder.specs.declared.write.Heads.{Heads}
 use Rattle.builder.proofs.Writing.{put-none, put-append, inside-first}
@@ -121,6 +124,10 @@ no-send w s d = none (withBranch w s) (range (branches w)) each
 
 -- ---- a pair as the code reads it
 
+home-at : (w : List ℕ) (b : ℕ) → scheme w .home b ≡ home w b
+unfolding scheme
+home-at w b = refl
+
 home-below : (w : List ℕ) → cause w ≡ 0 → (b : ℕ) → home w b < nodes w
 unfolding scheme
 home-below w ok b = accepted w ok .home-inside b
@@ -128,10 +135,12 @@ home-below w ok b = accepted w ok .home-inside b
 next-below : (w : List ℕ) → cause w ≡ 0 → (b : ℕ) → present (scheme w .branch b) ≡ true → nextNode (scheme w .branch b) ≡ next w b → next w b < nodes w
 next-below w ok b h e = omega (arith, nodes-are w, accepted w ok .next-inside b h, e)
 
-pub pair-known : (w homes defs spots : List ℕ) (s r a z e y hs sender ns onsend hr receiver nr onreceive : ℕ) → Defined w homes defs → Spotted w spots
-    → s < branches w → r < branches w → isSend w s ≡ true → branchKind w r ≡ 2 → (branchThread w r ≡ branchThread w s → ⊥) → a ≡ field4 w 11 s 1 → z ≡ field4 w 11 s 2 → e ≡ field4 w 11 r 1
-    → y ≡ field4 w 11 r 2 → hs ≡ word homes s → sender ≡ word spots hs → ns ≡ field4 w 11 s 3 → onsend ≡ word spots ns → hr ≡ word homes r
-    → receiver ≡ word spots hr → nr ≡ field4 w 11 r 3 → onreceive ≡ word spots nr
+pub pair-known : (w x : List ℕ) (s r a z e y hs sender ns onsend hr receiver nr onreceive : ℕ) → Laid w x
+    → s < branches w → r < branches w → isSend w s ≡ true → branchKind w r ≡ 2 →
+    (branchThread w r ≡ branchThread w s → ⊥) → a ≡ field4 w 11 s 1 → z ≡ field4 w 11 s 2 → e ≡ field4 w 11 r 1
+    → y ≡ field4 w 11 r 2 → hs ≡ word (homesIn x) s → sender ≡ word (nodesIn x) hs → ns ≡ field4 w 11 s 3 → onsend ≡ word (nodesIn x) ns → hr ≡ word
+    (homesIn x) r
+    → receiver ≡ word (nodesIn x) hr → nr ≡ field4 w 11 r 3 → onreceive ≡ word (nodesIn x) nr
     → Paired w (record {
       send = s;
       receive = r;
@@ -144,7 +153,7 @@ pub pair-known : (w homes defs spots : List ℕ) (s r a z e y hs sender ns onsen
       receiver = receiver;
       onreceive = onreceive;
     })
-pair-known w homes defs spots s r a z e y hs sender ns onsend hr receiver nr onreceive k t ls lr q u d ea ez ee ey eh es en eo fh fs fn fo = record {
+pair-known w x s r a z e y hs sender ns onsend hr receiver nr onreceive k ls lr q u d ea ez ee ey eh es en eo fh fs fn fo = record {
   send-inside = ls;
   receive-inside = lr;
   sends = q;
@@ -154,12 +163,18 @@ pair-known w homes defs spots s r a z e y hs sender ns onsend hr receiver nr onr
   sent-is = ez;
   heard-is = ee;
   bound-is = ey;
-  sender-is = es ∙ ap (word spots) (eh ∙ k .home-in s ls) ∙ t .spot-is (home w s) (home-inside s);
-  onsend-is = eo ∙ ap (word spots) en ∙ t .spot-is (next w s) send-next;
-  receiver-is = fs ∙ ap (word spots) (fh ∙ k .home-in r lr) ∙ t .spot-is (home w r) (home-inside r);
-  onreceive-is = fo ∙ ap (word spots) fn ∙ t .spot-is (next w r) receive-next;
+  sender-is = es ∙ ap (word (nodesIn x)) (eh ∙ at-home s) ∙ starts (home w s) (home-inside s);
+  onsend-is = eo ∙ ap (word (nodesIn x)) en ∙ starts (next w s) send-next;
+  receiver-is = fs ∙ ap (word (nodesIn x)) (fh ∙ at-home r) ∙ starts (home w r) (home-inside r);
+  onreceive-is = fo ∙ ap (word (nodesIn x)) fn ∙ starts (next w r) receive-next;
 }
   where
+    at-home : (b : ℕ) → word (homesIn x) b ≡ home w b
+    at-home b = home-is w x k b ∙ home-at w b
+
+    starts : (n : ℕ) → n < nodes w → word (nodesIn x) n ≡ controlOf w n
+    starts n l = node-is w x k n (omega arith)
+
     home-inside : (b : ℕ) → home w b < nodes w
     home-inside b = home-below w (k .accepted) b
 

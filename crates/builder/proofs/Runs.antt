@@ -20,9 +20,8 @@ use Rattle.places.specs.Rows.{numberOf}
 use Rattle.places.specs.Inner.Arcs.{numbersOf}
 use Rattle.builder.specs.Inner.Writing
 use Rattle.builder.specs.Inner.Writing.{putOne, putAll, rise}
-use Rattle.places.specs.Inner.Plan.{today, Rowed, Holds, Reads}
+use Rattle.places.specs.Inner.Plan.{today, Holds, Reads}
 use Rattle.builder.specs.Inner.Parts.{Paired, Run, Tells, ofTable, state, put, told, arrow, insOf, outsOf, risen}
-use Rattle.places.specs.declared.layout.Layout.{Layout}
 use Rattle.builder.specs.declared.write.Heads.{Heads}
 use Rattle.builder.specs.declared.write.Arcs.{Arcs}
 use Rattle.builder.specs.declared.communications.Pair.{Pair}
@@ -34,6 +33,7 @@ use Rattle.builder.proofs.Rising.{Shifted, shift-none, shift-no, Track,
 use Rattle.builder.proofs.Pairs.{Speaks, speaks, sends, receives, heard-free, takesOf, givesOf, told-inputs, told-outputs, branch-small}
 use Rattle.builder.proofs.Pairs.{value-small, reads-holds, holds-exists, differs-exists, differs-none, public-none, control-exists}
 use Rattle.builder.proofs.Pairs.{home-inside, send-next, receive-next}
+use Rattle.builder.proofs.Counted.{Counted}
 
 -- transitions for the numbers from low on are those for the numbers from 0 on
 put-run : {A : Type 0} (f : A → Transition) (g : ℕ → A) (h : ℕ → Transition) (low n o : ℕ) (s : Writing.Heads)
@@ -44,7 +44,7 @@ put-run f g h low (suc n) o s e =
     let x : low + o + 1 ≡ low + (o + 1) = omega arith in
     rw (x, e o (omega arith) (omega arith)) (put-run f g h low n (o + 1) (putOne s (h o)) (λ t l u. e t (omega arith) (omega arith)))
 
-module _ (w rows : List ℕ) (plan : Layout) (k : Rowed w rows plan) (p : Pair) (q : Paired w p) (i low count : ℕ)
+module _ (w : List ℕ) (ps ns : ℕ) (k : Counted w ps ns) (p : Pair) (q : Paired w p) (i low count : ℕ)
     (ra : Reads w (channel w (p .send)) i) (re : Reads w (channel w (p .receive)) i) (run : Run w p low count) where
   abbrev S : Scheme
   S = scheme w
@@ -255,7 +255,7 @@ module _ (w rows : List ℕ) (plan : Layout) (k : Rowed w rows plan) (p : Pair) 
         (λ t l u. e t (omega arith))
 
     -- no [y≠j] for a public j
-    pub public-run : low < plan .publics → all ≡ putAll (risen 4 (p .send) (p .receive) arcs (zn ∷ yn ∷ zn ∷ [])) (state out h) (range count)
+    pub public-run : low < ps → all ≡ putAll (risen 4 (p .send) (p .receive) arcs (zn ∷ yn ∷ zn ∷ [])) (state out h) (range count)
     public-run l = series-is zn each
       where
         low-public : ltb low (publics w) ≡ true
@@ -282,7 +282,7 @@ module _ (w rows : List ℕ) (plan : Layout) (k : Rowed w rows plan) (p : Pair) 
             (shift-no S U (zn ∷ yn ∷ zn ∷ []) t (D 0) (D t) _ _ (differs-none w (p .bound) (low + 0) (public-at (low + 0) (omega arith) (omega arith)))
             (differs-none w (p .bound) (low + t) (public-at (low + t) (omega arith) (omega arith))) (reads-move zn yn ez ey zn t A b c off far self)))
 
-    pub private-run : (dn : ℕ) → dn ≡ numberOf S U (differs (p .bound) low) → plan .publics ≤ low
+    pub private-run : (dn : ℕ) → dn ≡ numberOf S U (differs (p .bound) low) → ps ≤ low
         → all ≡ putAll (risen 4 (p .send) (p .receive) arcs (zn ∷ yn ∷ dn ∷ [])) (state out h) (range count)
     private-run dn ed l = series-is dn each
       where

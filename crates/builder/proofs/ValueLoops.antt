@@ -4,6 +4,7 @@ use mathlib.Core.Path.{_≡_, sym, ap, subst, _∙_}
 use mathlib.Core.Bool.{true}
 use mathlib.Core.List.{List, [], _∷_, _++_, map}
 use Prim.Native.Nat.{ℕ, _+_, _≤_, _<_}
+use native.Mathlib.Omega.{arith}
 use lib.ListN.{length, drop}
 use Rattle.lists.specs.Lists.{word, flat, member}
 use Rattle.lists.proofs.Slices.{drop-step, drop-none}
@@ -11,8 +12,15 @@ use Rattle.lists.proofs.Members.{member-getD}
 use Rattle.scheme.specs.Words.{publics}
 use Rattle.net.specs.Net.{Transition}
 use Rattle.builder.specs.Inner.Writing.{Heads, putAll, Inside}
-use Rattle.places.specs.Inner.Plan.{privatesOf, Lists, reached}
-use Rattle.places.specs.declared.layout.Layout.{Layout}
+use Rattle.scheme.specs.Scheme.{scheme}
+use Rattle.places.specs.Plan.{privatesAt, Laid}
+use Rattle.places.specs.Reaches.{reachOf, commonReach}
+use Rattle.places.specs.Places.{common}
+use Rattle.places.proofs.Reaches.{common-lists}
+use Rattle.places.specs.Inner.Plan.{today, privatesOf, values, Lists, reached}
+use Rattle.builder.specs.Inner.Parts.{ValueAt, CountOf}
+use Rattle.places.proofs.Names.{reach-lists, reached-few}
+use Rattle.builder.proofs.Counted.{Counted, counted, counts}
 use Rattle.places.specs.declared.layout.Reach.{Reach}
 use Rattle.builder.proofs.Writing.{put-none, put-append, inside-first}
 
@@ -53,16 +61,73 @@ module _ {A : Type 0} (f : A → Transition) (all s : Heads) (vs : List ℕ) (i 
 
 -- ---- the values as the code reads them
 
-module _ (w : List ℕ) (plan : Layout) (r : Reach) (vs : List ℕ) (p : plan .publics ≡ publics w) (n : plan .privates ≡ privatesOf w)
+module _ (w : List ℕ) (ps ns : ℕ) (r : Reach) (vs : List ℕ) (p : ps ≡ publics w) (n : ns ≡ privatesOf w)
     (l : Lists (publics w) (privatesOf w) r vs) where
-  pub reach-is : reached (plan .publics) (plan .privates) r ≡ vs
+  pub reach-is : reached ps ns r ≡ vs
   reach-is = rw (p, n) (l .is)
 
-  pub reach-count : (k : ℕ) → k ≡ length (reached (plan .publics) (plan .privates) r) → k ≡ length vs
+  pub reach-count : (k : ℕ) → k ≡ length (reached ps ns r) → k ≡ length vs
   reach-count k e = e ∙ ap (λ (l : List ℕ). length l) reach-is
 
-  pub reach-at : (i v : ℕ) → v ≡ word (reached (plan .publics) (plan .privates) r) i → v ≡ word vs i
+  pub reach-at : (i v : ℕ) → v ≡ word (reached ps ns r) i → v ≡ word vs i
   reach-at i v e = e ∙ ap (λ (l : List ℕ). word l i) reach-is
 
-  pub reach-member : (i v : ℕ) → i < length vs → v ≡ word (reached (plan .publics) (plan .privates) r) i → member v vs ≡ true
+  pub reach-member : (i v : ℕ) → i < length vs → v ≡ word (reached ps ns r) i → member v vs ≡ true
   reach-member i v h e = rw (reach-at i v e) (member-getD vs i h)
+
+-- ---- the values of a name: its reach, how many there are, and value i
+
+pub record Valued (w : List ℕ) (z ps ns : ℕ) (r : Reach) (count : ℕ) : Type 0 where
+  pub counts : Counted w ps ns
+  pub lists : Lists (publics w) (privatesOf w) r (values w z)
+  pub count-is : count ≡ length (values w z)
+  pub value-is : (i v : ℕ) → i < length (values w z) → ValueAt ps r i v → v ≡ word (values w z) i
+  pub member-is : (i v : ℕ) → i < length (values w z) → ValueAt ps r i v → member v (values w z) ≡ true
+
+pub valued : (w x : List ℕ) (z ps ns : ℕ) (r : Reach) (count : ℕ) → Laid w x → ps ≡ publics w → ns ≡ word x privatesAt → r ≡ reachOf (scheme w) z
+    → CountOf ns r count → Valued w z ps ns r count
+valued w x z ps ns r count L p n e c =
+    let k = counted w x ps ns L p n in
+    let l : Lists (publics w) (privatesOf w) r (values w z) =
+    subst (λ (q : Reach). Lists (publics w) (privatesOf w) q (values w z)) (sym e) (reach-lists w z) in
+    let is = reach-is w ps ns r (values w z) (k .publics-are) (k .privates-are) l in
+    let m : length (reached ps ns r) ≡ length (values w z) = ap (λ (xs : List ℕ). length xs) is in
+    record {
+      counts = k;
+      lists = l;
+      count-is = reach-count w ps ns r (values w z) (k .publics-are) (k .privates-are) l count (c ps);
+      value-is = λ i v h f. reach-at w ps ns r (values w z) (k .publics-are) (k .privates-are) l i v (f ns (omega (arith, m)));
+      member-is = λ i v h f. reach-member w ps ns r (values w z) (k .publics-are) (k .privates-are) l i v h (f ns (omega (arith, m)));
+    }
+
+-- what reading them asks
+pub count-asks : (w x : List ℕ) (z ns : ℕ) (r : Reach) → Laid w x → ns ≡ word x privatesAt → r ≡ reachOf (scheme w) z
+    → (r .low ≤ r .high) × (r .high ≤ 65536) × (ns < 65536)
+count-asks w x z ns r L n e =
+    let l : Lists (publics w) (privatesOf w) r (values w z) =
+    subst (λ (q : Reach). Lists (publics w) (privatesOf w) q (values w z)) (sym e) (reach-lists w z) in
+    let k = counts w x L in
+    (l .order, omega (arith, l .inside, k .few-publics), omega (arith, n, k .privates-are, k .few-privates))
+
+pub value-asks : (w : List ℕ) (z ps ns : ℕ) (r : Reach) (count : ℕ) → Valued w z ps ns r count → (i : ℕ) → i < count
+    → (r .low ≤ r .high) × (r .high ≤ 65536) × (ps < 65536) × (i < 131072)
+value-asks w z ps ns r count t i h =
+    let k = t .counts in
+    let l = t .lists in
+    let m : length (reached (publics w) (privatesOf w) r) ≡ length (values w z) = ap (λ (xs : List ℕ). length xs) (l .is) in (
+      l .order,
+      omega (arith, l .inside, k .few-publics),
+      omega (arith, k .publics-are, k .few-publics),
+      omega (arith, t .count-is, m, reached-few (publics w) (privatesOf w) r, l .inside, k .few-publics, k .few-privates),
+    )
+
+-- a reach that is found
+pub reach-told : (w : List ℕ) (z : ℕ) (r : Reach) → r ≡ reachOf (scheme w) z → Lists (publics w) (privatesOf w) r (values w z)
+reach-told w z r e = subst (λ (q : Reach). Lists (publics w) (privatesOf w) q (values w z)) (sym e) (reach-lists w z)
+
+-- what two names share
+pub common-told : (w : List ℕ) (a e : ℕ) (x y r : Reach) → x ≡ reachOf (scheme w) a → y ≡ reachOf (scheme w) e → r ≡ commonReach x y
+    → Lists (publics w) (privatesOf w) r (common (scheme w) (today w) a e)
+common-told w a e x y r f g h =
+    let q : r ≡ commonReach (reachOf (scheme w) a) (reachOf (scheme w) e) = h ∙ rw (f, g) in
+    subst (λ (k : Reach). Lists (publics w) (privatesOf w) k (common (scheme w) (today w) a e)) (sym q) (common-lists w a e)

@@ -2,11 +2,12 @@
 ghost use mathlib.Core.Bool.{false};
 ghost use mathlib.Core.Path.{_≡_};
 ghost use mathlib.Core.List.{[], _∷_, map};
-ghost use Prim.Native.Nat.{_+_, _-_, _<_, _≤_};
+ghost use Prim.Native.Nat.{_+_, _<_, _≤_};
 ghost use lib.Dec.{ltb};
-ghost use lib.ListN.{length, take};
+ghost use lib.ListN.{length};
 ghost use Rattle.lists.specs.Lists.{pick, from};
 ghost use Rattle.scheme.specs.Words.{publics, names};
+ghost use Rattle.scheme.specs.Owners.{held};
 ghost use Rattle.scheme.specs.Scheme.{scheme};
 ghost use Rattle.places.specs.Places.{differs, free};
 ghost use Rattle.places.specs.Rows.{numberOf};
@@ -14,9 +15,9 @@ ghost use Rattle.places.specs.Transitions.{releasing, releases, copying, copies
 ghost use Rattle.builder.specs.Inner.Writing.{Inside};
 ghost use Rattle.places.specs.Inner.Plan.{today, values, argumentName};
 ghost use Rattle.builder.specs.Inner.Parts.{put, state};
-ghost use Rattle.places.specs.Inner.Plan.{Rowed};
+ghost use Rattle.places.specs.Plan.{Laid};
 ghost use Rattle.builder.specs.Inner.Parts.{Chained};
-ghost use Rattle.places.specs.Inner.Plan.{Holds, Reads, Named, Bounded, Frees};
+ghost use Rattle.places.specs.Inner.Plan.{Holds, Reads, Named, Frees};
 use crate::insertion::insert;
 use crate::insertion::insert_equals;
 use crate::layout::differs;
@@ -25,12 +26,15 @@ use crate::layout::free_place;
 use crate::layout::value_at;
 use crate::layout::value_count;
 use crate::write::Heads;
+use crate::write::Label;
 use crate::write::transition;
+use lists::word16;
 use lists::word32;
-use places::layout::Layout;
-use places::layout::is_restricted;
 use places::layout::reach_of;
+use places::lookup::privates;
 use scheme::fields::field1;
+use scheme::fields::name_kind;
+use scheme::lookup::held_names;
 
 // The chain of a node: the node that it leads to, its first control place, how many it has, and the place that the last
 // one leads to.
@@ -40,6 +44,19 @@ pub struct Chain {
     pub first: usize,
     pub controls: usize,
     pub last: usize,
+}
+
+// The name that is released at place k of a chain.
+pub struct Held {
+    pub k: usize,
+    pub name: usize,
+}
+
+// The formal that takes the value of an argument at place k of a chain.
+pub struct Passed {
+    pub k: usize,
+    pub formal: usize,
+    pub argument: usize,
 }
 
 // The place that place k of a chain leads to.
@@ -54,60 +71,64 @@ pub(crate) fn on(c: Chain, k: usize) -> u32
 }
 
 // The place that a release of private value v gives: [*≠v] if name z is restricted, else [z≠v].
-fn given_back(table: &[u16], rows: &[u32], plan: Layout, z: usize, v: usize) -> u32
-    requires { ⌜ Rowed (now table) (now rows) plan × Holds (now table) z v × (publics (now table) ≤ v) ⌝ }
+fn given_back(table: &[u16], index: &[u32], z: usize, v: usize) -> u32
+    requires { ⌜ Laid (now table) (now index) × Holds (now table) z v × (publics (now table) ≤ v) ⌝ }
     ensures { λ r. ⌜ r ≡ numberOf (scheme (now (table .entry))) (today (now (table .entry)))
         (pick (scheme (now (table .entry)) .restricted z) (free v) (differs z v)) ⌝ }
 {
-    if is_restricted(table, z) {
-        return free_place(table, rows, plan, v);
+    if name_kind(table, z) == 0 {
+        return free_place(table, index, v);
     }
-    differs(table, rows, plan, z, v)
+    differs(table, index, z, v)
 }
 
-// The release of name z with value v at place k of a chain.
+// The release of a name with value v.
 fn release(
     table: &[u16],
-    rows: &[u32],
-    plan: Layout,
+    index: &[u32],
     out: &mut [u32],
     h: Heads,
     c: Chain,
-    k: usize,
-    z: usize,
+    x: Held,
     v: usize,
 ) -> Heads
-    requires { ⌜ Rowed (now table) (now rows) plan × Chained (now table) c × (k < c .controls)
-        × Holds (now table) z v
+    requires { ⌜ Laid (now table) (now index) × Chained (now table) c × (x .k < c .controls)
+        × Holds (now table) (x .name) v
         × Inside (put (now table) (now out) h
-        (releasing (scheme (now table)) (today (now table)) (c .node) (c .to) k z v ∷ [])) ⌝ }
+        (releasing (scheme (now table)) (today (now table)) (c .node) (c .to) (x .k) (x .name) v ∷ [])) ⌝ }
     ensures { λ r. ⌜ state (now (out .exit)) r
         ≡ put (now (table .entry)) (now (out .entry)) h
-        (releasing (scheme (now (table .entry))) (today (now (table .entry))) (c .node) (c .to) k z v ∷ []) ⌝ }
+        (releasing (scheme (now (table .entry))) (today (now (table .entry))) (c .node) (c .to) (x .k) (x .name) v
+        ∷ []) ⌝ }
 {
-    let ins = [equals(table, rows, plan, z, v), (c.first + k) as u32];
-    let after = on(c, k);
+    let publics = word16(table, 0);
+    let ins = [equals(table, index, x.name, v), (c.first + x.k) as u32];
+    let after = on(c, x.k);
     let mut outs = [after; 2];
     let mut outputs = 1;
-    if v >= plan.publics {
-        outs = [given_back(table, rows, plan, z, v), after];
+    if v >= publics {
+        outs = [given_back(table, index, x.name, v), after];
         outputs = 2;
     }
-    transition(out, h, 1, c.node, z, &ins, 2, &outs, outputs)
+    let label = Label {
+        kind: 1,
+        a: c.node,
+        b: x.name,
+    };
+    transition(out, h, label, &ins, 2, &outs, outputs)
 }
 
 // The releases of one name at place k of a chain.
 fn release_name(
     table: &[u16],
-    rows: &[u32],
-    plan: Layout,
+    index: &[u32],
     out: &mut [u32],
     h: Heads,
     c: Chain,
     k: usize,
     z: usize,
 ) -> Heads
-    requires { ⌜ Rowed (now table) (now rows) plan × Chained (now table) c × (k < c .controls)
+    requires { ⌜ Laid (now table) (now index) × Chained (now table) c × (k < c .controls)
         × (publics (now table) ≤ z) × (z < names (now table))
         × Inside (put (now table) (now out) h
         (map (releasing (scheme (now table)) (today (now table)) (c .node) (c .to) k z) (values (now table) z))) ⌝ }
@@ -116,151 +137,154 @@ fn release_name(
         (map (releasing (scheme (now (table .entry))) (today (now (table .entry))) (c .node) (c .to) k z)
         (values (now (table .entry)) z)) ⌝ }
 {
+    let publics = word16(table, 0);
     let r = reach_of(table, z);
-    let count = value_count(plan, r);
+    let count = value_count(privates(index), r);
     let mut q = h;
     let mut i = 0;
     while i < count {
-        q = release(table, rows, plan, out, q, c, k, z, value_at(plan, r, i));
+        let v = value_at(publics, r, i);
+        q = release(table, index, out, q, c, Held { k, name: z }, v);
         i += 1;
     }
     q
 }
 
-// The releases of `count` held names, the first at place k of the chain.
+// The releases of the names that the node of a chain holds, the first at place k.
 pub(crate) fn release_all(
     table: &[u16],
-    rows: &[u32],
-    plan: Layout,
+    index: &[u32],
     out: &mut [u32],
     h: Heads,
     c: Chain,
-    names: &[u32],
-    count: usize,
     k: usize,
 ) -> Heads
-    requires { ⌜ Rowed (now table) (now rows) plan × Chained (now table) c
-        × (count ≤ length (now names)) × (k + count ≤ c .controls) × Bounded (now table) (take count (now names))
+    requires { ⌜ Laid (now table) (now index) × Chained (now table) c
+        × (k + length (held (now table) (c .node)) ≤ c .controls)
         × Inside (put (now table) (now out) h
-        (releases (scheme (now table)) (today (now table)) (c .node) (c .to) k (take count (now names)))) ⌝ }
+        (releases (scheme (now table)) (today (now table)) (c .node) (c .to) k (held (now table) (c .node)))) ⌝ }
     ensures { λ r. ⌜ state (now (out .exit)) r
         ≡ put (now (table .entry)) (now (out .entry)) h
         (releases (scheme (now (table .entry))) (today (now (table .entry))) (c .node) (c .to) k
-        (take count (now (names .entry)))) ⌝ }
+        (held (now (table .entry)) (c .node))) ⌝ }
 {
+    let mut names = [0u32; 64];
+    let count = held_names(table, index, c.node as u8, &mut names);
     let mut q = h;
     let mut i = 0;
     while i < count {
-        q = release_name(table, rows, plan, out, q, c, k + i, word32(names, i));
+        q = release_name(table, index, out, q, c, k + i, word32(&names, i));
         i += 1;
     }
     q
 }
 
-// The copy of formal f from a with value v at place k of a chain.
+// The copy of a formal from its argument with value v.
 fn copy(
     table: &[u16],
-    rows: &[u32],
-    plan: Layout,
+    index: &[u32],
     out: &mut [u32],
     h: Heads,
     c: Chain,
-    k: usize,
-    f: usize,
-    a: usize,
+    x: Passed,
     v: usize,
 ) -> Heads
-    requires { ⌜ Rowed (now table) (now rows) plan × Chained (now table) c × (k < c .controls)
-        × (publics (now table) ≤ f) × (f < names (now table)) × (scheme (now table) .restricted f ≡ false)
-        × Reads (now table) a v
+    requires { ⌜ Laid (now table) (now index) × Chained (now table) c × (x .k < c .controls)
+        × (publics (now table) ≤ x .formal) × (x .formal < names (now table))
+        × (scheme (now table) .restricted (x .formal) ≡ false)
+        × Reads (now table) (x .argument) v
         × Inside (put (now table) (now out) h
-        (copying (scheme (now table)) (today (now table)) (c .node) (c .to) k f a v ∷ [])) ⌝ }
+        (copying (scheme (now table)) (today (now table)) (c .node) (c .to) (x .k) (x .formal) (x .argument) v
+        ∷ [])) ⌝ }
     ensures { λ r. ⌜ state (now (out .exit)) r
         ≡ put (now (table .entry)) (now (out .entry)) h
-        (copying (scheme (now (table .entry))) (today (now (table .entry))) (c .node) (c .to) k f a v ∷ []) ⌝ }
+        (copying (scheme (now (table .entry))) (today (now (table .entry))) (c .node) (c .to) (x .k) (x .formal)
+        (x .argument) v
+        ∷ []) ⌝ }
 {
+    let publics = word16(table, 0);
     let mut ins = [0u32; 4];
-    let mut i = insert_equals(table, rows, plan, &mut ins, 0, a, v);
+    let mut i = insert_equals(table, index, &mut ins, 0, x.argument, v);
     let mut outs = ins;
-    let mut o = insert_equals(table, rows, plan, &mut outs, i, f, v);
-    o = insert(&mut outs, o, on(c, k));
-    if plan.publics <= v {
-        i = insert(&mut ins, i, differs(table, rows, plan, f, v));
+    let mut o = insert_equals(table, index, &mut outs, i, x.formal, v);
+    o = insert(&mut outs, o, on(c, x.k));
+    if publics <= v {
+        i = insert(&mut ins, i, differs(table, index, x.formal, v));
     }
-    i = insert(&mut ins, i, (c.first + k) as u32);
-    transition(out, h, 0, c.node, f, &ins, i, &outs, o)
+    i = insert(&mut ins, i, (c.first + x.k) as u32);
+    let label = Label {
+        kind: 0,
+        a: c.node,
+        b: x.formal,
+    };
+    transition(out, h, label, &ins, i, &outs, o)
 }
 
-// The copies of formal f from a at place k of a chain.
+// The copies of a formal from its argument.
 fn copy_formal(
     table: &[u16],
-    rows: &[u32],
-    plan: Layout,
+    index: &[u32],
     out: &mut [u32],
     h: Heads,
     c: Chain,
-    k: usize,
-    f: usize,
-    a: usize,
+    x: Passed,
 ) -> Heads
-    requires { ⌜ Rowed (now table) (now rows) plan × Chained (now table) c × (k < c .controls)
-        × (publics (now table) ≤ f) × (f < names (now table)) × (scheme (now table) .restricted f ≡ false)
-        × (a < names (now table))
+    requires { ⌜ Laid (now table) (now index) × Chained (now table) c × (x .k < c .controls)
+        × (publics (now table) ≤ x .formal) × (x .formal < names (now table))
+        × (scheme (now table) .restricted (x .formal) ≡ false)
+        × (x .argument < names (now table))
         × Inside (put (now table) (now out) h
-        (map (copying (scheme (now table)) (today (now table)) (c .node) (c .to) k f a) (values (now table) a))) ⌝ }
+        (map (copying (scheme (now table)) (today (now table)) (c .node) (c .to) (x .k) (x .formal) (x .argument))
+        (values (now table) (x .argument)))) ⌝ }
     ensures { λ r. ⌜ state (now (out .exit)) r
         ≡ put (now (table .entry)) (now (out .entry)) h
-        (map (copying (scheme (now (table .entry))) (today (now (table .entry))) (c .node) (c .to) k f a)
-        (values (now (table .entry)) a)) ⌝ }
+        (map (copying (scheme (now (table .entry))) (today (now (table .entry))) (c .node) (c .to) (x .k) (x .formal)
+        (x .argument)) (values (now (table .entry)) (x .argument))) ⌝ }
 {
-    let r = reach_of(table, a);
-    let count = value_count(plan, r);
+    let publics = word16(table, 0);
+    let r = reach_of(table, x.argument);
+    let count = value_count(privates(index), r);
     let mut q = h;
     let mut i = 0;
     while i < count {
-        q = copy(table, rows, plan, out, q, c, k, f, a, value_at(plan, r, i));
+        q = copy(table, index, out, q, c, x, value_at(publics, r, i));
         i += 1;
     }
     q
 }
 
-// The copies of `count` formals from their arguments, the first at place 1 of the chain.
+// The copies of `count` formals from their arguments, the first as given.
 pub(crate) fn copy_all(
     table: &[u16],
-    rows: &[u32],
-    plan: Layout,
+    index: &[u32],
     out: &mut [u32],
     h: Heads,
     c: Chain,
-    formal: usize,
-    argument: usize,
+    x: Passed,
     count: usize,
 ) -> Heads
-    requires { ⌜ Rowed (now table) (now rows) plan × Chained (now table) c × (count < c .controls) × (argument < 65536)
-        × Frees (now table) (from formal count)
-        × Named (now table) (map (argumentName (now table)) (from argument count))
+    requires { ⌜ Laid (now table) (now index) × Chained (now table) c × (x .k + count ≤ c .controls)
+        × (x .argument < 65536)
+        × Frees (now table) (from (x .formal) count)
+        × Named (now table) (map (argumentName (now table)) (from (x .argument) count))
         × Inside (put (now table) (now out) h
-        (copies (scheme (now table)) (today (now table)) (c .node) (c .to) 1 (from formal count)
-        (map (argumentName (now table)) (from argument count)))) ⌝ }
+        (copies (scheme (now table)) (today (now table)) (c .node) (c .to) (x .k) (from (x .formal) count)
+        (map (argumentName (now table)) (from (x .argument) count)))) ⌝ }
     ensures { λ r. ⌜ state (now (out .exit)) r
         ≡ put (now (table .entry)) (now (out .entry)) h
-        (copies (scheme (now (table .entry))) (today (now (table .entry))) (c .node) (c .to) 1 (from formal count)
-        (map (argumentName (now (table .entry))) (from argument count))) ⌝ }
+        (copies (scheme (now (table .entry))) (today (now (table .entry))) (c .node) (c .to) (x .k)
+        (from (x .formal) count)
+        (map (argumentName (now (table .entry))) (from (x .argument) count))) ⌝ }
 {
     let mut q = h;
     let mut i = 0;
     while i < count {
-        q = copy_formal(
-            table,
-            rows,
-            plan,
-            out,
-            q,
-            c,
-            1 + i,
-            formal + i,
-            field1(table, 12, argument + i),
-        );
+        let y = Passed {
+            k: x.k + i,
+            formal: x.formal + i,
+            argument: field1(table, 12, x.argument + i),
+        };
+        q = copy_formal(table, index, out, q, c, y);
         i += 1;
     }
     q

@@ -1,9 +1,10 @@
 // A transition's arcs: ascending lists of place numbers, made by insertion.
 ghost use Rattle.places.specs.Places.{equals};
-ghost use Rattle.places.specs.Inner.Plan.{Rowed, Reads};
+ghost use Rattle.places.specs.Plan.{Laid};
+ghost use Rattle.places.specs.Inner.Plan.{Reads};
 ghost use Rattle.builder.specs.Inner.Parts.{Rising, Inserted, Placed};
 use crate::layout::equals;
-use places::layout::Layout;
+use lists::word16;
 
 // Puts x into the ascending first `count` numbers, where it is not there yet, and returns how many there are then.
 pub(crate) fn insert(list: &mut [u32], count: usize, x: u32) -> usize
@@ -29,22 +30,21 @@ pub(crate) fn insert(list: &mut [u32], count: usize, x: u32) -> usize
     count + 1
 }
 
-// Puts the number of [name=v] into the ascending first `count` numbers, if the name is bound, and returns how many there
-// are then.
+// Puts the number of [name=v] into the ascending first `count` numbers, if the name is bound, and returns how many
+// there are then.
 pub(crate) fn insert_equals(
     table: &[u16],
-    rows: &[u32],
-    plan: Layout,
+    index: &[u32],
     list: &mut [u32],
     count: usize,
     name: usize,
     v: usize,
 ) -> usize
-    requires { ⌜ Rowed (now table) (now rows) plan × Reads (now table) name v × Rising (now list) count ⌝ }
+    requires { ⌜ Laid (now table) (now index) × Reads (now table) name v × Rising (now list) count ⌝ }
     ensures { λ r. ⌜ Placed (now (table .entry)) (equals name v) count (now (list .entry)) r (now (list .exit)) ⌝ }
 {
-    if name < plan.publics {
+    if name < word16(table, 0) {
         return count;
     }
-    insert(list, count, equals(table, rows, plan, name, v))
+    insert(list, count, equals(table, index, name, v))
 }

@@ -1,67 +1,69 @@
 // The values of a name, and the places of a name's row.
 ghost use mathlib.Core.Path.{_≡_};
 ghost use Prim.Native.Nat.{_+_, _<_, _≤_};
-ghost use lib.ListN.{length};
-ghost use Rattle.lists.specs.Lists.{word};
 ghost use Rattle.scheme.specs.Words.{publics};
 ghost use Rattle.scheme.specs.Scheme.{scheme};
 ghost use Rattle.places.specs.Places.{equals, differs, free};
 ghost use Rattle.places.specs.Rows.{numberOf};
-ghost use Rattle.places.specs.Inner.Plan.{today, privatesOf, Rowed, Holds, Differs, reached};
-use lists::word32;
-use places::layout::Layout;
+ghost use Rattle.places.specs.Plan.{Laid};
+ghost use Rattle.places.specs.Inner.Plan.{today, privatesOf, Holds, Differs};
+ghost use Rattle.builder.specs.Inner.Parts.{ValueAt, CountOf};
+use lists::word16;
 use places::layout::Reach;
-use places::layout::is_restricted;
+use places::lookup::free_start;
+use places::lookup::privates;
+use places::lookup::row_start;
+use scheme::fields::name_kind;
 
 // Value k of a name's reach.
-pub(crate) fn value_at(plan: Layout, values: Reach, k: usize) -> usize
-    requires { ⌜ (values .low ≤ values .high) × (values .high ≤ 65536) × (plan .publics < 65536)
-        × (plan .privates < 65536) × (k < length (reached (plan .publics) (plan .privates) values)) ⌝ }
-    ensures { λ r. ⌜ r ≡ word (reached (plan .publics) (plan .privates) values) k ⌝ }
+pub(crate) fn value_at(publics: usize, values: Reach, k: usize) -> usize
+    requires { ⌜ (values .low ≤ values .high) × (values .high ≤ 65536) × (publics < 65536) × (k < 131072) ⌝ }
+    ensures { λ r. ⌜ ValueAt publics values k r ⌝ }
 {
-    let publics = values.high - values.low;
-    if k < publics {
+    let count = values.high - values.low;
+    if k < count {
         return values.low + k;
     }
-    plan.publics + (k - publics)
+    publics + (k - count)
 }
 
-pub(crate) fn value_count(plan: Layout, values: Reach) -> usize
-    requires { ⌜ (values .low ≤ values .high) × (values .high ≤ 65536) × (plan .privates < 65536) ⌝ }
-    ensures { λ r. ⌜ r ≡ length (reached (plan .publics) (plan .privates) values) ⌝ }
+// How many values a name's reach has.
+pub(crate) fn value_count(privates: usize, values: Reach) -> usize
+    requires { ⌜ (values .low ≤ values .high) × (values .high ≤ 65536) × (privates < 65536) ⌝ }
+    ensures { λ r. ⌜ CountOf privates values r ⌝ }
 {
-    let publics = values.high - values.low;
+    let count = values.high - values.low;
     if values.privates {
-        return publics + plan.privates;
+        return count + privates;
     }
-    publics
+    count
 }
 
 // The number of [x=v].
-pub(crate) fn equals(table: &[u16], rows: &[u32], plan: Layout, name: usize, v: usize) -> u32
-    requires { ⌜ Rowed (now table) (now rows) plan × Holds (now table) name v ⌝ }
+pub(crate) fn equals(table: &[u16], index: &[u32], name: usize, v: usize) -> u32
+    requires { ⌜ Laid (now table) (now index) × Holds (now table) name v ⌝ }
     ensures { λ r. ⌜ r ≡ numberOf (scheme (now (table .entry))) (today (now (table .entry))) (equals name v) ⌝ }
 {
-    let row = word32(rows, name);
-    if is_restricted(table, name) {
-        return (row + (v - plan.publics)) as u32;
+    let row = row_start(index, name);
+    if name_kind(table, name) == 0 {
+        return (row + (v - word16(table, 0))) as u32;
     }
     (row + v) as u32
 }
 
 // The number of [x≠v].
-pub(crate) fn differs(table: &[u16], rows: &[u32], plan: Layout, name: usize, v: usize) -> u32
-    requires { ⌜ Rowed (now table) (now rows) plan × Differs (now table) name v ⌝ }
+pub(crate) fn differs(table: &[u16], index: &[u32], name: usize, v: usize) -> u32
+    requires { ⌜ Laid (now table) (now index) × Differs (now table) name v ⌝ }
     ensures { λ r. ⌜ r ≡ numberOf (scheme (now (table .entry))) (today (now (table .entry))) (differs name v) ⌝ }
 {
-    (word32(rows, name) + plan.privates + v) as u32
+    (row_start(index, name) + privates(index) + v) as u32
 }
 
 // The number of [*≠v].
-pub(crate) fn free_place(table: &[u16], rows: &[u32], plan: Layout, v: usize) -> u32
-    requires { ⌜ Rowed (now table) (now rows) plan × (publics (now table) ≤ v)
+pub(crate) fn free_place(table: &[u16], index: &[u32], v: usize) -> u32
+    requires { ⌜ Laid (now table) (now index) × (publics (now table) ≤ v)
         × (v < publics (now table) + privatesOf (now table)) ⌝ }
     ensures { λ r. ⌜ r ≡ numberOf (scheme (now (table .entry))) (today (now (table .entry))) (free v) ⌝ }
 {
-    (plan.free + (v - plan.publics)) as u32
+    (free_start(index) + (v - word16(table, 0))) as u32
 }

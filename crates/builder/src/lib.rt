@@ -1,8 +1,10 @@
 // The net of a table, as an image.
 ghost use mathlib.Core.Path.{_≡_};
 ghost use Prim.Native.Nat.{_+_, _*_, _<_};
-ghost use Rattle.places.specs.Inner.Plan.{Known, Defined, Laid};
-ghost use Rattle.places.specs.Inner.Counting.{Few, sumsOf, allSums};
+ghost use Rattle.lists.specs.Lists.{word};
+ghost use Rattle.places.specs.Plan.{tokensAt, Laid};
+ghost use Rattle.places.specs.Answers.{sumsOf, netSums};
+ghost use Rattle.places.specs.Inner.Counting.{Few};
 ghost use Rattle.builder.specs.Answer.{builtOutcome, laidOutcome, buildOutcome, sizedOutcome, sizeOutcome};
 
 mod chain;
@@ -15,7 +17,8 @@ mod write;
 
 use places::Measured;
 use places::count::Totals;
-use places::layout::Layout;
+use places::lookup::SIZE;
+use places::lookup::token_count;
 use table::Verdict;
 use write::Heads;
 
@@ -33,42 +36,32 @@ pub enum Sized {
 }
 
 // How many words the image has.
-fn length_of(plan: Layout, t: Totals) -> usize
-    requires { ⌜ (plan .tokens < 65536) × Few (sumsOf t) ⌝ }
-    ensures { λ r. ⌜ r ≡ 8 + plan .tokens + 6 * t .transitions + t .inputs + t .outputs ⌝ }
+fn length_of(index: &[u32], t: Totals) -> usize
+    requires { ⌜ (word (now index) tokensAt < 65536) × Few (sumsOf t) ⌝ }
+    ensures { λ r. ⌜ r
+        ≡ 8 + word (now (index .entry)) tokensAt + 6 * t .transitions + t .inputs + t .outputs ⌝ }
 {
-    8 + plan.tokens + 6 * t.transitions + t.inputs + t.outputs
+    8 + token_count(index) + 6 * t.transitions + t.inputs + t.outputs
 }
 
 // Writes the image of a table that is laid out.
-fn write_image(
-    table: &[u16],
-    owners: &[u32],
-    homes: &[u32],
-    definitions: &[u16],
-    rows: &[u32],
-    spots: &[u32],
-    plan: Layout,
-    totals: Totals,
-    out: &mut [u32],
-) -> Built
-    requires { ⌜ Known (now table) (now owners) (now homes) × Defined (now table) (now homes) (now definitions)
-        × Laid (now table) (now rows) (now spots) plan × (sumsOf totals ≡ allSums (now table)) ⌝ }
+fn write_image(table: &[u16], index: &[u32], totals: Totals, out: &mut [u32]) -> Built
+    requires { ⌜ Laid (now table) (now index) × (sumsOf totals ≡ netSums (now table)) ⌝ }
     ensures { λ r. ⌜ builtOutcome r (now (out .exit)) ≡ laidOutcome (now (table .entry)) (now (out .entry)) ⌝ }
 {
-    let words = length_of(plan, totals);
+    let words = length_of(index, totals);
     if out.len() < words {
         return Built::Room;
     }
-    write::header(out, plan, totals);
-    marking::initial(table, out, plan, rows, spots);
-    let base = 8 + plan.tokens;
+    write::header(out, index, totals);
+    marking::initial(table, index, out);
+    let base = 8 + token_count(index);
     let heads = Heads {
         place: base,
         arc: base + 6 * totals.transitions,
     };
-    let next = nodes::nodes(table, owners, homes, rows, spots, plan, out, heads);
-    communications::communications(table, homes, definitions, rows, spots, plan, out, next);
+    let next = nodes::nodes(table, index, out, heads);
+    communications::communications(table, index, out, next);
     Built::Words(words)
 }
 
@@ -76,30 +69,9 @@ fn write_image(
 pub fn build(table: &[u16], out: &mut [u32]) -> Built
     ensures { λ r. ⌜ builtOutcome r (now (out .exit)) ≡ buildOutcome (now (table .entry)) (now (out .entry)) ⌝ }
 {
-    let mut owners = [0u32; 256];
-    let mut homes = [0u32; 256];
-    let mut definitions = [0u16; 256];
-    let mut rows = [0u32; 64];
-    let mut spots = [0u32; 256];
-    match places::measure(
-        table,
-        &mut owners,
-        &mut homes,
-        &mut definitions,
-        &mut rows,
-        &mut spots,
-    ) {
-        Measured::Net(plan, totals) => write_image(
-            table,
-            &owners,
-            &homes,
-            &definitions,
-            &rows,
-            &spots,
-            plan,
-            totals,
-            out,
-        ),
+    let mut index = [0u32; SIZE];
+    match places::measure(table, &mut index) {
+        Measured::Net(totals) => write_image(table, &index, totals, out),
         Measured::Refused(verdict) => Built::Refused(verdict),
         Measured::Short => Built::Room,
     }
@@ -109,20 +81,9 @@ pub fn build(table: &[u16], out: &mut [u32]) -> Built
 pub fn size(table: &[u16]) -> Sized
     ensures { λ r. ⌜ sizedOutcome r ≡ sizeOutcome (now (table .entry)) ⌝ }
 {
-    let mut owners = [0u32; 256];
-    let mut homes = [0u32; 256];
-    let mut definitions = [0u16; 256];
-    let mut rows = [0u32; 64];
-    let mut spots = [0u32; 256];
-    match places::measure(
-        table,
-        &mut owners,
-        &mut homes,
-        &mut definitions,
-        &mut rows,
-        &mut spots,
-    ) {
-        Measured::Net(plan, totals) => Sized::Words(length_of(plan, totals)),
+    let mut index = [0u32; SIZE];
+    match places::measure(table, &mut index) {
+        Measured::Net(totals) => Sized::Words(length_of(&index, totals)),
         Measured::Refused(verdict) => Sized::Refused(verdict),
         // Never so: the lent words are enough for every table.
         Measured::Short => Sized::Words(0),

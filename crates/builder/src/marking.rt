@@ -1,21 +1,22 @@
 // Writing the places that are marked at first.
 ghost use mathlib.Core.Path.{_≡_};
-ghost use Prim.Native.Nat.{_+_, _-_, _<_, _≤_};
+ghost use Prim.Native.Nat.{_+_, _<_, _≤_};
 ghost use lib.ListN.{length};
 ghost use Rattle.lists.specs.Lists.{from};
-ghost use Rattle.scheme.specs.Words.{publics, bounds};
 ghost use Rattle.scheme.specs.Scheme.{scheme};
+ghost use Rattle.places.specs.Plan.{Laid};
 ghost use Rattle.places.specs.Inner.Arcs.{initialNumbers};
 ghost use Rattle.builder.specs.Inner.Writing.{writes};
 ghost use Rattle.places.specs.Inner.Plan.{today};
 ghost use Rattle.builder.specs.Inner.Parts.{initialRows, initialSpots};
-ghost use Rattle.places.specs.Inner.Plan.{Rowed, Spotted, Laid};
 use crate::insertion::insert;
 use crate::write::words;
 use lists::store32;
 use lists::word16;
-use lists::word32;
-use places::layout::Layout;
+use places::lookup::free_start;
+use places::lookup::node_start;
+use places::lookup::privates;
+use places::lookup::row_start;
 use scheme::fields::field1;
 use scheme::fields::field4;
 use scheme::fields::name_kind;
@@ -32,22 +33,19 @@ fn count_up(out: &mut [u32], at: usize, first: usize, count: usize) -> usize
     at + count
 }
 
-fn initial_rows(table: &[u16], out: &mut [u32], plan: Layout, rows: &[u32]) -> usize
-    requires { ⌜ Rowed (now table) (now rows) plan ⌝ }
+fn initial_rows(table: &[u16], index: &[u32], out: &mut [u32]) -> usize
+    requires { ⌜ Laid (now table) (now index) ⌝ }
     ensures { λ r. ⌜ (r ≡ 8 + length (initialRows (now (table .entry)))) × (r < 65536)
         × (now (out .exit) ≡ writes (now (out .entry)) 8 (initialRows (now (table .entry)))) ⌝ }
 {
-    let end = plan.publics + plan.bounds;
+    let publics = word16(table, 0);
+    let privates = privates(index);
+    let end = publics + word16(table, 1);
     let mut at = 8;
-    let mut x = plan.publics;
+    let mut x = publics;
     while x < end {
         if name_kind(table, x) != 0 {
-            at = count_up(
-                out,
-                at,
-                word32(rows, x) + plan.publics + plan.privates,
-                plan.privates,
-            );
+            at = count_up(out, at, row_start(index, x) + publics + privates, privates);
         }
         x += 1;
     }
@@ -55,8 +53,8 @@ fn initial_rows(table: &[u16], out: &mut [u32], plan: Layout, rows: &[u32]) -> u
 }
 
 // Each entry root's first place, ascending.
-fn initial_spots(table: &[u16], out: &mut [u32], at: usize, spots: &[u32])
-    requires { ⌜ Spotted (now table) (now spots) × (at < 65536) ⌝ }
+fn initial_spots(table: &[u16], index: &[u32], out: &mut [u32], at: usize)
+    requires { ⌜ Laid (now table) (now index) × (at < 65536) ⌝ }
     ensures { λ r. ⌜ now (out .exit) ≡ writes (now (out .entry)) at (initialSpots (now (table .entry))) ⌝ }
 {
     let threads = word16(table, 3);
@@ -65,18 +63,18 @@ fn initial_spots(table: &[u16], out: &mut [u32], at: usize, spots: &[u32])
     let mut t = 0;
     while t < threads {
         let root = field4(table, 8, field1(table, 9, t), 1);
-        count = insert(&mut list, count, word32(spots, root) as u32);
+        count = insert(&mut list, count, node_start(index, root) as u32);
         t += 1;
     }
     words(out, at, &list, count);
 }
 
-pub(crate) fn initial(table: &[u16], out: &mut [u32], plan: Layout, rows: &[u32], spots: &[u32])
-    requires { ⌜ Laid (now table) (now rows) (now spots) plan ⌝ }
+pub(crate) fn initial(table: &[u16], index: &[u32], out: &mut [u32])
+    requires { ⌜ Laid (now table) (now index) ⌝ }
     ensures { λ r. ⌜ now (out .exit)
         ≡ writes (now (out .entry)) 8 (initialNumbers (scheme (now (table .entry))) (today (now (table .entry)))) ⌝ }
 {
-    let at = initial_rows(table, out, plan, rows);
-    let next = count_up(out, at, plan.free, plan.privates);
-    initial_spots(table, out, next, spots);
+    let at = initial_rows(table, index, out);
+    let next = count_up(out, at, free_start(index), privates(index));
+    initial_spots(table, index, out, next);
 }

@@ -1,21 +1,31 @@
 // Writing the header, and with two heads the record and the arcs of a transition.
 ghost use mathlib.Core.Path.{_≡_};
 ghost use mathlib.Core.List.{[], _∷_, map};
-ghost use Prim.Native.Nat.{_+_, _-_, _*_, _<_, _≤_};
+ghost use Prim.Native.Nat.{_+_, _*_, _<_, _≤_};
 ghost use lib.ListN.{length, take};
-ghost use Rattle.lists.specs.Lists.{from, range};
+ghost use Rattle.lists.specs.Lists.{word, range};
 ghost use Rattle.builder.specs.Inner.Writing.{writes, putOne, putAll, Inside, maskOf, sums, Steady};
-ghost use Rattle.places.specs.Inner.Counting.{Few, sumsOf};
+ghost use Rattle.places.specs.Plan.{placesAt, tokensAt};
+ghost use Rattle.places.specs.Answers.{sumsOf};
+ghost use Rattle.places.specs.Inner.Counting.{Few};
 ghost use Rattle.builder.specs.Inner.Parts.{state, arrow, risen, Short};
 ghost use Rattle.places.specs.Inner.Plan.{headerOf};
 use lists::store32;
 use places::count::Totals;
-use places::layout::Layout;
+use places::lookup::place_count;
+use places::lookup::token_count;
 
 // Where the next record and the next arc go.
 pub struct Heads {
     pub place: usize,
     pub arc: usize,
+}
+
+// What a transition does: its kind and the two numbers that belong to it.
+pub struct Label {
+    pub kind: u32,
+    pub a: usize,
+    pub b: usize,
 }
 
 // The arcs of a transition: the first `inputs` and the first `outputs` words.
@@ -24,6 +34,13 @@ pub struct Arcs {
     pub inputs: usize,
     pub outs: [u32; 8],
     pub outputs: usize,
+}
+
+// The numbers of arcs that rise from one transition to the next.
+pub struct Risers {
+    pub a: u32,
+    pub b: u32,
+    pub c: u32,
 }
 
 pub(crate) fn words(out: &mut [u32], at: usize, list: &[u32], count: usize) -> usize
@@ -43,21 +60,19 @@ pub(crate) fn words(out: &mut [u32], at: usize, list: &[u32], count: usize) -> u
 fn put_record(
     out: &mut [u32],
     place: usize,
-    kind: u32,
-    a: usize,
-    b: usize,
+    label: Label,
     arc: usize,
     inputs: usize,
     outputs: usize,
 )
-    requires { ⌜ (place + 6 ≤ length (now out)) × (a < 65536) × (b < 65536) × (arc < 4294967296)
+    requires { ⌜ (place + 6 ≤ length (now out)) × (label .a < 65536) × (label .b < 65536) × (arc < 4294967296)
         × (inputs < 4294967296) × (outputs < 4294967296) ⌝ }
     ensures { λ r. ⌜ now (out .exit)
-        ≡ writes (now (out .entry)) place (kind ∷ a ∷ b ∷ arc ∷ inputs ∷ outputs ∷ []) ⌝ }
+        ≡ writes (now (out .entry)) place (label .kind ∷ label .a ∷ label .b ∷ arc ∷ inputs ∷ outputs ∷ []) ⌝ }
 {
-    out[place] = kind;
-    out[place + 1] = a as u32;
-    out[place + 2] = b as u32;
+    out[place] = label.kind;
+    out[place + 1] = label.a as u32;
+    out[place + 2] = label.b as u32;
     out[place + 3] = arc as u32;
     out[place + 4] = inputs as u32;
     out[place + 5] = outputs as u32;
@@ -67,23 +82,23 @@ fn put_record(
 pub(crate) fn transition(
     out: &mut [u32],
     h: Heads,
-    kind: u32,
-    a: usize,
-    b: usize,
+    label: Label,
     ins: &[u32],
     inputs: usize,
     outs: &[u32],
     outputs: usize,
 ) -> Heads
-    requires { ⌜ (a < 65536) × (b < 65536) × (inputs ≤ length (now ins)) × (outputs ≤ length (now outs))
-        × Inside (putOne (state (now out) h) (arrow kind a b (take inputs (now ins)) (take outputs (now outs)))) ⌝ }
+    requires { ⌜ (label .a < 65536) × (label .b < 65536) × (inputs ≤ length (now ins)) × (outputs ≤ length (now outs))
+        × Inside (putOne (state (now out) h)
+        (arrow (label .kind) (label .a) (label .b) (take inputs (now ins)) (take outputs (now outs)))) ⌝ }
     ensures { λ r. ⌜ state (now (out .exit)) r
         ≡ putOne (state (now (out .entry)) h)
-        (arrow kind a b (take inputs (now (ins .entry))) (take outputs (now (outs .entry)))) ⌝ }
+        (arrow (label .kind) (label .a) (label .b)
+        (take inputs (now (ins .entry))) (take outputs (now (outs .entry)))) ⌝ }
 {
     let place = h.place;
     let arc = h.arc;
-    put_record(out, place, kind, a, b, arc, inputs, outputs);
+    put_record(out, place, label, arc, inputs, outputs);
     let middle = words(out, arc, ins, inputs);
     let end = words(out, middle, outs, outputs);
     Heads {
@@ -99,7 +114,7 @@ pub(crate) fn go(out: &mut [u32], h: Heads, kind: u32, a: usize, from: u32, to: 
 {
     let ins = [from; 1];
     let outs = [to; 1];
-    transition(out, h, kind, a, 0, &ins, 1, &outs, 1)
+    transition(out, h, Label { kind, a, b: 0 }, &ins, 1, &outs, 1)
 }
 
 // All bits for a number that rises, none for another.
@@ -153,36 +168,37 @@ fn raised(
     at + count
 }
 
-// Transitions of one label that follow one another: the first has the given arcs, and from one to the next the arcs a,
-// b and c rise by 1.
+// Transitions of one label that follow one another: the first has the given arcs, and from one to the next those of
+// three numbers rise by 1.
 pub(crate) fn series(
     out: &mut [u32],
     h: Heads,
-    kind: u32,
-    x: usize,
-    y: usize,
+    label: Label,
     arcs: Arcs,
-    a: u32,
-    b: u32,
-    c: u32,
+    rise: Risers,
     count: usize,
 ) -> Heads
-    requires { ⌜ (x < 65536) × (y < 65536) × (count < 65536) × Short arcs
-        × Inside (putAll (risen kind x y arcs (a ∷ b ∷ c ∷ [])) (state (now out) h) (range count)) ⌝ }
+    requires { ⌜ (label .a < 65536) × (label .b < 65536) × (count < 65536) × Short arcs
+        × Inside (putAll (risen (label .kind) (label .a) (label .b) arcs (rise .a ∷ rise .b ∷ rise .c ∷ []))
+        (state (now out) h) (range count)) ⌝ }
     ensures { λ r. ⌜ state (now (out .exit)) r
-        ≡ putAll (risen kind x y arcs (a ∷ b ∷ c ∷ [])) (state (now (out .entry)) h) (range count) ⌝ }
+        ≡ putAll (risen (label .kind) (label .a) (label .b) arcs (rise .a ∷ rise .b ∷ rise .c ∷ []))
+        (state (now (out .entry)) h) (range count) ⌝ }
 {
     let ins = arcs.ins;
     let outs = arcs.outs;
     let mut list = [0u32; 16];
     let middle = words(&mut list, 0, &ins, arcs.inputs);
     let size = words(&mut list, middle, &outs, arcs.outputs);
+    let a = rise.a;
+    let b = rise.b;
+    let c = rise.c;
     let masks = masks_of(&list, a, b, c);
     let mut place = h.place;
     let mut arc = h.arc;
     let mut t = 0;
     while t < count {
-        put_record(out, place, kind, x, y, arc, arcs.inputs, arcs.outputs);
+        put_record(out, place, label, arc, arcs.inputs, arcs.outputs);
         arc = raised(out, arc, &list, &masks, size, t as u32);
         place += 6;
         t += 1;
@@ -190,22 +206,25 @@ pub(crate) fn series(
     Heads { place, arc }
 }
 
-pub(crate) fn header(out: &mut [u32], plan: Layout, t: Totals)
-    requires { ⌜ (plan .places < 65536) × (plan .tokens < 65536) × Few (sumsOf t)
-        × (8 + plan .tokens + 6 * t .transitions < 4294967296) ⌝ }
+pub(crate) fn header(out: &mut [u32], index: &[u32], t: Totals)
+    requires { ⌜ (word (now index) placesAt < 65536) × (word (now index) tokensAt < 65536) × Few (sumsOf t)
+        × (8 + word (now index) tokensAt + 6 * t .transitions < 4294967296) ⌝ }
     ensures { λ r. ⌜ now (out .exit)
         ≡ writes (now (out .entry)) 0
-        (headerOf (plan .places) (t .transitions) (t .inputs) (t .outputs) (plan .tokens)) ⌝ }
+        (headerOf (word (now (index .entry)) placesAt) (t .transitions) (t .inputs) (t .outputs)
+        (word (now (index .entry)) tokensAt)) ⌝ }
 {
+    let places = place_count(index);
+    let tokens = token_count(index);
     let list = [
-        plan.places as u32,
+        places as u32,
         t.transitions as u32,
         t.inputs as u32,
         t.outputs as u32,
-        plan.tokens as u32,
+        tokens as u32,
         8,
-        (8 + plan.tokens) as u32,
-        (8 + plan.tokens + 6 * t.transitions) as u32,
+        (8 + tokens) as u32,
+        (8 + tokens + 6 * t.transitions) as u32,
     ];
     words(out, 0, &list, 8);
 }

@@ -13,8 +13,8 @@ use Rattle.scheme.specs.Scheme.{Scheme}
 use Rattle.table.specs.Accepted.{Accepted}
 use Rattle.process.specs.States.{State, start}
 use Rattle.process.specs.Steps.{isOpen}
-use Rattle.process.specs.Labels.{isBookkeeping, stepOf}
-use Rattle.net.specs.Image.{Label, labelAt, labelOf, inputsAt, outputsAt, transitionCount}
+use Rattle.process.specs.Labels.{stepOf}
+use Rattle.net.specs.Image.{Label, labelAt, labelOf, inputsAt, outputsAt, transitionCount, isBookkeeping}
 use Rattle.net.specs.Firing as Firing
 use Rattle.net.specs.Firing.{Step, made, refused, step, isEnabled, hasContact, put, moved, initialMarking}
 use Rattle.net.specs.Net.{Net, Transition, transitionAt, blank, encode, ascending, isAscending}

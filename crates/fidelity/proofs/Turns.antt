@@ -14,8 +14,7 @@ use Rattle.scheme.specs.Scheme.{Scheme, scheme}
 use Rattle.table.specs.Accepted.{Accepted}
 use Rattle.process.specs.States.{State}
 use Rattle.process.specs.Steps.{isOpen}
-use Rattle.process.specs.Labels.{isBookkeeping}
-use Rattle.net.specs.Image.{Label, labelAt}
+use Rattle.net.specs.Image.{Label, labelAt, isBookkeeping}
 use Rattle.net.specs.Firing.{Outcome, made, refused, step, inTurn}
 use Rattle.net.specs.Firing as Firing
 use Rattle.net.proofs.Steps.{turn-made, turn-refused}

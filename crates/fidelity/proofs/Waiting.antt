@@ -12,8 +12,8 @@ use Rattle.scheme.specs.Words.{bounds}
 use Rattle.table.specs.Accepted.{Accepted}
 use Rattle.process.specs.States.{State}
 use Rattle.process.specs.Steps.{Step, isOpen}
-use Rattle.process.specs.Labels.{isBookkeeping, stepOf, labelOf}
-use Rattle.net.specs.Image.{Label, labelAt}
+use Rattle.process.specs.Labels.{stepOf, labelOf}
+use Rattle.net.specs.Image.{Label, labelAt, isBookkeeping}
 use Rattle.net.specs.Firing.{Outcome, made, step, inTurn}
 use Rattle.net.proofs.Steps.{turn-made, turn-last}
 use Rattle.places.specs.Image.{netOf, imageOf}

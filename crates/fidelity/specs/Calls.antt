@@ -9,8 +9,8 @@ use Rattle.scheme.specs.Scheme.{scheme}
 use Rattle.process.specs.States.{State, start}
 use Rattle.process.specs.Steps as Steps
 use Rattle.process.specs.Steps.{Step}
-use Rattle.process.specs.Labels.{isBookkeeping, stepOf}
-use Rattle.net.specs.Image.{labelAt}
+use Rattle.process.specs.Labels.{stepOf}
+use Rattle.net.specs.Image.{labelAt, isBookkeeping}
 use Rattle.net.specs.Firing as Firing
 use Rattle.net.specs.Firing.{Outcome, RunOutcome, Ending, limitReached, historyFull, nothingEnabled, stopped, initialMarking}
 

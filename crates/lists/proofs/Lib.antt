@@ -4,6 +4,7 @@ pub mod Members
 pub mod Counts
 pub mod First
 pub mod Slices
+pub mod Stores
 pub mod Ascending
 pub mod Positions
 pub mod Sums

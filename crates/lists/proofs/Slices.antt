@@ -1,11 +1,11 @@
 -- Laws of parts of a list: what a loop over `slice i end` and over `drop i` sees turn by turn.
-use mathlib.Core.Path.{_≡_, refl, sym, ap, subst, _∙_}
+use mathlib.Core.Path.{_≡_, ap, _∙_}
 use mathlib.Core.List.{List, [], _∷_, _++_, append-assoc, append-nil}
-use Prim.Native.Nat.{ℕ, suc, _+_, _-_, _≤_, _<_}
+use Prim.Native.Nat.{ℕ, zero, suc, _+_, _-_, _≤_, _<_}
 use native.Mathlib.Numerals.{add-one}
 use native.Mathlib.Omega.{arith}
-use lib.ListN.{length, getD, take, drop, replicate, length-take, length-append, drop-of-length-le}
-use lib.Seq.{slice, slice-cons, drop-cons, drop-at, take-at, getD-drop, getD-take}
+use lib.ListN.{length, getD, take, drop, replicate, length-take, length-drop, length-append, drop-of-length-le, List·getD-eq-default}
+use lib.Seq.{slice, slice-cons, drop-cons, drop-at, take-at, take-nil, getD-drop, getD-take}
 
 -- a part that has a first element, and one that has none
 pub slice-step : (w : List ℕ) (i e : ℕ) → i < e → e ≤ length w → slice i e w ≡ getD w i 0 ∷ slice (i + 1) e w
@@ -26,6 +26,20 @@ pub getD-slice : (w : List ℕ) (i e k : ℕ) → i ≤ k → k < e → getD (sl
 getD-slice w i e k a b =
     let s : i + (k - i) ≡ k = omega arith in
     getD-drop i (take e w) (k - i) 0 ∙ ap (λ (j : ℕ). getD (take e w) j 0) s ∙ getD-take e w k 0 b
+
+-- a word of a part
+module _ (x : List ℕ) (a e i : ℕ) where
+  pub slice-word : i < e - a → getD (slice a e x) i 0 ≡ getD x (a + i) 0
+  slice-word h = getD-drop a (take e x) i 0 ∙ getD-take e x (a + i) 0 (omega arith)
+
+  pub slice-past : e - a ≤ i → getD (slice a e x) i 0 ≡ 0
+  slice-past h = List·getD-eq-default (slice a e x) 0 (omega (arith, length-drop a (take e x), length-take e x))
+
+-- a part as it is lent
+pub lent-part : (x : List ℕ) (a k : ℕ) → take k (drop a x) ≡ slice a (a + k) x
+lent-part x zero k = let q : 0 + k ≡ k = omega arith in rw q
+lent-part [] (suc a) k = let q : suc a + k ≡ suc (a + k) = omega arith in rw q (take-nil k)
+lent-part (v ∷ x) (suc a) k = let q : suc a + k ≡ suc (a + k) = omega arith in rw q (lent-part x a k)
 
 -- the part between what stands before it and what stands after
 pub slice-between : {A : Type 0} (before part behind : List A) (i e : ℕ) → length before ≡ i → i + length part ≡ e

@@ -63,6 +63,10 @@ pub record Label : Type 0 where
 abbrev pub labelOf : ℕ → ℕ → ℕ → Label
 labelOf kind a b = record { kind = kind; a = a; b = b }
 
+-- "Kinds 0 and 1 are bookkeeping." (document 01, Transitions)
+abbrev pub isBookkeeping : ℕ → Bool
+isBookkeeping kind = leb kind 1
+
 abbrev pub labelAt : List ℕ → ℕ → Label
 labelAt image transition =
     let start = recordStart image transition in

@@ -8,8 +8,8 @@ use lib.Dec.{ltb}
 use lib.ListN.{length, take}
 use lib.Seq.{slice, getD-take, length-take-le}
 use Rattle.lists.specs.Lists.{pick, same, word, from, range, member}
-use Rattle.lists.proofs.Ranges.{from-more, from-done, from-whole, member-from}
-use Rattle.lists.proofs.Members.{member-getD, member-map}
+use Rattle.lists.proofs.Ranges.{from-more, from-done, from-whole}
+use Rattle.lists.proofs.Members.{member-getD}
 use Rattle.lists.proofs.Tests.{same-yes, same-no}
 use Rattle.lists.proofs.Slices.{slice-step, slice-none}
 use Rattle.scheme.specs.Words.{publics, branches, branchKind, isStop, isChoice, isNew, isSilent, isSend, isReceive, nodeFirst, nodeSecond}
@@ -17,7 +17,8 @@ use Rattle.scheme.specs.Words.{channel, branchName, argumentsOf}
 use Rattle.scheme.specs.Owners.{held, branchThread}
 use Rattle.scheme.specs.Scheme.{scheme}
 use Rattle.places.specs.Inner.Plan.{privatesOf, freeNames}
-use Rattle.places.specs.Inner.Counting.{Sums, Few, addTimes, over, releaseSums, copySums, silentSums, nodeSums}
+use Rattle.places.specs.Answers.{Sums}
+use Rattle.places.specs.Inner.Counting.{Few, addTimes, over, releaseSums, copySums, silentSums, nodeSums}
 use Rattle.places.specs.Inner.Counting.{pairSums, partnerSums, sendSums}
 
 pub silent-yes : (w : List ℕ) (s : Sums) (b : ℕ) → branchKind w b ≡ 0 → silentSums w s b ≡ addTimes s 1 1 1
@@ -133,9 +134,6 @@ module _ (step : Sums → ℕ → Sums) where
 pub taken-member : (xs : List ℕ) (i e : ℕ) → i < e → e ≤ length xs → member (word xs i) (take e xs) ≡ true
 taken-member xs i e l k =
     ap (λ (x : ℕ). member x (take e xs)) (sym (getD-take e xs i 0 l)) ∙ member-getD (take e xs) i (omega (arith, length-take-le e xs k))
-
-pub mapped-member : (f : ℕ → ℕ) (a i e : ℕ) → a ≤ i → i < e → member (f i) (map f (from a (e - a))) ≡ true
-mapped-member f a i e l k = member-map f i (from a (e - a)) (member-from i a (e - a) l (omega arith))
 
 -- ---- the steps of the counts
 

@@ -13,16 +13,16 @@ use Rattle.lists.proofs.Ranges.{every-below, from-length}
 use Rattle.scheme.specs.Words.{publics, bounds, definitions, nodes, branches, arguments, names, nodeKind, nodeFirst, nodeSecond, isChoice, isNew, isCall}
 use Rattle.scheme.specs.Words.{branchKind, channel, branchName, next, formals, formalCount, argument, argumentsOf}
 use Rattle.scheme.specs.Owners.{held}
-use Rattle.scheme.specs.Index.{heldIn, HeldNames}
+use Rattle.scheme.specs.Index.{heldAt, HeldNames}
 use Rattle.table.specs.Causes.{cause, kindsRight, nameKindRight, formalsZero, nodeKindRight, branchKindRight}
 use Rattle.scheme.specs.Scheme.{stop, choice, new, call, silent, send, receive, nodeAt, branchAt, argumentsAt, scheme}
 use Rattle.table.proofs.Passed.{passed}
 use Rattle.table.proofs.Inside
 use Rattle.table.proofs.Inside.{counted}
-use Rattle.scheme.proofs.Indexed.{held-indexed}
+use Rattle.table.specs.Known.{Known}
+use Rattle.table.proofs.Lookup.{held-right}
 use Rattle.places.specs.Places.{controls}
-use Rattle.places.specs.Inner.Plan.{Known}
-use Rattle.places.proofs.Controls.{controls-few, few-nodes}
+use Rattle.places.proofs.Controls.{controls-few}
 
 module _ (w : List ℕ) (h : cause w ≡ 0) where
   -- ---- nodes
@@ -129,32 +129,29 @@ module _ (w : List ℕ) (h : cause w ≡ 0) where
 
 -- ---- held names by lent words
 
-pub held-known : (w owners homes : List ℕ) → Known w owners homes → (n : ℕ) → n < nodes w → heldIn w owners homes n ≡ held w n
-held-known w owners homes k n l =
-    let c = counted w (passed w (k .accepted) .counts) in
-    held-indexed w owners homes n (k .owners-are) (k .homes-are)
-    (omega (arith, c .few-nodes, k .owners-enough)) (omega (arith, c .few-branches, k .homes-enough)) (omega (arith, c .few-definitions))
-    (omega (arith, c .few-nodes))
+pub held-known : (w x : List ℕ) → Known w x → (n : ℕ) → n < nodes w → heldAt w x n ≡ held w n
+unfolding scheme
+held-known w x k n l = held-right w (k .accepted) x (k .right) n l
 
 -- ---- control places of a node
 
-module _ (w owners homes : List ℕ) (k : Known w owners homes) (n : ℕ) (l : n < nodes w) where
+module _ (w x : List ℕ) (k : Known w x) (n : ℕ) (l : n < nodes w) where
   abbrev Counts : ℕ → Type 0
   Counts r = (r ≡ controls (scheme w) n) × (r ≤ 65)
 
   counts : (r : ℕ) → r ≡ controls (scheme w) n → Counts r
   counts r e = (e, omega (arith, e, controls-few w (k .accepted) n))
 
-  held-length : (before after : List ℕ) (r : ℕ) → HeldNames (heldIn w owners homes n) before r after → r ≡ length (scheme w .held n)
-  held-length before after r q = q .count ∙ ap (λ (xs : List ℕ). length xs) (held-known w owners homes k n l ∙ sym (held-of w (k .accepted) n))
+  held-length : (before after : List ℕ) (r : ℕ) → HeldNames (heldAt w x n) before r after → r ≡ length (scheme w .held n)
+  held-length before after r q = q .count ∙ ap (λ (xs : List ℕ). length xs) (held-known w x k n l ∙ sym (held-of w (k .accepted) n))
 
-  pub count-stop : (before after : List ℕ) (r : ℕ) → nodeKind w n ≡ 0 → HeldNames (heldIn w owners homes n) before r after → Counts (1 + r)
+  pub count-stop : (before after : List ℕ) (r : ℕ) → nodeKind w n ≡ 0 → HeldNames (heldAt w x n) before r after → Counts (1 + r)
   unfolding controls
   count-stop before after r e q =
       counts (1 + r) (rw (stop-node w (k .accepted) n l e) (omega (arith, held-length before after r q)))
 
   pub count-call : (before after : List ℕ) (f r : ℕ) → nodeKind w n ≡ 3 → f ≡ formalCount w (nodeFirst w n)
-      → HeldNames (heldIn w owners homes n) before r after → Counts (1 + f + r)
+      → HeldNames (heldAt w x n) before r after → Counts (1 + f + r)
   unfolding controls formals
   count-call before after f r e g q =
       let d = nodeFirst w n in

@@ -1,13 +1,11 @@
 -- Where the control places of an accepted table's nodes start, and how many there are: each number is below 65536.
-use mathlib.Core.Path.{_≡_, refl, _∙_}
+use mathlib.Core.Path.{_≡_, refl}
 use mathlib.Core.Bool.{Bool, true, false}
 use mathlib.Core.List.{List}
 use Prim.Native.Nat.{ℕ, _+_, _*_, _≤_, _<_}
 use native.Mathlib.Omega.{arith}
-use native.Mathlib.Decide.{ℕ-discrete}
-use lib.ListN.{length, set}
-use lib.Seq.{getD-set-same, getD-set-other}
-use Rattle.lists.specs.Lists.{pick, word, from, range}
+use lib.ListN.{length}
+use Rattle.lists.specs.Lists.{pick, from, range}
 use Rattle.lists.proofs.Ranges.{from-length, from-member}
 use Rattle.lists.proofs.Sums.{sum-few}
 use Rattle.scheme.specs.Words.{publics, bounds, nodes}
@@ -18,7 +16,7 @@ use Rattle.table.proofs.Accepted.{accepted}
 use Rattle.places.specs.Held.{valuesFor}
 use Rattle.places.specs.Places.{controlsAt, controls}
 use Rattle.places.specs.Rows.{rowLength, freeStart, controlStart}
-use Rattle.places.specs.Inner.Plan.{today, privatesOf, controlOf, SpotsBelow}
+use Rattle.places.specs.Inner.Plan.{today, privatesOf, controlOf}
 use Rattle.places.proofs.Rows.{free-start, control-first, control-next}
 use Rattle.places.proofs.Today.{row-length-today}
 use Rattle.places.proofs.Weights.{held-few}
@@ -80,14 +78,6 @@ module _ (w : List ℕ) where
 
   pub control-goes-on : (n : ℕ) → controlOf w (n + 1) ≡ controlOf w n + controls (scheme w) n
   control-goes-on n = control-next (scheme w) (today w) n
-
-  -- one start more
-  pub spots-more : (spots : List ℕ) (n v : ℕ) → n < length spots → v ≡ controlOf w n → SpotsBelow w spots n → SpotsBelow w (set spots n v) (n + 1)
-  spots-more spots n v u e h k b = go (ℕ-discrete k n)
-    where
-      go : Dec (k ≡ n) → word (set spots n v) k ≡ controlOf w k
-      go (yes q) = rw q (getD-set-same spots n v 0 u ∙ e)
-      go (no d) = getD-set-other spots n k v 0 d ∙ h k (omega arith)
 
 module _ (w : List ℕ) (h : cause w ≡ 0) where
   pub few-nodes : nodes w ≤ 256

@@ -7,7 +7,8 @@ use borrow.Author.Tests.{lt-ltb, le-ltb}
 use Rattle.scheme.specs.Words.{publics}
 use Rattle.places.specs.Inner.Plan.{privatesOf}
 use Rattle.scheme.specs.Scheme.{scheme}
-use Rattle.places.specs.Inner.Counting.{Sums, addTimes, releaseSums, copySums}
+use Rattle.places.specs.Answers.{Sums}
+use Rattle.places.specs.Inner.Counting.{addTimes, releaseSums, copySums}
 
 pub release-restricted : (w : List ℕ) (s : Sums) (z : ℕ) → scheme w .restricted z ≡ true → releaseSums w s z ≡ addTimes s (privatesOf w) 2 2
 unfolding releaseSums

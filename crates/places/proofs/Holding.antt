@@ -16,17 +16,17 @@ use Rattle.lists.proofs.Members.{member-keep, map-member, flat-member, keep-len
 use Rattle.places.proofs.Totals.{total-same}
 use Rattle.scheme.specs.Words.{publics, bounds, nodes, threads, nodeKind, nodeFirst, branchKind, branchName, firstFormal, formals, formalCount}
 use Rattle.scheme.specs.Scheme.{Scheme, Node, stop, choice, new, call, scheme}
-use Rattle.scheme.specs.Index.{ownerIn, homeIn, parentOf, heldIn, HeldNames, threadIn}
-use Rattle.scheme.specs.declared.index.Parent.{Parent}
-use Rattle.scheme.specs.declared.index.Parent.the-variants.{Definition, New, Branch, Nobody}
+use Rattle.scheme.specs.Index.{ownersIn, homesIn, ownerIn, homeIn, parentOf, heldIn, HeldNames}
+use Rattle.scheme.specs.declared.lookup.Parent.{Parent}
+use Rattle.scheme.specs.declared.lookup.Parent.the-variants.{Definition, New, Branch, Nobody}
 use Rattle.scheme.proofs.Indexed.{new-below, branch-below, held-at-root, held-at-new, held-at-receive, held-at-branch, held-at-nobody}
-use Rattle.scheme.specs.Words.{definitionThread}
 use Rattle.table.specs.Causes.{cause}
+use Rattle.table.specs.Known.{Known}
 use Rattle.table.specs.Accepted.{Accepted}
 use Rattle.table.proofs.Accepted.{accepted}
 use Rattle.places.specs.Places.{controlsAt, controls}
 use Rattle.places.specs.Held.{namesAt, heldCounts, mostHeld, privateCount, valuesFor}
-use Rattle.places.specs.Inner.Plan.{privatesOf, freeNames, Known, Defined}
+use Rattle.places.specs.Inner.Plan.{privatesOf, freeNames}
 use Rattle.places.specs.Inner.Holding.{heldMostAt, heldMost, HeldBelow, NoneHeld, MostsHeld}
 use Rattle.places.proofs.Tallies.{largest-least}
 use Rattle.places.proofs.Few.{first-place, first-length, held-most}
@@ -211,9 +211,15 @@ module _ (w : List ℕ) (h : cause w ≡ 0) where
       let ok = accepted w h in
       omega (arith, held-few (scheme w) (record { privates = 0; reach = λ x v. true }) ok (omega arith) n, ok .few-bounds)
 
-module _ (w owners homes : List ℕ) (k : Known w owners homes) where
+module _ (w x : List ℕ) (k : Known w x) where
+  abbrev owners : List ℕ
+  owners = ownersIn x
+
+  abbrev homes : List ℕ
+  homes = homesIn x
+
   names-told : (n : ℕ) → n < nodes w → length (heldIn w owners homes n) ≡ length (scheme w .held n)
-  names-told n l = ap (λ (xs : List ℕ). length xs) (held-known w owners homes k n l ∙ sym (held-of w (k .accepted) n))
+  names-told n l = ap (λ (xs : List ℕ). length xs) (held-known w x k n l ∙ sym (held-of w (k .accepted) n))
 
   module _ (n : ℕ) (l : n < nodes w) (p : Parent) (up : p ≡ parentOf (ownerIn owners) (homeIn homes) n)
       (below : List ℕ) (b : HeldBelow (scheme w) n below) where
@@ -301,10 +307,6 @@ module _ (S : Scheme) (ok : Accepted S) where
           go : Dec (k ≡ n) → word (set held n r) k ≡ length (S .held k)
           go (yes d) = rw (d, getD-set-same held n r 0 (omega (arith, p .below .room, ok .few-nodes))) q
           go (no d) = getD-set-other held n k r 0 d ∙ p .below .told k (omega arith)
-
-pub thread-here : (w homes defs : List ℕ) → Defined w homes defs → (n : ℕ) → n < nodes w → threadIn w defs n ≡ scheme w .thread n
-unfolding scheme
-thread-here w homes defs k n l = ap (definitionThread w) (k .definition-in n l)
 
 -- ---- restricted names, and the sum
 

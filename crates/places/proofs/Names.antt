@@ -5,10 +5,10 @@ use mathlib.Core.List.{List, [], _∷_, _++_, append-nil}
 use Prim.Native.Nat.{ℕ, suc, _+_, _-_, _*_, _≤_, _<_}
 use native.Mathlib.Omega.{arith}
 use lib.Dec.{eqb}
-use lib.ListN.{length, getD, set, length-append, List·getD-append}
-use lib.Seq.{getD-append-add, getD-set-same, getD-set-other}
-use native.Mathlib.Decide.{ℕ-discrete}
-use borrow.Author.Tests.{le-leb, lt-leb, lt-ltb, eq-eqb, ne-eqb}
+use lib.ListN.{length, getD, length-append, List·getD-append}
+use lib.Seq.{getD-append-add}
+use native.Mathlib.Decide.{decLt}
+use borrow.Author.Tests.{le-leb, lt-leb, lt-ltb, le-ltb, eq-eqb, ne-eqb}
 use Rattle.lists.specs.Lists.{pick, same, word, from, range, keep, member}
 use Rattle.lists.proofs.Ranges.{from-append, from-member, from-more, from-done, from-length, from-getD}
 use Rattle.lists.proofs.Members.{keep-append, keep-all, keep-none, keep-yes, keep-no}
@@ -17,12 +17,13 @@ use Rattle.scheme.specs.Scheme.{Scheme, scheme}
 use Rattle.places.specs.Values.{valuesOf}
 use Rattle.places.specs.Held.{valuesFor}
 use Rattle.places.specs.Places.{equals, differs, free}
-use Rattle.places.specs.Rows.{freeStart, rowLength, numberOf}
-use Rattle.places.specs.Inner.Plan.{today, privatesOf, values, rowOf, freeNames, Rowed, RowsBelow, Holds, Differs, reached, Lists}
-use Rattle.places.specs.declared.layout.Layout.{Layout}
+use Rattle.places.specs.Rows.{rowLength, numberOf}
+use Rattle.places.specs.Plan.{privatesAt, freeAt, rowsIn, Laid}
+use Rattle.places.specs.Reaches.{reach, reachOf}
+use Rattle.places.specs.Inner.Plan.{today, privatesOf, values, freeNames, Holds, Differs, reached, Lists}
 use Rattle.places.specs.declared.layout.Reach.{Reach}
-use Rattle.places.proofs.Rows.{values-bound, row-first, row-next}
-use Rattle.places.proofs.Order.{row-rises}
+use Rattle.places.proofs.Rows.{values-bound}
+use Rattle.places.proofs.Plans.{row-is, privates-are, free-is}
 use Rattle.places.proofs.Today.{equals-number, equals-restricted, differs-number, row-length-today}
 
 -- ---- a reach as a list
@@ -76,10 +77,6 @@ module _ (w : List ℕ) where
   unfolding scheme
   publics-of = refl
 
-  bounds-of : S .bounds ≡ bounds w
-  unfolding scheme
-  bounds-of = refl
-
   counts-of : S .publics + today w .privates ≡ publics w + privatesOf w
   unfolding scheme
   counts-of = refl
@@ -87,6 +84,10 @@ module _ (w : List ℕ) where
   pub public-free : (x : ℕ) → x < publics w → S .restricted x ≡ false
   unfolding scheme
   public-free x h = rw (lt-leb (publics w) x h)
+
+  pub past-free : (x : ℕ) → names w ≤ x → S .restricted x ≡ false
+  unfolding scheme
+  past-free x h = rw (le-leb (publics w) x (omega arith), le-ltb x (names w) h)
 
   pub kind-tells : (x k : ℕ) → publics w ≤ x → x < names w → k ≡ nameKind w x → eqb k 0 ≡ S .restricted x
   unfolding scheme same
@@ -152,23 +153,48 @@ module _ (w : List ℕ) where
 
   -- ---- as a reach
 
-  pub reach-public : (x p : ℕ) → p ≡ publics w → x < p → Lists (publics w) (privatesOf w) (record { low = x; high = x + 1; privates = false }) (values w x)
+  reach-public : (x : ℕ) → x < publics w → Lists (publics w) (privatesOf w) (reach x (x + 1) false) (values w x)
   unfolding reached from
-  reach-public x p e h =
+  reach-public x h =
       let one : x + 1 - x ≡ 1 = omega arith in
-      record { is = rw one (sym (values-public x (omega (arith, e)))); order = omega arith; inside = omega (arith, e) }
+      record { is = rw one (sym (values-public x h)); order = omega arith; inside = omega arith }
 
-  pub reach-restricted : (x : ℕ) → publics w ≤ x → S .restricted x ≡ true
-      → Lists (publics w) (privatesOf w) (record { low = 0; high = 0; privates = true }) (values w x)
+  reach-restricted : (x : ℕ) → publics w ≤ x → S .restricted x ≡ true → Lists (publics w) (privatesOf w) (reach 0 0 true) (values w x)
   unfolding reached from
   reach-restricted x h r = record { is = sym (values-restricted x h r); order = omega arith; inside = omega arith }
 
-  pub reach-free : (x p : ℕ) → p ≡ publics w → publics w ≤ x → S .restricted x ≡ false
-      → Lists (publics w) (privatesOf w) (record { low = 0; high = p; privates = true }) (values w x)
+  reach-free : (x : ℕ) → publics w ≤ x → S .restricted x ≡ false → Lists (publics w) (privatesOf w) (reach 0 (publics w) true) (values w x)
   unfolding reached
-  reach-free x p e h r =
-      let z : p - 0 ≡ publics w = omega (arith, e) in
-      record { is = rw z (sym (values-free x h r)); order = omega arith; inside = omega (arith, e) }
+  reach-free x h r =
+      let z : publics w - 0 ≡ publics w = omega arith in
+      record { is = rw z (sym (values-free x h r)); order = omega arith; inside = omega arith }
+
+  -- whatever the number
+  pub reach-lists : (x : ℕ) → Lists (publics w) (privatesOf w) (reachOf S x) (values w x)
+  unfolding reachOf scheme
+  reach-lists x = go (decLt x (publics w))
+    where
+      side : (b : Bool) → S .restricted x ≡ b → publics w ≤ x
+          → Lists (publics w) (privatesOf w) (pick b (reach 0 0 true) (reach 0 (publics w) true)) (values w x)
+      side true e h = reach-restricted x h e
+      side false e h = reach-free x h e
+
+      go : Dec (x < publics w) → Lists (publics w) (privatesOf w) (reachOf S x) (values w x)
+      go (yes l) = rw (lt-ltb x (publics w) l) (reach-public x l)
+      go (no d) = rw (le-ltb x (publics w) (omega arith)) (side (S .restricted x) refl (omega arith))
+
+  -- as the code tells the cases apart
+  pub reach-of-public : (x p : ℕ) → p ≡ publics w → x < p → reach x (x + 1) false ≡ reachOf S x
+  unfolding reachOf
+  reach-of-public x p e h = rw (publics-of, lt-ltb x (publics w) (omega (arith, e)))
+
+  pub reach-of-restricted : (x : ℕ) → publics w ≤ x → S .restricted x ≡ true → reach 0 0 true ≡ reachOf S x
+  unfolding reachOf
+  reach-of-restricted x h r = rw (publics-of, le-ltb x (publics w) h, r)
+
+  pub reach-of-free : (x p : ℕ) → p ≡ publics w → publics w ≤ x → S .restricted x ≡ false → reach 0 p true ≡ reachOf S x
+  unfolding reachOf
+  reach-of-free x p e h r = rw (publics-of, le-ltb x (publics w) h, r, e)
 
   -- ---- free names, counted from x on
 
@@ -202,54 +228,21 @@ module _ (w : List ℕ) where
 
   -- ---- places
 
-  module _ (rows : List ℕ) (plan : Layout) (k : Rowed w rows plan) where
-    pub row-few : (x : ℕ) → publics w ≤ x → x < names w → word rows x ≤ 3072
-    unfolding freeStart
-    row-few x h l =
-        let up : rowOf w x ≤ freeStart S (today w) =
-        row-rises S (today w) x (S .publics + S .bounds) (rw publics-of h) (rw (publics-of, bounds-of) (omega arith)) in
-        omega (arith, k .row-is x h l, k .few-free, k .free-is)
+  module _ (x : List ℕ) (L : Laid w x) where
+    pub equals-of-restricted : (y v row p : ℕ) → row ≡ word (rowsIn x) y → p ≡ publics w → Holds w y v → S .restricted y ≡ true
+        → row + (v - p) ≡ numberOf S (today w) (equals y v)
+    equals-of-restricted y v row p e q h r =
+        let l = restricted-private y v h r .0 in
+        let n = equals-restricted S y v r (rw publics-of l) in
+        omega (arith, n, publics-of, q, row-is w x L y (h .low) (h .high), e)
 
-    pub equals-of-restricted : (x v row : ℕ) → row ≡ word rows x → Holds w x v → S .restricted x ≡ true
-        → row + (v - plan .publics) ≡ numberOf S (today w) (equals x v)
-    equals-of-restricted x v row e h r =
-        let p = restricted-private x v h r .0 in
-        let a : word rows x ≡ rowOf w x = k .row-is x (h .low) (h .high) in
-        let n = equals-restricted S x v r (rw publics-of p) in
-        omega (arith, n, publics-of, k .publics-are, a, e)
+    pub equals-of-free : (y v row : ℕ) → row ≡ word (rowsIn x) y → Holds w y v → S .restricted y ≡ false → row + v ≡ numberOf S (today w) (equals y v)
+    equals-of-free y v row e h r = sym (equals-number S y v r ∙ rw (sym (row-is w x L y (h .low) (h .high)), sym e))
 
-    pub equals-of-free : (x v row : ℕ) → row ≡ word rows x → Holds w x v → S .restricted x ≡ false → row + v ≡ numberOf S (today w) (equals x v)
-    equals-of-free x v row e h r =
-        let a : word rows x ≡ rowOf w x = k .row-is x (h .low) (h .high) in
-        sym (equals-number S x v r ∙ rw (sym a, sym e))
+    pub differs-of : (y v row n : ℕ) → row ≡ word (rowsIn x) y → n ≡ word x privatesAt → Differs w y v → row + n + v ≡ numberOf S (today w) (differs y v)
+    differs-of y v row n e q h =
+        let d = differs-number S y v (rw publics-of (h .low)) (h .free) in
+        omega (arith, d, row-is w x L y (h .low) (h .high), e, publics-of, q, privates-are w x L, h .private)
 
-    pub differs-of : (x v row : ℕ) → row ≡ word rows x → Differs w x v → row + plan .privates + v ≡ numberOf S (today w) (differs x v)
-    differs-of x v row e h =
-        let a : word rows x ≡ rowOf w x = k .row-is x (h .low) (h .high) in
-        let n = differs-number S x v (rw publics-of (h .low)) (h .free) in
-        omega (arith, n, a, e, publics-of, k .privates-are, h .private)
-
-    pub free-of : (v : ℕ) → publics w ≤ v → plan .free + (v - plan .publics) ≡ numberOf S (today w) (free v)
-    free-of v h = rw (k .free-is, k .publics-are, publics-of)
-
--- ---- rows filled in one after the other
-
-module _ (w : List ℕ) where
-  pub row-begins : rowOf w (publics w) ≡ 0
-  unfolding scheme
-  row-begins = row-first (scheme w) (today w)
-
-  pub row-goes-on : (x : ℕ) → publics w ≤ x → rowOf w (x + 1) ≡ rowOf w x + rowLength (scheme w) (today w) x
-  unfolding scheme
-  row-goes-on x h = row-next (scheme w) (today w) x h
-
-  pub rows-end : freeStart (scheme w) (today w) ≡ rowOf w (names w)
-  unfolding freeStart scheme
-  rows-end = refl
-
-  pub rows-more : (rows : List ℕ) (x v : ℕ) → x < length rows → v ≡ rowOf w x → RowsBelow w rows x → RowsBelow w (set rows x v) (x + 1)
-  rows-more rows x v u e h k p b = go (ℕ-discrete k x)
-    where
-      go : Dec (k ≡ x) → word (set rows x v) k ≡ rowOf w k
-      go (yes q) = rw q (getD-set-same rows x v 0 u ∙ e)
-      go (no d) = getD-set-other rows x k v 0 d ∙ h k p (omega arith)
+    pub free-of : (v f p : ℕ) → f ≡ word x freeAt → p ≡ publics w → publics w ≤ v → f + (v - p) ≡ numberOf S (today w) (free v)
+    free-of v f p e q h = rw (e, free-is w x L, q, publics-of)

@@ -9,26 +9,28 @@ use lib.ListN.{length, take, drop, length-append}
 use lib.Seq.{sets, sets-eq, length-sets, take-at}
 use borrow.Author.Tests.{lt-ltb, le-ltb, le-leb, lt-leb}
 use Rattle.lists.specs.Lists.{pick, bit, same, from, range, keep, member}
-use Rattle.lists.proofs.Tests.{bit-small, same-yes, same-no, same-true}
+use Rattle.lists.proofs.Tests.{bit-small, same-yes, same-no}
 use Rattle.lists.proofs.Ranges.{from-length, from-member}
-use Rattle.lists.proofs.Members.{keep-append, keep-all, keep-none, keep-length, map-member}
-use Rattle.scheme.specs.Words.{publics, bounds, names, nodes, branches, nodeKind, nodeFirst, nodeSecond, formalCount, argument, argumentsOf}
-use Rattle.scheme.specs.Words.{channel, branchName, branchKind, isSend}
+use Rattle.lists.proofs.Members.{keep-append, keep-all, keep-none}
+use Rattle.scheme.specs.Words.{publics, nodes, branches, nodeKind, nodeFirst, nodeSecond, formalCount, argument, argumentsOf}
+use Rattle.scheme.specs.Words.{channel, branchName, branchKind}
 use Rattle.scheme.specs.Owners.{held, branchThread}
-use Rattle.scheme.specs.Index.{heldIn, HeldNames}
+use Rattle.scheme.specs.Index.{heldAt, HeldNames}
 use Rattle.scheme.specs.Scheme.{scheme}
 use Rattle.table.specs.Causes.{cause}
+use Rattle.table.specs.Known.{Known}
 use Rattle.table.proofs.Accepted.{accepted}
 use Rattle.places.specs.Places.{common}
-use Rattle.places.specs.Inner.Plan.{today, privatesOf, values, freeNames, Known, Named, Counted, Lists, reached, InBoth}
-use Rattle.places.specs.Inner.Counting.{Sums, Few, addTimes, over, releaseSums, copySums, silentSums, nodeSums, boundBit, publicCount, privateCount}
-use Rattle.places.specs.Inner.Counting.{sums, pairSums, partnerSums, sendSums, allSums}
-use Rattle.places.specs.declared.layout.Layout.{Layout}
+use Rattle.places.specs.Inner.Plan.{today, privatesOf, values, freeNames, Lists, reached}
+use Rattle.places.specs.Answers.{Sums, sums}
+use Rattle.places.specs.Inner.Counting.{Few, addTimes, over, releaseSums, copySums, silentSums, nodeSums, boundBit, publicCount, privateCount}
+use Rattle.places.specs.Inner.Counting.{pairSums, partnerSums, sendSums, allSums}
+use Rattle.places.specs.Reaches.{reachOf, commonReach}
 use Rattle.places.specs.declared.layout.Reach.{Reach}
-use Rattle.places.proofs.ByWords.{held-known, held-of, other-call, arguments-inside, argument-inside, channel-inside, name-inside}
+use Rattle.places.proofs.ByWords.{held-known, held-of}
 use Rattle.places.proofs.Controls
-use Rattle.places.proofs.Controls.{publics-are, bounds-are}
 use Rattle.places.proofs.Weights.{held-few}
+use Rattle.places.proofs.Reaches.{common-lists}
 use Rattle.places.proofs.Adding.{over-few, few-part, grows-times, release-grows, copy-grows, send-grows}
 
 -- ---- names that a node holds, in a buffer of 64 words
@@ -42,15 +44,10 @@ held-small w h n =
       accepted w h .few-bounds,
     )
 
-pub held-named : (w : List ℕ) → cause w ≡ 0 → (n : ℕ) → Named w (held w n)
-held-named w h n x m =
-    let k = accepted w h .held-name n x (ap (member x) (held-of w h n) ∙ m) in
-    omega (arith, k .high, publics-are w, bounds-are w)
-
-module _ (w owners homes : List ℕ) (k : Known w owners homes) (n : ℕ) (l : n < nodes w) (before : List ℕ) (r : ℕ) (after : List ℕ)
-    (h : HeldNames (heldIn w owners homes n) before r after) (room : 64 ≤ length before) where
+module _ (w x : List ℕ) (k : Known w x) (n : ℕ) (l : n < nodes w) (before : List ℕ) (r : ℕ) (after : List ℕ)
+    (h : HeldNames (heldAt w x n) before r after) (room : 64 ≤ length before) where
   names-length : r ≡ length (held w n)
-  names-length = h .count ∙ ap (λ (xs : List ℕ). length xs) (held-known w owners homes k n l)
+  names-length = h .count ∙ ap (λ (xs : List ℕ). length xs) (held-known w x k n l)
 
   pub names-fit : r ≤ length after
   names-fit =
@@ -58,13 +55,13 @@ module _ (w owners homes : List ℕ) (k : Known w owners homes) (n : ℕ) (l : n
         arith,
         names-length,
         held-small w (k .accepted) n,
-        ap (λ (xs : List ℕ). length xs) (h .written) ∙ length-sets before 0 (heldIn w owners homes n),
+        ap (λ (xs : List ℕ). length xs) (h .written) ∙ length-sets before 0 (heldAt w x n),
       )
 
   -- the first words are the names
   pub names-taken : take r after ≡ held w n
   names-taken =
-      let e = held-known w owners homes k n l in
+      let e = held-known w x k n l in
       let f : after ≡ sets before 0 (held w n) = h .written ∙ ap (sets before 0) e in
       let g : sets before 0 (held w n) ≡ held w n ++ drop (0 + length (held w n)) before =
       sets-eq (held w n) before 0 (omega (arith, held-small w (k .accepted) n)) in
@@ -72,8 +69,8 @@ module _ (w owners homes : List ℕ) (k : Known w owners homes) (n : ℕ) (l : n
 
   -- what counting the releases of these names needs, and what it gives
   pub names-asks : (s : Sums) → Few (over (releaseSums w) s (held w n))
-      → (r ≤ length after) × Named w (take r after) × Few (over (releaseSums w) s (take r after))
-  names-asks s f = (names-fit, subst (Named w) (sym names-taken) (held-named w (k .accepted) n), rw names-taken f)
+      → (r ≤ length after) × Few (over (releaseSums w) s (take r after))
+  names-asks s f = (names-fit, rw names-taken f)
 
   pub names-gives : (s t : Sums) → t ≡ over (releaseSums w) s (take r after) → t ≡ over (releaseSums w) s (held w n)
   names-gives s t e = e ∙ ap (over (releaseSums w) s) names-taken
@@ -123,18 +120,6 @@ module _ (w : List ℕ) (h : cause w ≡ 0) (n : ℕ) (l : n < nodes w) (s : Sum
 
     pub called-few : Few (nodeSums w s n) → Few (addTimes s 1 1 1)
     called-few f = over-few (copySums w) (copy-grows w) copied (addTimes s 1 1 1) (argumentsOf w n) refl (copied-few f)
-
-    pub arguments-named : Named w (argumentsOf w n)
-    unfolding argumentsOf
-    arguments-named x m =
-        let z = map-member (argument w) x (from (nodeSecond w n) (formalCount w (nodeFirst w n))) m in
-        let q = from-member (z .source) (nodeSecond w n) (formalCount w (nodeFirst w n)) (z .stands) in
-        let e = other-call w h n l a b c in
-        omega (arith, z .gives, argument-inside w h (z .source) (omega (arith, q .1, arguments-inside w h n l e)))
-
-pub free-few : (w : List ℕ) → bounds w ≤ 32 → freeNames w ≤ 32
-free-few w h =
-    omega (arith, keep-length (λ x. not (scheme w .restricted x)) (from (publics w) (bounds w)), from-length (publics w) (bounds w))
 
 -- the arguments as the loop reads them
 pub arguments-are : (w : List ℕ) (n first second f : ℕ) → first ≡ nodeFirst w n → second ≡ nodeSecond w n → f ≡ formalCount w first
@@ -224,21 +209,20 @@ pick-few : (b : Bool) (n : ℕ) → pick b n 0 ≤ n
 pick-few true n = omega arith
 pick-few false n = omega arith
 
-pub reads : (w : List ℕ) (plan : Layout) (b r a z e : ℕ) (ra re x : Reach) (ba be v : ℕ) → Counted w plan
+pub reads : (w : List ℕ) (n b r a z e : ℕ) (ra re x : Reach) (ba be v : ℕ) → cause w ≡ 0 → n ≡ privatesOf w
     → a ≡ channel w b → z ≡ branchName w b → e ≡ channel w r
-    → Lists (publics w) (privatesOf w) ra (values w a) → Lists (publics w) (privatesOf w) re (values w e) → InBoth ra re x
-    → ba ≡ bit (not (ltb a (plan .publics))) → be ≡ bit (not (ltb e (plan .publics))) → v ≡ pick (x .privates) (plan .privates) 0
+    → ra ≡ reachOf (scheme w) a → re ≡ reachOf (scheme w) e → x ≡ commonReach ra re → ba ≡ boundBit w a → be ≡ boundBit w e → v ≡ pick (x .privates) n 0
     → Read w b r a z e x ba be v
-reads w plan b r a z e ra re x ba be v k ea ez ee la le both eb ef ev = record {
+reads w n b r a z e ra re x ba be v h en ea ez ee era ere ex eb ef ev = record {
   channel-is = ea;
   name-is = ez;
   other-is = ee;
-  lists = both (publics w) (privatesOf w) (values w a) (values w e) la le;
-  bit-is = eb ∙ rw (k .publics-are);
-  bit-other = ef ∙ rw (k .publics-are);
-  privates-are = ev ∙ rw (k .privates-are);
-  few-publics = k .few-publics;
-  few-privates = k .few-privates;
+  lists = rw (ex, era, ere) (common-lists w a e);
+  bit-is = eb;
+  bit-other = ef;
+  privates-are = rw en at ev;
+  few-publics = Controls.few-publics w h;
+  few-privates = Controls.few-privates w h;
 }
 
 module _ (w : List ℕ) (b r a z e : ℕ) (x : Reach) (ba be v : ℕ) (k : Read w b r a z e x ba be v) where
@@ -314,16 +298,6 @@ send-yes w s b e = rw (same-yes (branchKind w b) 1 e)
 pub send-no : (w : List ℕ) (s : Sums) (b : ℕ) → (branchKind w b ≡ 1 → ⊥) → sendSums w s b ≡ s
 unfolding sendSums
 send-no w s b e = rw (same-no (branchKind w b) 1 e)
-
--- the names that a send and a receive use
-pub pair-names : (w : List ℕ) → cause w ≡ 0 → (b r : ℕ) → b < branches w → r < branches w → isSend w b ≡ true → branchKind w r ≡ 2
-    → (channel w b < names w) × (branchName w b < names w) × (channel w r < names w)
-pair-names w h b r l u sends receives =
-    let e = same-true (branchKind w b) 1 sends in (
-      channel-inside w h b l (λ q. omega (arith, e, q)),
-      name-inside w h b l (λ q. omega (arith, e, q)),
-      channel-inside w h r u (λ q. omega (arith, receives, q)),
-    )
 
 -- ---- all nodes, then all sends
 

@@ -26,7 +26,8 @@ use Rattle.places.specs.Places.{control, controls, places}
 use Rattle.places.specs.Rows.{IsBound, Exists, has-control}
 use Rattle.places.specs.Transitions.{Description, isInput, isOutput, releasing, releases, copying, copies, making, going, silents, calling, ofNode}
 use Rattle.places.specs.Inner.Plan.{today, privatesOf, freeNames}
-use Rattle.places.specs.Inner.Counting.{Sums, sums, addTimes, over, releaseSums, copySums, silentSums, nodeSums}
+use Rattle.places.specs.Answers.{Sums, sums}
+use Rattle.places.specs.Inner.Counting.{addTimes, over, releaseSums, copySums, silentSums, nodeSums}
 use Rattle.places.proofs.Today.{values-free, values-restricted, otherNames}
 use Rattle.places.proofs.Names.{values-public}
 use Rattle.places.proofs.Initial.{some-control}

@@ -22,7 +22,8 @@ use Rattle.places.specs.Values.{Values}
 use Rattle.places.specs.Places.{common}
 use Rattle.places.specs.Transitions.{Description, communicating, sentOn, ofPair}
 use Rattle.places.specs.Inner.Plan.{today, values}
-use Rattle.places.specs.Inner.Counting.{Sums, boundBit, publicCount, privateCount, pairSums, partnerSums, sendSums}
+use Rattle.places.specs.Answers.{Sums}
+use Rattle.places.specs.Inner.Counting.{boundBit, publicCount, privateCount, pairSums, partnerSums, sendSums}
 use Rattle.places.proofs.Totals
 use Rattle.places.proofs.Totals.{privatesAmong, total-same, total-each, pair-input-sum, pair-output-sum, self-input-sum, self-output-sum}
 use Rattle.places.proofs.Controls.{publics-are}

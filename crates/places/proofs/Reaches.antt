@@ -13,8 +13,13 @@ use Rattle.lists.proofs.Tests.{not-true-false}
 use Rattle.lists.proofs.Ranges.{from-done, member-from, from-member}
 use Rattle.lists.proofs.Members.{keep-append, keep-all, keep-none, member-left, member-right, append-member, member-nil}
 use Rattle.lists.proofs.Positions.{keep-span}
-use Rattle.places.specs.Inner.Plan.{reached, Lists, InBoth}
+use Rattle.scheme.specs.Words.{publics}
+use Rattle.scheme.specs.Scheme.{scheme}
+use Rattle.places.specs.Places.{common}
+use Rattle.places.specs.Reaches.{reach, greatest, least, reachOf, commonReach}
+use Rattle.places.specs.Inner.Plan.{today, privatesOf, values, reached, Lists, InBoth}
 use Rattle.places.specs.declared.layout.Reach.{Reach}
+use Rattle.places.proofs.Names.{reach-lists}
 
 module _ (p n : ℕ) (r : Reach) (us : List ℕ) (l : Lists p n r us) where
   abbrev lower : List ℕ
@@ -125,3 +130,24 @@ module _ (a b : Reach) (low middle high : ℕ) (privates : Bool) (lows : low ≡
       go : Dec (low < middle) → (low ≤ high) × (high ≤ p)
       go (yes h) = let e : high ≡ middle = highs ∙ rw (lt-ltb low middle h) in (omega arith, omega (arith, middle-is .0, k .inside))
       go (no h) = let e : high ≡ low = highs ∙ rw (le-ltb low middle (omega arith)) in (omega arith, omega (arith, below))
+
+-- ---- of names
+
+-- the reach that the code finds for two reaches
+pub common-both : (a b : Reach) → InBoth a b (commonReach a b)
+unfolding commonReach
+common-both a b =
+    in-both a b (greatest (a .low) (b .low)) (least (a .high) (b .high)) (greatest (greatest (a .low) (b .low)) (least (a .high) (b .high)))
+    (a .privates && b .privates) refl refl refl refl
+
+-- as it is found
+pub common-is : (a b : Reach) (low middle high : ℕ) (privates : Bool) → low ≡ greatest (a .low) (b .low) → middle ≡ least (a .high) (b .high)
+    → high ≡ greatest low middle → privates ≡ (a .privates && b .privates) → reach low high privates ≡ commonReach a b
+unfolding commonReach
+common-is a b low middle high privates p q r s = rw (r, q, p, s)
+
+-- the values that two names share
+pub common-lists : (w : List ℕ) (a e : ℕ)
+    → Lists (publics w) (privatesOf w) (commonReach (reachOf (scheme w) a) (reachOf (scheme w) e)) (common (scheme w) (today w) a e)
+common-lists w a e =
+    common-both (reachOf (scheme w) a) (reachOf (scheme w) e) (publics w) (privatesOf w) (values w a) (values w e) (reach-lists w a) (reach-lists w e)

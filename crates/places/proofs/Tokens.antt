@@ -1,6 +1,6 @@
 -- How many places are marked at first: N for each input and formal, N for [*≠n], one for each thread.
 use mathlib.Core.Path.{_≡_, refl, sym, ap, _∙_}
-use mathlib.Core.Bool.{Bool, true, false}
+use mathlib.Core.Bool.{Bool, true, false, not}
 use mathlib.Core.List.{List, [], _∷_, _++_, map}
 use Prim.Native.Nat.{ℕ, _+_, _*_, _≤_, _<_}
 use native.Mathlib.Nat.{mul-le-mul}
@@ -9,11 +9,12 @@ use lib.ListN.{length, length-append, length-map}
 use Rattle.lists.specs.Lists.{pick, same, from, range, keep, flat, some, member, Distinct, none, more}
 use Rattle.lists.proofs.Tests.{and-intro, and-left, false-true, not-true-false}
 use Rattle.lists.proofs.Ranges.{from-length, from-member, member-from}
-use Rattle.lists.proofs.Members.{member-here, member-there, member-keep, map-member, flat-length, distinct-head, distinct-tail, distinct-from, distinct-keep}
+use Rattle.lists.proofs.Members.{member-here, member-there, member-keep, map-member, keep-length, flat-length}
+use Rattle.lists.proofs.Members.{distinct-head, distinct-tail, distinct-from, distinct-keep}
 use Rattle.lists.proofs.Counts.{flat-keep-length}
 use Rattle.lists.proofs.Positions.{distinct-within}
 use Rattle.lists.proofs.Sums.{total-pick}
-use Rattle.scheme.specs.Words.{bounds, threads}
+use Rattle.scheme.specs.Words.{publics, bounds, threads}
 use Rattle.scheme.specs.Scheme.{Scheme, scheme}
 use Rattle.table.specs.Causes.{cause}
 use Rattle.table.specs.Accepted.{Accepted}
@@ -24,7 +25,7 @@ use Rattle.places.specs.Rows.{rowStart, freeStart, controlStart}
 use Rattle.places.specs.Inner.Arcs.{startsAt, initialNumbers}
 use Rattle.places.specs.Inner.Plan.{today, privatesOf, freeNames}
 use Rattle.places.proofs.Today.{otherNames, privates-length}
-use Rattle.places.proofs.Controls.{few-bounds}
+use Rattle.places.proofs.Controls.{few-bounds, few-privates}
 
 some-member : (f : ℕ → ℕ) (n : ℕ) (xs : List ℕ) → some (λ t. same n (f t)) xs ≡ member n (map f xs)
 unfolding some member
@@ -114,7 +115,14 @@ module _ (w : List ℕ) (h : cause w ≡ 0) where
   unfolding scheme
   few-threads = accepted w h .few-threads
 
+  pub free-few : freeNames w ≤ bounds w
+  free-few = omega (arith, keep-length (λ x. not (scheme w .restricted x)) (from (publics w) (bounds w)), from-length (publics w) (bounds w))
+
   pub product-few : (f b : ℕ) → f ≤ bounds w → b ≤ 32 → f * b ≤ 1024
   product-few f b l v =
       let u : f ≤ 32 = omega (arith, few-bounds w h) in
       mul-le-mul u v
+
+  pub tokens-few : length (initialNumbers (scheme w) (today w)) < 65536
+  tokens-few =
+      omega (arith, tokens-are, few-threads, few-privates w h, product-few (freeNames w) (privatesOf w) free-few (few-privates w h))

@@ -4,7 +4,7 @@ use mathlib.Core.List.{List, [], _∷_, _++_, map}
 use Prim.Native.Nat.{ℕ, _+_, _*_}
 use native.Mathlib.Omega.{arith}
 use lib.ListN.{length, length-map}
-use Rattle.lists.specs.Lists.{range, flat, total}
+use Rattle.lists.specs.Lists.{word, range, flat, total}
 use Rattle.lists.proofs.Ranges.{from-member}
 use Rattle.scheme.specs.Words.{nodes, branches}
 use Rattle.scheme.specs.Scheme.{scheme}
@@ -15,16 +15,15 @@ use Rattle.net.proofs.Encode
 use Rattle.places.specs.Places.{places}
 use Rattle.places.specs.Transitions.{Description, ofNode, ofPair, descriptions}
 use Rattle.places.specs.Image.{transitionOf, netWith, netOf, imageOf}
-use Rattle.places.specs.Inner.Arcs.{initialNumbers}
-use Rattle.places.specs.Inner.Plan.{today, controlOf, Laid, headerOf}
-use Rattle.places.specs.Inner.Counting.{Sums, sums, sumsOf, Few, over, nodeSums, sendSums, allSums}
-use Rattle.places.specs.declared.layout.Layout.{Layout}
+use Rattle.places.specs.Plan.{placesAt, tokensAt, Laid}
+use Rattle.places.specs.Answers.{netSums, Sums, sums, sumsOf}
+use Rattle.places.specs.Inner.Plan.{today, headerOf}
+use Rattle.places.specs.Inner.Counting.{Few, over, nodeSums, sendSums, allSums}
 use Rattle.places.specs.declared.count.Totals.{Totals}
-use Rattle.places.proofs.Rows.{places-length}
-use Rattle.places.proofs.Initial.{initial-numbers}
 use Rattle.places.proofs.Totals.{inputSum, outputSum}
 use Rattle.places.proofs.Size.{image-below}
 use Rattle.places.proofs.Controls.{nodes-are}
+use Rattle.places.proofs.Plans.{tokens-are, places-are, net-initial, net-places}
 use Rattle.places.proofs.NodeSums.{plus, plus-is, plus-append, over-plus, node-sum}
 use Rattle.places.proofs.PairSums.{branches-are, send-sum}
 
@@ -86,30 +85,31 @@ module _ (w : List ℕ) (h : cause w ≡ 0) where
         few-outputs = omega (arith, image-words, image-below w h);
       })
 
-  pub initial-is : net .initial ≡ initialNumbers (scheme w) (today w)
-  unfolding netOf netWith
-  initial-is = initial-numbers (scheme w) (today w)
-
-  pub places-is : net .places ≡ controlOf w (nodes w)
-  unfolding netOf netWith
-  places-is = places-length (scheme w) (today w) ∙ ap (controlOf w) (nodes-are w)
-
   pub transitions-are : net .transitions ≡ map (transitionOf (scheme w) (today w)) ds
   unfolding netOf netWith
   transitions-are = refl
 
+  pub net-sums : allSums w ≡ netSums w
+  unfolding netSums
+  net-sums = whole-sums
+
   -- by the counts that the code has
-  module _ (rows spots : List ℕ) (plan : Layout) (laid : Laid w rows spots plan) (t : Totals) (all : sumsOf t ≡ allSums w) where
+  module _ (x : List ℕ) (laid : Laid w x) (t : Totals) (all : sumsOf t ≡ netSums w) where
     pub counts-are : (t .transitions ≡ length (net .transitions)) × (t .inputs ≡ inputTotal net) × (t .outputs ≡ outputTotal net)
-    counts-are =
-        let e : sumsOf t ≡ sums (length (net .transitions)) (inputTotal net) (outputTotal net) = all ∙ whole-sums in
-        (ap (λ (s : Sums). s .transitions) e, ap (λ (s : Sums). s .inputs) e, ap (λ (s : Sums). s .outputs) e)
+    unfolding netSums
+    counts-are = (ap (λ (s : Sums). s .transitions) all, ap (λ (s : Sums). s .inputs) all, ap (λ (s : Sums). s .outputs) all)
 
-    pub tokens-is : plan .tokens ≡ length (net .initial)
-    tokens-is = laid .tokens-are ∙ ap (λ (xs : List ℕ). length xs) (sym initial-is)
+    pub few-totals : Few (sumsOf t)
+    few-totals = subst Few (sym (all ∙ sym net-sums)) whole-few
 
-    pub header-is : headerOf (plan .places) (t .transitions) (t .inputs) (t .outputs) (plan .tokens) ≡ headerWords net
-    header-is = rw (laid .places-are, sym places-is, counts-are .0, counts-are .1, counts-are .2, tokens-is)
+    pub tokens-is : (m : ℕ) → m ≡ word x tokensAt → m ≡ length (net .initial)
+    tokens-is m e = e ∙ tokens-are w x laid ∙ ap (λ (xs : List ℕ). length xs) (sym (net-initial w))
 
-    pub words-are : 8 + plan .tokens + 6 * t .transitions + t .inputs + t .outputs ≡ length (imageOf w)
-    words-are = rw (counts-are .0, counts-are .1, counts-are .2, tokens-is) (sym image-words)
+    pub places-is : (p : ℕ) → p ≡ word x placesAt → p ≡ net .places
+    places-is p e = e ∙ places-are w x laid ∙ sym (net-places w)
+
+    pub header-is : (p m : ℕ) → p ≡ word x placesAt → m ≡ word x tokensAt → headerOf p (t .transitions) (t .inputs) (t .outputs) m ≡ headerWords net
+    header-is p m e f = rw (places-is p e, counts-are .0, counts-are .1, counts-are .2, tokens-is m f)
+
+    pub words-are : (m : ℕ) → m ≡ word x tokensAt → 8 + m + 6 * t .transitions + t .inputs + t .outputs ≡ length (imageOf w)
+    words-are m f = rw (counts-are .0, counts-are .1, counts-are .2, tokens-is m f) (sym image-words)

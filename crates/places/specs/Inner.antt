@@ -4,4 +4,3 @@ pub mod Spans
 pub mod Plan
 pub mod Holding
 pub mod Counting
-pub mod Planning

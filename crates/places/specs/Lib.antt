@@ -5,4 +5,7 @@ pub mod Rows
 pub mod RowPlaces
 pub mod Transitions
 pub mod Image
+pub mod Plan
+pub mod Answers
+pub mod Reaches
 pub mod Inner

@@ -1,28 +1,31 @@
 // How many transitions and arcs a net has, by multiplication.
-ghost use mathlib.Core.Bool.{true, _&&_, not};
+ghost use mathlib.Core.Bool.{_&&_, not};
 ghost use mathlib.Core.Path.{_≡_};
 ghost use mathlib.Core.List.{map};
 ghost use Prim.Native.Nat.{_+_, _-_, _*_, _<_, _≤_};
 ghost use lib.Dec.{ltb};
 ghost use lib.ListN.{length, take};
-ghost use Rattle.lists.specs.Lists.{pick, bit, from, range};
+ghost use Rattle.lists.specs.Lists.{pick, bit, word, from, range};
 ghost use Rattle.scheme.specs.Words.{publics, names, nodes, branches, argument};
-ghost use Rattle.scheme.specs.Words.{isSend, branchName, channel};
-ghost use Rattle.scheme.specs.Owners.{branchThread};
-ghost use Rattle.places.specs.Inner.Plan.{Known, Named, Counted, Defined, InBoth, freeNames};
-ghost use Rattle.places.specs.Inner.Counting.{Few, sumsOf, addTimes, over};
+ghost use Rattle.places.specs.Plan.{Laid, privatesAt};
+ghost use Rattle.places.specs.Answers.{sumsOf};
+ghost use Rattle.places.specs.Reaches.{commonReach};
+ghost use Rattle.places.specs.Inner.Plan.{freeNames};
+ghost use Rattle.places.specs.Inner.Counting.{Few, addTimes, over};
 ghost use Rattle.places.specs.Inner.Counting.{releaseSums, copySums, silentSums, nodeSums};
 ghost use Rattle.places.specs.Inner.Counting.{pairSums, partnerSums, sendSums, allSums};
-use crate::layout::Layout;
 use crate::layout::Reach;
 use crate::layout::free_names;
 use crate::layout::is_restricted;
 use crate::layout::reach_of;
+use crate::lookup::privates;
 use lists::word16;
 use lists::word32;
 use scheme::fields::field1;
 use scheme::fields::field3;
 use scheme::fields::field4;
+use scheme::lookup::branch_thread;
+use scheme::lookup::held_names;
 
 // The transitions of a net, their inputs and their outputs.
 pub struct Totals {
@@ -44,20 +47,19 @@ fn more(t: Totals, times: usize, inputs: usize, outputs: usize) -> Totals
 }
 
 // The releases of a name.
-fn releases(table: &[u16], plan: Layout, t: Totals, name: usize) -> Totals
-    requires { ⌜ Counted (now table) plan × (name < names (now table))
-        × Few (releaseSums (now table) (sumsOf t) name) ⌝ }
+fn releases(table: &[u16], index: &[u32], t: Totals, name: usize) -> Totals
+    requires { ⌜ Laid (now table) (now index) × Few (releaseSums (now table) (sumsOf t) name) ⌝ }
     ensures { λ r. ⌜ sumsOf r ≡ releaseSums (now (table .entry)) (sumsOf t) name ⌝ }
 {
+    let privates = privates(index);
     if is_restricted(table, name) {
-        return more(t, plan.privates, 2, 2);
+        return more(t, privates, 2, 2);
     }
-    more(more(t, plan.publics, 2, 1), plan.privates, 2, 2)
+    more(more(t, word16(table, 0), 2, 1), privates, 2, 2)
 }
 
-fn all_releases(table: &[u16], plan: Layout, t: Totals, names: &[u32], count: usize) -> Totals
-    requires { ⌜ Counted (now table) plan × (count ≤ length (now names))
-        × Named (now table) (take count (now names))
+fn all_releases(table: &[u16], index: &[u32], t: Totals, names: &[u32], count: usize) -> Totals
+    requires { ⌜ Laid (now table) (now index) × (count ≤ length (now names))
         × Few (over (releaseSums (now table)) (sumsOf t) (take count (now names))) ⌝ }
     ensures { λ r. ⌜ sumsOf r
         ≡ over (releaseSums (now (table .entry))) (sumsOf t) (take count (now (names .entry))) ⌝ }
@@ -65,30 +67,30 @@ fn all_releases(table: &[u16], plan: Layout, t: Totals, names: &[u32], count: us
     let mut r = t;
     let mut i = 0;
     while i < count {
-        r = releases(table, plan, r, word32(names, i));
+        r = releases(table, index, r, word32(names, i));
         i += 1;
     }
     r
 }
 
 // The copies of an argument.
-fn copies(table: &[u16], plan: Layout, t: Totals, argument: usize) -> Totals
-    requires { ⌜ Counted (now table) plan × (argument < names (now table))
-        × Few (copySums (now table) (sumsOf t) argument) ⌝ }
+fn copies(table: &[u16], index: &[u32], t: Totals, argument: usize) -> Totals
+    requires { ⌜ Laid (now table) (now index) × Few (copySums (now table) (sumsOf t) argument) ⌝ }
     ensures { λ r. ⌜ sumsOf r ≡ copySums (now (table .entry)) (sumsOf t) argument ⌝ }
 {
-    if argument < plan.publics {
+    let publics = word16(table, 0);
+    let privates = privates(index);
+    if argument < publics {
         return more(t, 1, 1, 2);
     }
     if is_restricted(table, argument) {
-        return more(t, plan.privates, 3, 3);
+        return more(t, privates, 3, 3);
     }
-    more(more(t, plan.publics, 2, 3), plan.privates, 3, 3)
+    more(more(t, publics, 2, 3), privates, 3, 3)
 }
 
-fn all_copies(table: &[u16], plan: Layout, t: Totals, first: usize, end: usize) -> Totals
-    requires { ⌜ Counted (now table) plan
-        × Named (now table) (map (argument (now table)) (from first (end - first)))
+fn all_copies(table: &[u16], index: &[u32], t: Totals, first: usize, end: usize) -> Totals
+    requires { ⌜ Laid (now table) (now index)
         × Few (over (copySums (now table)) (sumsOf t) (map (argument (now table)) (from first (end - first)))) ⌝ }
     ensures { λ r. ⌜ sumsOf r
         ≡ over (copySums (now (table .entry))) (sumsOf t)
@@ -97,7 +99,7 @@ fn all_copies(table: &[u16], plan: Layout, t: Totals, first: usize, end: usize) 
     let mut r = t;
     let mut i = first;
     while i < end {
-        r = copies(table, plan, r, field1(table, 12, i));
+        r = copies(table, index, r, field1(table, 12, i));
         i += 1;
     }
     r
@@ -119,17 +121,8 @@ fn silents(table: &[u16], t: Totals, first: usize, end: usize) -> Totals
     r
 }
 
-fn node(
-    table: &[u16],
-    owners: &[u32],
-    homes: &[u32],
-    plan: Layout,
-    free: usize,
-    t: Totals,
-    n: usize,
-) -> Totals
-    requires { ⌜ Known (now table) (now owners) (now homes) × Counted (now table) plan
-        × (free ≡ freeNames (now table)) × (n < nodes (now table))
+fn node(table: &[u16], index: &[u32], free: usize, t: Totals, n: usize) -> Totals
+    requires { ⌜ Laid (now table) (now index) × (free ≡ freeNames (now table)) × (n < nodes (now table))
         × Few (nodeSums (now table) (sumsOf t) n) ⌝ }
     ensures { λ r. ⌜ sumsOf r ≡ nodeSums (now (table .entry)) (sumsOf t) n ⌝ }
 {
@@ -140,23 +133,23 @@ fn node(
         return silents(table, t, first, first + second);
     }
     if kind == 2 {
-        return more(t, plan.privates, free + 2, free + 2);
+        return more(t, privates(index), free + 2, free + 2);
     }
     let mut names = [0u32; 64];
-    let held = scheme::index::held_names(table, owners, homes, n as u8, &mut names);
+    let held = held_names(table, index, n as u8, &mut names);
     let mut r = t;
     if kind != 0 {
         let end = second + field4(table, 8, first, 3);
-        r = all_copies(table, plan, more(t, 1, 1, 1), second, end);
+        r = all_copies(table, index, more(t, 1, 1, 1), second, end);
     }
-    all_releases(table, plan, r, &names, held)
+    all_releases(table, index, r, &names, held)
 }
 
 // 1 for a bound name, 0 for a public one.
-fn bound(plan: Layout, name: usize) -> usize
-    ensures { λ r. ⌜ r ≡ bit (not (ltb name (plan .publics))) ⌝ }
+fn bound(table: &[u16], name: usize) -> usize
+    ensures { λ r. ⌜ r ≡ bit (not (ltb name (publics (now (table .entry))))) ⌝ }
 {
-    if name < plan.publics {
+    if name < word16(table, 0) {
         return 0;
     }
     1
@@ -191,7 +184,7 @@ fn both(a: bool, b: bool) -> bool
 
 // The values that two names both may hold.
 pub fn common(a: Reach, b: Reach) -> Reach
-    ensures { λ r. ⌜ InBoth a b r ⌝ }
+    ensures { λ r. ⌜ r ≡ commonReach a b ⌝ }
 {
     let low = larger(a.low, b.low);
     let high = larger(low, smaller(a.high, b.high));
@@ -204,30 +197,27 @@ pub fn common(a: Reach, b: Reach) -> Reach
 }
 
 // How many private values there are among the values of a name.
-fn private_count(plan: Layout, values: Reach) -> usize
-    ensures { λ r. ⌜ r ≡ pick (values .privates) (plan .privates) 0 ⌝ }
+fn private_count(index: &[u32], values: Reach) -> usize
+    ensures { λ r. ⌜ r ≡ pick (values .privates) (word (now (index .entry)) privatesAt) 0 ⌝ }
 {
     if values.privates {
-        return plan.privates;
+        return privates(index);
     }
     0
 }
 
 // The communications of a send and a receive.
-fn pair(table: &[u16], plan: Layout, t: Totals, send: usize, receive: usize) -> Totals
-    requires { ⌜ Counted (now table) plan
-        × (channel (now table) send < names (now table)) × (branchName (now table) send < names (now table))
-        × (channel (now table) receive < names (now table))
-        × Few (pairSums (now table) send (sumsOf t) receive) ⌝ }
+fn pair(table: &[u16], index: &[u32], t: Totals, send: usize, receive: usize) -> Totals
+    requires { ⌜ Laid (now table) (now index) × Few (pairSums (now table) send (sumsOf t) receive) ⌝ }
     ensures { λ r. ⌜ sumsOf r ≡ pairSums (now (table .entry)) send (sumsOf t) receive ⌝ }
 {
     let a = field4(table, 11, send, 1);
     let z = field4(table, 11, send, 2);
     let e = field4(table, 11, receive, 1);
     let i = common(reach_of(table, a), reach_of(table, e));
-    let channels = bound(plan, a) + bound(plan, e);
+    let channels = bound(table, a) + bound(table, e);
     let publics = i.high - i.low;
-    let privates = private_count(plan, i);
+    let privates = private_count(index, i);
     if z == a {
         return more(
             more(t, publics, channels + 2, channels + 3),
@@ -236,47 +226,31 @@ fn pair(table: &[u16], plan: Layout, t: Totals, send: usize, receive: usize) -> 
             channels + 3,
         );
     }
-    let arcs = channels + bound(plan, z);
+    let arcs = channels + bound(table, z);
     let j = reach_of(table, z);
     let all = publics + privates;
     more(
         more(t, all * (j.high - j.low), arcs + 2, arcs + 3),
-        all * private_count(plan, j),
+        all * private_count(index, j),
         arcs + 3,
         arcs + 3,
     )
 }
 
-// The thread of a branch, by the index of the table.
-pub fn thread_of(table: &[u16], homes: &[u32], definitions: &[u16], b: usize) -> usize
-    ensures { λ r. ⌜ (Defined (now (table .entry)) (now (homes .entry)) (now (definitions .entry))
-        → b < branches (now (table .entry)) → r ≡ branchThread (now (table .entry)) b) ⌝ }
-{
-    field4(table, 8, word16(definitions, word32(homes, b)), 0)
-}
-
-fn partners(
-    table: &[u16],
-    homes: &[u32],
-    definitions: &[u16],
-    plan: Layout,
-    t: Totals,
-    send: usize,
-) -> Totals
-    requires { ⌜ Defined (now table) (now homes) (now definitions) × Counted (now table) plan
-        × (send < branches (now table)) × (isSend (now table) send ≡ true)
+fn partners(table: &[u16], index: &[u32], t: Totals, send: usize) -> Totals
+    requires { ⌜ Laid (now table) (now index)
         × Few (over (partnerSums (now table) send) (sumsOf t) (range (branches (now table)))) ⌝ }
     ensures { λ r. ⌜ sumsOf r
         ≡ over (partnerSums (now (table .entry)) send) (sumsOf t) (range (branches (now (table .entry)))) ⌝ }
 {
     let branches = word16(table, 5);
-    let own = thread_of(table, homes, definitions, send);
+    let own = branch_thread(table, index, send);
     let mut q = t;
     let mut r = 0;
     while r < branches {
         if field4(table, 11, r, 0) == 2 {
-            if thread_of(table, homes, definitions, r) != own {
-                q = pair(table, plan, q, send, r);
+            if branch_thread(table, index, r) != own {
+                q = pair(table, index, q, send, r);
             }
         }
         r += 1;
@@ -285,8 +259,8 @@ fn partners(
 }
 
 // The transitions of nodes.
-fn of_nodes(table: &[u16], owners: &[u32], homes: &[u32], plan: Layout, t: Totals) -> Totals
-    requires { ⌜ Known (now table) (now owners) (now homes) × Counted (now table) plan
+fn of_nodes(table: &[u16], index: &[u32], t: Totals) -> Totals
+    requires { ⌜ Laid (now table) (now index)
         × Few (over (nodeSums (now table)) (sumsOf t) (range (nodes (now table)))) ⌝ }
     ensures { λ r. ⌜ sumsOf r
         ≡ over (nodeSums (now (table .entry))) (sumsOf t) (range (nodes (now (table .entry)))) ⌝ }
@@ -296,15 +270,15 @@ fn of_nodes(table: &[u16], owners: &[u32], homes: &[u32], plan: Layout, t: Total
     let mut q = t;
     let mut n = 0;
     while n < nodes {
-        q = node(table, owners, homes, plan, free, q, n);
+        q = node(table, index, free, q, n);
         n += 1;
     }
     q
 }
 
 // The communications.
-fn of_sends(table: &[u16], homes: &[u32], definitions: &[u16], plan: Layout, t: Totals) -> Totals
-    requires { ⌜ Defined (now table) (now homes) (now definitions) × Counted (now table) plan
+fn of_sends(table: &[u16], index: &[u32], t: Totals) -> Totals
+    requires { ⌜ Laid (now table) (now index)
         × Few (over (sendSums (now table)) (sumsOf t) (range (branches (now table)))) ⌝ }
     ensures { λ r. ⌜ sumsOf r
         ≡ over (sendSums (now (table .entry))) (sumsOf t) (range (branches (now (table .entry)))) ⌝ }
@@ -314,22 +288,15 @@ fn of_sends(table: &[u16], homes: &[u32], definitions: &[u16], plan: Layout, t: 
     let mut s = 0;
     while s < branches {
         if field4(table, 11, s, 0) == 1 {
-            q = partners(table, homes, definitions, plan, q, s);
+            q = partners(table, index, q, s);
         }
         s += 1;
     }
     q
 }
 
-pub(crate) fn totals_of(
-    table: &[u16],
-    owners: &[u32],
-    homes: &[u32],
-    definitions: &[u16],
-    plan: Layout,
-) -> Totals
-    requires { ⌜ Known (now table) (now owners) (now homes) × Defined (now table) (now homes) (now definitions)
-        × Counted (now table) plan × Few (allSums (now table)) ⌝ }
+pub(crate) fn totals_of(table: &[u16], index: &[u32]) -> Totals
+    requires { ⌜ Laid (now table) (now index) × Few (allSums (now table)) ⌝ }
     ensures { λ r. ⌜ sumsOf r ≡ allSums (now (table .entry)) ⌝ }
 {
     let none = Totals {
@@ -337,6 +304,6 @@ pub(crate) fn totals_of(
         inputs: 0,
         outputs: 0,
     };
-    let t = of_nodes(table, owners, homes, plan, none);
-    of_sends(table, homes, definitions, plan, t)
+    let t = of_nodes(table, index, none);
+    of_sends(table, index, t)
 }

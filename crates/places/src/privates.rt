@@ -8,7 +8,8 @@ ghost use Rattle.lists.specs.Lists.{pick, word, range, total};
 ghost use Rattle.scheme.specs.Words.{nodes};
 ghost use Rattle.scheme.specs.Scheme.{scheme};
 ghost use Rattle.table.specs.Causes.{cause};
-ghost use Rattle.places.specs.Inner.Plan.{privatesOf, Known, Defined};
+ghost use Rattle.table.specs.Known.{Known};
+ghost use Rattle.places.specs.Inner.Plan.{privatesOf};
 ghost use Rattle.places.specs.Inner.Holding.{heldMost, HeldBelow, NoneHeld, MostsHeld};
 use crate::count::larger;
 use crate::layout::free_names;
@@ -17,17 +18,17 @@ use lists::word16;
 use lists::word32;
 use scheme::fields::field3;
 use scheme::fields::field4;
-use scheme::index::Parent;
-use scheme::index::step_up;
-use scheme::index::thread;
+use scheme::lookup::Parent;
+use scheme::lookup::node_thread;
+use scheme::lookup::step_up;
 
 // How many names a node holds, told from how many the nodes below it hold.
-fn held_count(table: &[u16], owners: &[u32], homes: &[u32], below: &[u32], node: usize) -> usize
-    requires { ⌜ Known (now table) (now owners) (now homes) × (node < nodes (now table))
+fn held_count(table: &[u16], index: &[u32], below: &[u32], node: usize) -> usize
+    requires { ⌜ Known (now table) (now index) × (node < nodes (now table))
         × HeldBelow (scheme (now table)) node (now below) ⌝ }
     ensures { λ r. ⌜ r ≡ length (scheme (now (table .entry)) .held node) ⌝ }
 {
-    match step_up(owners, homes, node) {
+    match step_up(index, node) {
         Parent::Definition(d) => field4(table, 8, d, 3),
         Parent::New(m) => word32(below, m) + 1,
         Parent::Branch(b, m) => {
@@ -66,28 +67,16 @@ fn raise(most: &mut [u32], t: usize, held: usize)
 
 // The most names that a control place of each thread holds, in one pass over the nodes: `held` has how many each node
 // passed so far holds.
-fn raise_all(
-    table: &[u16],
-    owners: &[u32],
-    homes: &[u32],
-    definitions: &[u16],
-    held: &mut [u32],
-    most: &mut [u32],
-)
-    requires { ⌜ Known (now table) (now owners) (now homes) × Defined (now table) (now homes) (now definitions)
-        × (256 ≤ length (now held)) × NoneHeld (now most) ⌝ }
+fn raise_all(table: &[u16], index: &[u32], held: &mut [u32], most: &mut [u32])
+    requires { ⌜ Known (now table) (now index) × (256 ≤ length (now held)) × NoneHeld (now most) ⌝ }
     ensures { λ r. ⌜ MostsHeld (scheme (now (table .entry))) (now (most .exit)) ⌝ }
 {
     let nodes = word16(table, 4);
     let mut n = 0;
     while n < nodes {
-        let count = held_count(table, owners, homes, held, n);
+        let count = held_count(table, index, held, n);
         store32(held, n, count as u32);
-        raise(
-            most,
-            thread(table, definitions, n),
-            most_at(table, n, count),
-        );
+        raise(most, node_thread(table, index, n), most_at(table, n, count));
         n += 1;
     }
 }
@@ -107,13 +96,8 @@ fn sum(words: &[u32], count: usize) -> usize
 }
 
 // N: none without restricted names, else what the threads hold at most, added up.
-pub(crate) fn private_values(
-    table: &[u16],
-    owners: &[u32],
-    homes: &[u32],
-    definitions: &[u16],
-) -> usize
-    requires { ⌜ Known (now table) (now owners) (now homes) × Defined (now table) (now homes) (now definitions) ⌝ }
+pub(crate) fn private_values(table: &[u16], index: &[u32]) -> usize
+    requires { ⌜ Known (now table) (now index) ⌝ }
     ensures { λ r. ⌜ (r ≡ privatesOf (now (table .entry))) × (r ≤ 32) ⌝ }
 {
     if free_names(table) == word16(table, 1) {
@@ -121,6 +105,6 @@ pub(crate) fn private_values(
     }
     let mut held = [0u32; 256];
     let mut most = [0u32; 8];
-    raise_all(table, owners, homes, definitions, &mut held, &mut most);
+    raise_all(table, index, &mut held, &mut most);
     sum(&most, word16(table, 3))
 }

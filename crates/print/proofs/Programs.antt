@@ -5,7 +5,7 @@ use mathlib.Core.Bool.{true, false}
 use mathlib.Core.List.{List, [], _∷_, _++_, append-nil}
 use mathlib.Core.Logic.{_⊎_, inl, inr}
 use mathlib.Core.Option.{none, some}
-use Prim.Native.Nat.{ℕ, suc, _+_, _*_, _%_, _≤_, _<_, min}
+use Prim.Native.Nat.{ℕ, suc, _+_, _%_, _≤_, _<_, min}
 use native.Mathlib.Decide.{decLe}
 use native.Mathlib.Omega.{arith}
 use lib.Dec.{eqb}
@@ -14,6 +14,7 @@ use lib.Seq.{sets, set-out, take-all, take-append-seam, take-take, getD-take, le
 use borrow.Author.Tests.{le-leb, lt-ltb, le-ltb, eq-eqb, ne-eqb}
 use Rattle.lists.specs.Lists.{pick, same}
 use Rattle.lists.proofs.Tests.{same-yes, same-no, same-true, true-or-false, false-true}
+use Rattle.lists.proofs.Stores.{sets-append}
 use Rattle.table.specs.Causes.{causeSparing, cause, firstFailed, longEnough, countsRight, layoutRight}
 use Rattle.table.proofs.Inside.{counted}
 use Rattle.table.proofs.Sizes.{whole-length}
@@ -59,10 +60,6 @@ odd-some c h = go (true-or-false (same c 1)) (true-or-false (same c 2))
 sets-out : (out : List ℕ) (i : ℕ) (words : List ℕ) → length out ≤ i → sets out i words ≡ out
 sets-out out i [] h = refl
 sets-out out i (w ∷ words) h = rw (set-out out i w h) (sets-out out (suc i) words (omega arith))
-
-sets-append : (l : List ℕ) (i : ℕ) (us vs : List ℕ) → sets l i (us ++ vs) ≡ sets (sets l i us) (i + length us) vs
-sets-append l i [] vs = let e : i + 0 ≡ i = omega arith in rw e
-sets-append l i (u ∷ us) vs = sets-append _ (suc i) us vs ∙ (let e : suc i + length us ≡ i + suc (length us) = omega arith in rw e)
 
 module _ (l ws : List ℕ) where
   fits : length ws ≤ length l → sets l 0 ws ≡ ws ++ drop (length ws) l

@@ -2,19 +2,18 @@
 use mathlib.Core.Path.{_≡_, refl, _∙_}
 use mathlib.Core.Bool.{Bool, true, false, _&&_}
 use mathlib.Core.List.{List}
-use Prim.Native.Nat.{ℕ, _<_}
+use Prim.Native.Nat.{ℕ}
 use lib.Dec.{ltb}
 use Rattle.lists.specs.Lists.{pick, word}
 use Rattle.lists.proofs.Tests.{and-left, and-right}
-use Rattle.scheme.specs.Words.{nodes, branches, definitionThread, isChoice, isNew, isCall, isSilent, isSend, isReceive}
-use Rattle.scheme.specs.Words.{nodeFirst, nodeSecond, channel, branchName, next}
+use Rattle.scheme.specs.Words.{nodes, branches, isChoice, isNew, isCall, isSilent, isSend, isReceive}
+use Rattle.scheme.specs.Words.{Number, nodeFirst, nodeSecond, channel, branchName, next}
 use Rattle.scheme.specs.Scheme.{scheme, stop, choice, new, call, silent, send, receive, nodeAt, branchAt}
-use Rattle.scheme.specs.Index.{binderThreadIn}
+use Rattle.scheme.specs.Index.{homesIn, threadAt, branchThreadAt, nameThreadAt}
 use Rattle.scheme.specs.Kinds
 use Rattle.table.proofs.Inside
-use Rattle.table.proofs.NameThreads.{name-thread-in}
-use Rattle.process.specs.Inner.Index.{Indexed, Bound}
-use Rattle.process.specs.Inner.Values.{Number}
+use Rattle.table.proofs.Lookup.{home-right, thread-right, branch-thread-right, name-thread-right}
+use Rattle.table.specs.Known.{Known}
 
 -- ---- kinds
 
@@ -156,21 +155,15 @@ module _ (w : List ℕ) (b : ℕ) where
 
 -- ---- threads
 
-module _ (w homes defs : List ℕ) (I : Indexed w homes defs) where
-  pub thread-right : (n d r : ℕ) → d ≡ word defs n → r ≡ definitionThread w d → r < 65536 → Number (scheme w .thread n) r
-  unfolding scheme
-  thread-right n d r p q u = record { is = q ∙ rw (p, I .definition-right n); small = u }
+module _ (w index : List ℕ) (K : Known w index) where
+  pub home-same : (b r : ℕ) → r ≡ word (homesIn index) b → r ≡ scheme w .home b
+  home-same b r e = e ∙ home-right w (K .accepted) index (K .right) b
 
-  pub home-same : (b : ℕ) → word homes b ≡ scheme w .home b
-  unfolding scheme
-  home-same b = I .home-right b
+  pub thread-same : (n r : ℕ) → Number (threadAt w index n) r → Number (scheme w .thread n) r
+  thread-same n r N = record { is = N .is ∙ thread-right w (K .accepted) index (K .right) n; small = N .small }
 
-  pub home-thread : (b n r : ℕ) → n ≡ word homes b → Number (scheme w .thread n) r → Number (scheme w .thread (scheme w .home b)) r
-  unfolding scheme
-  home-thread b n r p q = record { is = q .is ∙ rw (p, I .home-right b); small = q .small }
+  pub branch-thread-same : (b r : ℕ) → Number (branchThreadAt w index b) r → Number (scheme w .thread (scheme w .home b)) r
+  branch-thread-same b r N = record { is = N .is ∙ branch-thread-right w (K .accepted) index (K .right) b; small = N .small }
 
-pub name-thread-right : (w homes defs binders : List ℕ) → Bound w homes defs binders → (x : ℕ)
-    → binderThreadIn w homes defs (word binders x) ≡ scheme w .nameThread x
-name-thread-right w homes defs binders B x =
-    let I = B .indexed in
-    rw (B .binder-right x) (name-thread-in w homes defs (I .ok) (λ b h. I .home-right b) (λ n h. I .definition-right n) x)
+  pub name-thread-same : (x r : ℕ) → Number (nameThreadAt w index x) r → r ≡ scheme w .nameThread x
+  name-thread-same x r N = N .is ∙ name-thread-right w (K .accepted) index (K .right) x

@@ -6,8 +6,8 @@ use mathlib.Core.Option.{some}
 use Prim.Native.Nat.{ℕ, _+_, _/_, _≤_, _<_}
 use native.Mathlib.Decide.{decLt}
 use native.Mathlib.Omega.{arith}
-use lib.ListN.{length, drop, length-append, length-drop}
-use lib.Seq.{slice}
+use lib.ListN.{length, take, drop, length-append, length-drop}
+use lib.Seq.{length-take-le}
 use borrow.Author.Tests.{lt-ltb, le-ltb}
 use Rattle.lists.specs.Lists.{same, range, flat}
 use Rattle.lists.proofs.Slices.{slice-between}
@@ -19,7 +19,7 @@ use Rattle.process.specs.States.{State}
 use Rattle.process.specs.Labels.{openSteps, openLabels}
 use Rattle.process.specs.StateWords.{stateOf, wellFormed}
 use Rattle.process.specs.Outcomes.{answered, openOutcome, refusal}
-use Rattle.process.specs.Inner.Listed.{Listed, listWords, standing, Gathered, Fitted}
+use Rattle.process.specs.Inner.Listed.{Listed, listWords, standing, Fitted}
 use Rattle.process.proofs.Sets.{sets-whole}
 use Rattle.process.proofs.Listed.{listed-length}
 use Rattle.process.proofs.Opened.{listed-open, labels-length}
@@ -33,23 +33,23 @@ few-branches w ok = accepted w ok .few-branches
 module _ (w : List ℕ) (ok : cause w ≡ 0) (words before after : List ℕ) (r : ℕ) (L : Listed (branches w) words before 0 after r)
     (l : length before ≡ 256) where
   -- the branches gathered are the first words
-  gathered-words : slice 0 r after ≡ words
+  gathered-words : take r after ≡ words
   gathered-words =
       let h : length words ≤ length before = omega (arith, few-branches w ok, L .next, L .few) in
       rw (L .written, L .next, sets-whole before words h)
       (slice-between [] words (drop (length words) before) 0 (0 + length words) refl refl)
 
-  pub gathered-there : Gathered after r
-  gathered-there = record {
-    reach = omega (arith, few-branches w ok, L .few, listed-length words before 0 after r (branches w) L);
-    few = omega (arith, few-branches w ok, L .few);
-  }
+  pub gathered-reach : r ≤ length after
+  gathered-reach = omega (arith, few-branches w ok, L .few, listed-length words before 0 after r (branches w) L)
+
+  pub gathered-few : length (take r after) ≤ 256
+  gathered-few = omega (arith, few-branches w ok, L .few, length-take-le r after gathered-reach)
 
 -- what is listed with the branches gathered is what is open
 pub opened-words : (w : List ℕ) (s : State) (ok : cause w ≡ 0) (b₁ sends : List ℕ) (n₁ : ℕ) (b₂ receives : List ℕ) (n₂ : ℕ)
     → Listed (branches w) (flat (standing w s 1) (range (branches w))) b₁ 0 sends n₁ → length b₁ ≡ 256
     → Listed (branches w) (flat (standing w s 2) (range (branches w))) b₂ 0 receives n₂ → length b₂ ≡ 256
-    → openLabels (scheme w) s ≡ listWords (scheme w) s (slice 0 n₁ sends) (slice 0 n₂ receives)
+    → openLabels (scheme w) s ≡ listWords (scheme w) s (take n₁ sends) (take n₂ receives)
 opened-words w s ok b₁ sends n₁ b₂ receives n₂ L₁ l₁ L₂ l₂ =
     rw (gathered-words w ok _ b₁ sends n₁ L₁ l₁, gathered-words w ok _ b₂ receives n₂ L₂ l₂) (listed-open w s ok)
 

@@ -1,32 +1,29 @@
 -- The tests of state words, one by one: what the code looks at decides what the definition asks.
-use mathlib.Core.Path.{_≡_, refl, sym, ap, _∙_}
-use mathlib.Core.Bool.{Bool, true, false, not, _&&_, _||_}
-use mathlib.Core.Option.{Option, none, some}
-use mathlib.Core.List.{List, [], _∷_, _++_, map}
-use Prim.Native.Nat.{ℕ, zero, suc, _+_, _-_, _≤_, _<_}
+use mathlib.Core.Path.{_≡_, refl, sym, _∙_}
+use mathlib.Core.Bool.{Bool, true, false, not, _||_}
+use mathlib.Core.List.{List, []}
+use Prim.Native.Nat.{ℕ, _+_, _≤_, _<_}
 use native.Mathlib.Decide.{ℕ-discrete}
 use native.Mathlib.Omega.{arith}
-use lib.Dec.{ltb, leb}
-use lib.ListN.{length, replicate, getD, length-replicate}
-use lib.Seq.{sets, slice, length-sets}
+use lib.Dec.{ltb}
+use lib.ListN.{length, replicate, length-replicate}
+use lib.Seq.{slice, length-sets}
 use borrow.Author.Tests.{le-leb, lt-leb}
-use Rattle.lists.specs.Lists.{pick, same, word, from, range, every, member}
+use Rattle.lists.specs.Lists.{same, word, from, every, member}
 use Rattle.lists.proofs.Tests.{same-yes, same-no, and-true}
 use Rattle.lists.proofs.Members.{member-here}
 use Rattle.lists.proofs.Counts.{distinct-below}
 use Rattle.lists.proofs.Slices.{slice-step, slice-none, slice-between}
-use Rattle.scheme.specs.Words.{publics, bounds, threads, nodes, branches, definitions, nameKind}
+use Rattle.scheme.specs.Words.{publics, bounds, nodes}
 use Rattle.scheme.specs.Owners.{held}
-use Rattle.scheme.specs.Index.{heldIn, HeldNames}
-use Rattle.table.specs.Causes.{cause}
+use Rattle.scheme.specs.Index.{heldAt, HeldNames}
 use Rattle.scheme.specs.Scheme.{Scheme, scheme}
-use Rattle.table.specs.Accepted.{Accepted}
 use Rattle.table.proofs.Accepted.{accepted}
-use Rattle.scheme.proofs.Indexed.{held-indexed}
+use Rattle.table.proofs.Lookup.{held-right}
 use Rattle.process.specs.States.{State, oneValue}
-use Rattle.process.specs.StateWords.{stateOf, holdsAt, nodeRight, nameRight, restrictedRight, hasValue, valueBelow, valuePrivate, sameBool}
-use Rattle.process.specs.Inner.Index.{Indexed, Owned, Known}
-use Rattle.process.specs.Inner.Values.{valueAt, Valued, Number}
+use Rattle.process.specs.StateWords.{holdsAt, nameRight, restrictedRight, valuePrivate}
+use Rattle.table.specs.Known.{Known}
+use Rattle.process.specs.Inner.Values.{valueAt}
 use Rattle.process.proofs.Sets.{sets-whole}
 
 -- ---- a name among the first words of a list
@@ -45,39 +42,35 @@ listed-none names count i x h = rw (slice-none names i count h)
 
 -- ---- held names
 
-module _ (w owners homes : List ℕ) (O : Owned w owners homes) where
+module _ (w index : List ℕ) (K : Known w index) where
   few-held : (n : ℕ) → length (scheme w .held n) ≤ 64
   few-held n =
-      let A = accepted w (O .ok) in
+      let A = accepted w (K .accepted) in
       let k = distinct-below (scheme w .held n) (scheme w .publics + scheme w .bounds) (λ x m. A .held-name n x m .high) (A .held-distinct n) in
       omega (arith, A .few-publics, A .few-bounds)
 
   pub few-nodes : nodes w ≤ 256
   unfolding scheme
-  few-nodes = accepted w (O .ok) .few-nodes
+  few-nodes = accepted w (K .accepted) .few-nodes
 
   pub none-held : (n x : ℕ) → nodes w ≤ n → false ≡ member x (scheme w .held n)
   unfolding scheme member
-  none-held n x h = rw (accepted w (O .ok) .held-inside n h)
+  none-held n x h = rw (accepted w (K .accepted) .held-inside n h)
 
-  held-reached : (n : ℕ) → n < nodes w → heldIn w owners homes n ≡ scheme w .held n
-  unfolding scheme
-  held-reached n h =
-      let A = accepted w (O .ok) in
-      held-indexed w owners homes n (O .owners-right) (O .homes-right) (omega (arith, A .few-nodes, O .owners-reach))
-      (omega (arith, A .few-branches, O .homes-reach)) (omega (arith, A .few-definitions)) (omega (arith, A .few-nodes))
+  module _ (n r : ℕ) (after : List ℕ) (h : n < nodes w) (H : HeldNames (heldAt w index n) (replicate 64 0) r after) where
+    held-here : heldAt w index n ≡ scheme w .held n
+    held-here = held-right w (K .accepted) index (K .right) n h
 
-  module _ (n r : ℕ) (after : List ℕ) (h : n < nodes w) (H : HeldNames (heldIn w owners homes n) (replicate 64 0) r after) where
-    names-fit : length (heldIn w owners homes n) ≤ length (replicate {A = ℕ} 64 0)
-    names-fit = rw (held-reached n h, length-replicate {A = ℕ} 64 0) (few-held n)
+    names-fit : length (heldAt w index n) ≤ length (replicate {A = ℕ} 64 0)
+    names-fit = rw (held-here, length-replicate {A = ℕ} 64 0) (few-held n)
 
     pub held-count-fits : r ≤ length after
-    held-count-fits = rw (H .count, H .written, length-sets (replicate 64 0) 0 (heldIn w owners homes n)) names-fit
+    held-count-fits = rw (H .count, H .written, length-sets (replicate 64 0) 0 (heldAt w index n)) names-fit
 
     pub held-listed : slice 0 r after ≡ scheme w .held n
     held-listed =
-        rw (H .count, H .written, sets-whole (replicate 64 0) (heldIn w owners homes n) names-fit)
-        (slice-between [] (heldIn w owners homes n) _ 0 (length (heldIn w owners homes n)) refl (omega arith) ∙ held-reached n h)
+        rw (H .count, H .written, sets-whole (replicate 64 0) (heldAt w index n) names-fit)
+        (slice-between [] (heldAt w index n) _ 0 (length (heldAt w index n)) refl (omega arith) ∙ held-here)
 
 -- ---- a name's value against the node
 

@@ -1,5 +1,5 @@
 -- Words written one after another: what a loop has left to write, and the labels of a node, a branch and a pair.
-use mathlib.Core.Path.{_≡_, refl, sym, _∙_}
+use mathlib.Core.Path.{_≡_, refl, sym, ap, _∙_}
 use mathlib.Core.Bool.{Bool, true, false, _&&_, false≢true}
 use mathlib.Core.List.{List, [], _∷_, _++_, map}
 use Prim.Native.Nat.{ℕ, suc, _+_, _≤_, _<_}
@@ -7,9 +7,10 @@ use native.Mathlib.Nat.{add-zero}
 use native.Mathlib.Omega.{arith}
 use lib.Dec.{ltb}
 use lib.ListN.{length, set, length-append}
-use lib.Seq.{sets, slice, length-sets}
+use lib.Seq.{sets, slice, length-sets, take-length}
 use Rattle.lists.specs.Lists.{pick, same, word, from, range, keep, flat}
 use Rattle.lists.proofs.Slices.{slice-step, slice-none}
+use Rattle.lists.proofs.Stores.{sets-append}
 use Rattle.scheme.specs.Words.{nodes, branches, branchKind, nodeFirst, nodeSecond, isChoice, isNew, isCall, isSilent}
 use Rattle.scheme.specs.Scheme.{Scheme, scheme, Node, stop, choice, new, call, nodeAt}
 use Rattle.scheme.specs.Kinds
@@ -17,7 +18,6 @@ use Rattle.process.specs.States.{State}
 use Rattle.process.specs.Steps.{newStep, silentStep, communication, callStep, isOpen, standsAt}
 use Rattle.process.specs.Labels.{labelOf, stepsOfNode}
 use Rattle.process.specs.Inner.Listed.{Listed, silentWords, stepWords, nodeWords, pairWords, pairsWords, meetingWords, listWords, standing}
-use Rattle.process.proofs.Sets.{sets-append}
 use Rattle.process.proofs.Decoding.{choice-at, new-at, call-at, stop-else}
 
 -- ---- one after another
@@ -83,6 +83,9 @@ module _ (f : ℕ → List ℕ) (l : List ℕ) (i e : ℕ) where
   pub slice-done : e ≤ i → flat f (slice i e l) ≡ []
   unfolding flat
   slice-done h = rw (slice-none l i e h)
+
+pub slice-all : (f : ℕ → List ℕ) (l : List ℕ) → flat f l ≡ flat f (slice 0 (length l) l)
+slice-all f l = ap (flat f) (sym (take-length l))
 
 -- ---- the labels of a branch and a node
 

@@ -11,9 +11,10 @@ use Rattle.lists.proofs.Tests.{same-true, same-false}
 use Rattle.scheme.specs.Scheme.{Scheme, Node, stop, choice, new, call, Branch, absent, silent, send, receive}
 use Rattle.scheme.specs.Kinds.{isSend}
 use Rattle.table.specs.Accepted.{Accepted}
+use Rattle.net.specs.Image.{isBookkeeping}
 use Rattle.process.specs.States.{State}
 use Rattle.process.specs.Steps.{Step, newStep, silentStep, communication, callStep, noStep, isOpen}
-use Rattle.process.specs.Labels.{labelOf, newName, newNamed, callNamed, silentNamed, communicationNamed, isPartner, stepOf, isBookkeeping}
+use Rattle.process.specs.Labels.{labelOf, newName, newNamed, callNamed, silentNamed, communicationNamed, isPartner, stepOf}
 use Rattle.process.specs.Labels.{Bookkeeping, copy, release, Meaning, bookkeeping, step, missing, stepMeaning}
 use Rattle.process.specs.Labels.{copies, releases, copyNamed, releaseNamed, meaningOf, hasLabel}
 

@@ -1,26 +1,27 @@
 -- Values of names in state words, and the words of the starting state.
-use mathlib.Core.Path.{_≡_, refl, sym, ap, _∙_}
-use mathlib.Core.Bool.{Bool, true, false, not, _&&_}
-use mathlib.Core.Option.{Option, none, some}
-use mathlib.Core.List.{List, [], _∷_, _++_, map}
+use mathlib.Core.Path.{_≡_, refl, sym, _∙_}
+use mathlib.Core.Bool.{true, false}
+use mathlib.Core.Option.{some}
+use mathlib.Core.List.{List, [], _++_, map}
 use Prim.Native.Nat.{ℕ, zero, suc, _+_, _-_, _≤_, _<_}
 use native.Mathlib.Decide.{ℕ-discrete}
 use native.Mathlib.Omega.{arith}
-use lib.Dec.{ltb, eqb}
-use lib.ListN.{length, drop, replicate, length-append, length-map, length-replicate}
+use lib.Dec.{eqb}
+use lib.ListN.{length, replicate, length-append, length-map, length-replicate}
 use lib.Seq.{sets}
-use borrow.Author.Tests.{lt-ltb, le-ltb, ltb-false}
-use Rattle.lists.specs.Lists.{pick, same, word, from, range}
+use borrow.Author.Tests.{lt-ltb, le-ltb}
+use Rattle.lists.specs.Lists.{same, word, from, range}
 use Rattle.lists.proofs.Tests.{same-yes, same-no}
 use Rattle.lists.proofs.Ranges.{from-length}
+use Rattle.lists.proofs.Stores.{sets-append}
 use Rattle.scheme.specs.Words.{publics, bounds, threads, root, entry}
 use Rattle.table.specs.Causes.{cause}
 use Rattle.scheme.specs.Scheme.{scheme}
 use Rattle.process.specs.States.{oneValue, start}
 use Rattle.process.specs.StateWords.{stateOf, stateWords, valueWords}
-use Rattle.process.specs.Outcomes.{Outcome, answered, startOutcome, refusal}
+use Rattle.process.specs.Outcomes.{answered, startOutcome, refusal}
 use Rattle.process.specs.Inner.Values.{valueAt, Valued}
-use Rattle.process.proofs.Sets.{sets-append, sets-whole}
+use Rattle.process.proofs.Sets.{sets-whole}
 
 -- ---- values
 

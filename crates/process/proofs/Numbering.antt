@@ -1,7 +1,7 @@
 -- Numbering by first appearance: where a value stands among those seen, and state words that are numbered so.
 use mathlib.Core.Path.{_≡_, refl, sym, ap, _∙_}
-use mathlib.Core.Bool.{Bool, true, false, not, _&&_, false≢true}
-use mathlib.Core.Option.{Option, none, some}
+use mathlib.Core.Bool.{Bool, true, false, false≢true}
+use mathlib.Core.Option.{Option}
 use mathlib.Core.List.{List, [], _∷_, _++_, map}
 use Prim.Native.Nat.{ℕ, zero, suc, _+_, _-_, _≤_, _<_}
 use mathlib.Core.Logic.{_⊎_, inl, inr}
@@ -11,17 +11,17 @@ use native.Mathlib.Numerals.{add-one}
 use native.Mathlib.Omega.{arith}
 use lib.Dec.{ltb}
 use lib.ListN.{length, take, drop, set, length-set}
-use borrow.Author.Tests.{lt-ltb, le-ltb}
-use Rattle.lists.specs.Lists.{pick, same, word, from, range, member}
+use borrow.Author.Tests.{lt-ltb, le-ltb, le-leb, lt-leb}
+use Rattle.lists.specs.Lists.{pick, same, word, from, member}
 use Rattle.lists.proofs.Tests.{same-yes, same-no, same-self, not-true-false, not-false-true, true-or-false}
-use Rattle.lists.proofs.Members.{member-not, not-member, map-append}
-use Rattle.lists.proofs.Ranges.{from-more, from-done, from-length, from-snoc, member-from, from-member}
+use Rattle.lists.proofs.Members.{not-member, map-append}
+use Rattle.lists.proofs.Ranges.{from-length, from-snoc, member-from, from-member}
 use lib.Seq.{sets, slice, length-slice, take-suc-set}
 use Rattle.lists.proofs.Slices.{drop-step, drop-none, slice-step, slice-none}
 use Rattle.scheme.specs.Scheme.{Scheme, scheme}
 use Rattle.scheme.specs.Words.{publics, bounds, threads}
-use Rattle.process.specs.StateWords.{place, noted, valueWords, stateOf, stateWords, sameList}
-use Rattle.process.specs.Inner.Values.{valueAt, nextSeen, Numberable, Turned}
+use Rattle.process.specs.StateWords.{place, noted, valueAt, valueWords, stateOf, stateWords, sameList, Numbered}
+use Rattle.process.specs.Inner.Values.{nextSeen, Numberable, Turned}
 use Rattle.process.proofs.NameValues.{value-bound}
 
 pub place-last : (v : ℕ) (us : List ℕ) → member v us ≡ false → place v (us ++ (v ∷ [])) ≡ length us
@@ -259,3 +259,27 @@ fill-more f P i v vs h e q =
     let a : slice 0 (i + 1) (set vs i v) ≡ slice 0 i vs ++ (v ∷ []) = rw add-one (take-suc-set vs i v h) in
     let b : from P (i + 1) ≡ from P i ++ ((P + i) ∷ []) = rw add-one (from-snoc P i) in
     rw (a, b) (map-append valueAt (slice 0 i vs) (v ∷ []) ∙ rw (q, ← e) (sym (map-append f (from P i) ((P + i) ∷ []))))
+
+-- ---- whether values can be numbered
+
+module _ (P : ℕ) (vs : List ℕ) (n i : ℕ) (before : List ℕ) where
+  pub many-publics : 32 < P → Numbered P vs n i before false before
+  many-publics h = record { answer = rw (lt-leb P 32 h); words = rw (lt-leb P 32 h) }
+
+  module _ (p : P ≤ 32) where
+    pub many-values : 32 < n → Numbered P vs n i before false before
+    many-values h = record { answer = rw (le-leb P 32 p, lt-leb n 32 h); words = rw (le-leb P 32 p, lt-leb n 32 h) }
+
+    module _ (q : n ≤ 32) where
+      pub few-lent : length vs < n → Numbered P vs n i before false before
+      few-lent h = record {
+        answer = rw (le-leb P 32 p, le-leb n 32 q, lt-leb n (length vs) h);
+        words = rw (le-leb P 32 p, le-leb n 32 q, lt-leb n (length vs) h);
+      }
+
+      pub all-numbered : n ≤ length vs → (after : List ℕ) → after ≡ sets before i (valueWords P [] (map valueAt (take n vs)))
+          → Numbered P vs n i before true after
+      all-numbered h after e = record {
+        answer = rw (le-leb P 32 p, le-leb n 32 q, le-leb n (length vs) h);
+        words = e ∙ rw (le-leb P 32 p, le-leb n 32 q, le-leb n (length vs) h);
+      }

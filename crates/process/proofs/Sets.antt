@@ -1,18 +1,13 @@
 -- Laws of a run of stores: one run after another, a run that fits, and runs of a list's images or of one value, store by store.
-use mathlib.Core.Path.{_≡_, refl, sym, ap, _∙_}
-use mathlib.Core.List.{List, [], _∷_, _++_, map, append-nil}
-use Prim.Native.Nat.{ℕ, zero, suc, _+_, _-_, _≤_, _<_}
-use native.Mathlib.Nat.{add-zero, add-suc, zero-add}
+use mathlib.Core.Path.{_≡_, _∙_}
+use mathlib.Core.List.{List, _++_, map}
+use Prim.Native.Nat.{ℕ, suc, _+_, _-_, _≤_, _<_}
 use native.Mathlib.Numerals.{add-one}
 use native.Mathlib.Omega.{arith}
-use lib.ListN.{length, set, take, drop, replicate, length-set}
+use lib.ListN.{length, set, drop, replicate}
 use lib.Seq.{sets, sets-eq}
 use Rattle.lists.specs.Lists.{from}
 use Rattle.lists.proofs.Ranges.{from-more, from-done}
-
-pub sets-append : (l : List ℕ) (i : ℕ) (us vs : List ℕ) → sets l i (us ++ vs) ≡ sets (sets l i us) (i + length us) vs
-sets-append l i [] vs = rw (add-zero i)
-sets-append l i (a ∷ us) vs = sets-append (set l i a) (suc i) us vs ∙ (let e : suc i + length us ≡ i + suc (length us) = omega arith in rw e)
 
 -- a run from the start that fits
 pub sets-whole : (l ws : List ℕ) → length ws ≤ length l → sets l 0 ws ≡ ws ++ drop (length ws) l

@@ -1,4 +1,4 @@
-pub mod Index
+pub mod Sized
 pub mod Values
 pub mod Codes
 pub mod Listed

@@ -3,15 +3,11 @@
 use mathlib.Core.Bool.{Bool, true, false, not, _&&_}
 use mathlib.Core.List.{List, [], _∷_, _++_, map}
 use Prim.Native.Nat.{ℕ}
-use lib.Dec.{leb}
 use Rattle.lists.specs.Lists.{pick, same, from, range, keep, flat, member}
 use Rattle.scheme.specs.Scheme.{Scheme, Node, stop, choice, new, call, Branch, absent, silent, send, receive}
 use Rattle.process.specs.States.{State}
 use Rattle.process.specs.Steps.{Step, newStep, silentStep, communication, callStep, noStep, isOpen}
 use Rattle.scheme.specs.Kinds.{isSilent, isSend, isReceive}
-
-abbrev pub isBookkeeping : ℕ → Bool
-isBookkeeping kind = leb kind 1
 
 -- the copy of a formal and the release of a name, by node and name
 pub data Bookkeeping : Type 0 where

@@ -1,16 +1,19 @@
 -- States as words (document 01, Process rules): "State words: T nodes, then B values, 65535 for a name not held. Private values are numbered from P
 -- by first appearance in name order."
+use mathlib.Core.Path.{_≡_}
 use mathlib.Core.Bool.{Bool, true, false, not, _&&_, _||_}
 use mathlib.Core.Option.{Option, none, some}
 use mathlib.Core.List.{List, [], _∷_, _++_, map}
-use Prim.Native.Nat.{ℕ, zero, suc, _+_, _-_}
+use Prim.Native.Nat.{ℕ, suc, _+_, _-_}
 use lib.Dec.{ltb, leb}
+use lib.ListN
 use lib.ListN.{length}
+use lib.Seq.{sets}
 use Rattle.lists.specs.Lists.{pick, same, word, from, range, every, member}
 use Rattle.scheme.specs.Scheme.{Scheme}
 use Rattle.process.specs.States.{State, oneValue}
 use Rattle.scheme.specs.Kinds.{isStop}
-use Rattle.process.specs.Steps.{Step, take}
+use Rattle.process.specs.Steps.{take}
 
 -- where v stands in a list, its length where it does not
 unfoldable pub place : ℕ → List ℕ → ℕ
@@ -27,18 +30,28 @@ valueWords P seen [] = []
 valueWords P seen (none ∷ vs) = 65535 ∷ valueWords P seen vs
 valueWords P seen (some v ∷ vs) = elim (ltb v P) [ true ↦ v ∷ valueWords P seen vs | false ↦ (P + place v (noted v seen)) ∷ valueWords P (noted v seen) vs ]
 
+-- the value that a word stands for
+abbrev pub valueAt : ℕ → Option ℕ
+valueAt v = pick (same v 65535) none (some v)
+
+-- P public names and the first n of the words can be numbered: they are few, and there are so many words
+abbrev pub numberable : ℕ → List ℕ → ℕ → Bool
+numberable P vs n = leb P 32 && (leb n 32 && leb n (length vs))
+
+-- numbering the values of the first n words: whether they can be, and the words written from word i on
+pub record Numbered (P : ℕ) (vs : List ℕ) (n i : ℕ) (before : List ℕ) (r : Bool) (after : List ℕ) : Type 0 where
+  pub answer : r ≡ numberable P vs n
+  pub words : after ≡ pick (numberable P vs n) (sets before i (valueWords P [] (map valueAt (ListN.take n vs)))) before
+
 module _ (S : Scheme) where
   unfoldable pub stateWords : State → List ℕ
   stateWords s = map (s .node) (range (S .threads)) ++ valueWords (S .publics) [] (map (s .value) (from (S .publics) (S .bounds)))
 
   -- the state that words stand for; a new private value is one that no word can name
-  abbrev pub valueOfWord : ℕ → Option ℕ
-  valueOfWord v = pick (same v 65535) none (some v)
-
   unfoldable pub stateOf : List ℕ → State
   stateOf ws = record {
     node = λ t. word ws t;
-    value = λ x. pick (ltb x (S .publics)) (some x) (pick (ltb x (S .publics + S .bounds)) (valueOfWord (word ws (S .threads + (x - S .publics)))) none);
+    value = λ x. pick (ltb x (S .publics)) (some x) (pick (ltb x (S .publics + S .bounds)) (valueAt (word ws (S .threads + (x - S .publics)))) none);
     counter = S .publics + S .bounds;
   }
 

@@ -1,7 +1,7 @@
 // Cause 18: whether words are a state's.
 ghost use mathlib.Core.Path.{_≡_};
 ghost use mathlib.Core.Bool.{not, _||_};
-ghost use Prim.Native.Nat.{_+_, _-_, _≤_, _<_};
+ghost use Prim.Native.Nat.{_+_, _≤_, _<_};
 ghost use lib.ListN.{length};
 ghost use lib.Seq.{slice};
 ghost use Rattle.lists.specs.Lists.{same, every, from, range, member};
@@ -10,7 +10,8 @@ ghost use Rattle.scheme.specs.Scheme.{scheme};
 ghost use Rattle.process.specs.States.{oneValue};
 ghost use Rattle.process.specs.StateWords.{stateOf, stateWords, holdsAt, nodeRight, nameRight, restrictedRight};
 ghost use Rattle.process.specs.StateWords.{sameList, wellFormed};
-ghost use Rattle.process.specs.Inner.Index.{Indexed, Owned, Known, Sized};
+ghost use Rattle.table.specs.Known.{Known};
+ghost use Rattle.process.specs.Inner.Sized.{Sized};
 ghost use Rattle.process.specs.Inner.Values.{nextSeen};
 use crate::threads::is_stop;
 use crate::threads::name_thread;
@@ -20,7 +21,7 @@ use crate::values::value_of;
 use lists::word16;
 use lists::word32;
 use scheme::fields::name_kind;
-use scheme::index::held_names;
+use scheme::lookup::held_names;
 
 // Whether a name stands among the first words.
 fn is_listed(names: &[u32], count: usize, name: usize) -> bool
@@ -38,55 +39,39 @@ fn is_listed(names: &[u32], count: usize, name: usize) -> bool
 }
 
 // Whether a node holds a name.
-pub(crate) fn holds(table: &[u16], owners: &[u32], homes: &[u32], node: usize, name: usize) -> bool
-    requires { ⌜ Owned (now table) (now owners) (now homes) ⌝ }
+pub(crate) fn holds(table: &[u16], index: &[u32], node: usize, name: usize) -> bool
+    requires { ⌜ Known (now table) (now index) ⌝ }
     ensures { λ r. ⌜ r ≡ member name (scheme (now (table .entry)) .held node) ⌝ }
 {
     if word16(table, 4) <= node {
         return false;
     }
     let mut names = [0u32; 64];
-    let count = held_names(table, owners, homes, node as u8, &mut names);
+    let count = held_names(table, index, node as u8, &mut names);
     is_listed(&names, count, name)
 }
 
 // Whether a name is to have a value in the state: its thread's node holds it, and is no Stop.
-fn is_held(
-    table: &[u16],
-    owners: &[u32],
-    homes: &[u32],
-    definitions: &[u16],
-    binders: &[u32],
-    state: &[u16],
-    name: usize,
-) -> bool
-    requires { ⌜ Known (now table) (now owners) (now homes) (now definitions) (now binders) ⌝ }
+fn is_held(table: &[u16], index: &[u32], state: &[u16], name: usize) -> bool
+    requires { ⌜ Known (now table) (now index) ⌝ }
     ensures { λ r. ⌜ r ≡ holdsAt (scheme (now (table .entry)))
         (stateOf (scheme (now (table .entry))) (now (state .entry))) name ⌝ }
 {
-    let node = word16(state, name_thread(table, homes, definitions, binders, name));
+    let node = word16(state, name_thread(table, index, name));
     if is_stop(table, node) {
         return false;
     }
-    holds(table, owners, homes, node, name)
+    holds(table, index, node, name)
 }
 
 // Whether a name has a value just where it is to have one, and the value is not too large.
-fn name_right(
-    table: &[u16],
-    owners: &[u32],
-    homes: &[u32],
-    definitions: &[u16],
-    binders: &[u32],
-    state: &[u16],
-    name: usize,
-) -> bool
-    requires { ⌜ Known (now table) (now owners) (now homes) (now definitions) (now binders) ⌝ }
+fn name_right(table: &[u16], index: &[u32], state: &[u16], name: usize) -> bool
+    requires { ⌜ Known (now table) (now index) ⌝ }
     ensures { λ r. ⌜ r ≡ nameRight (scheme (now (table .entry)))
         (stateOf (scheme (now (table .entry))) (now (state .entry))) name ⌝ }
 {
     let value = value_of(table, state, name);
-    let held = is_held(table, owners, homes, definitions, binders, state, name);
+    let held = is_held(table, index, state, name);
     if value == 65535 {
         return !held;
     }
@@ -96,15 +81,8 @@ fn name_right(
     value < word16(table, 0) + word16(table, 1)
 }
 
-fn names_right(
-    table: &[u16],
-    owners: &[u32],
-    homes: &[u32],
-    definitions: &[u16],
-    binders: &[u32],
-    state: &[u16],
-) -> bool
-    requires { ⌜ Known (now table) (now owners) (now homes) (now definitions) (now binders) ⌝ }
+fn names_right(table: &[u16], index: &[u32], state: &[u16]) -> bool
+    requires { ⌜ Known (now table) (now index) ⌝ }
     ensures { λ r. ⌜ r ≡ every
         (nameRight (scheme (now (table .entry))) (stateOf (scheme (now (table .entry))) (now (state .entry))))
         (from (publics (now (table .entry))) (bounds (now (table .entry)))) ⌝ }
@@ -113,7 +91,7 @@ fn names_right(
     let end = first + word16(table, 1);
     let mut x = first;
     while x < end {
-        if !name_right(table, owners, homes, definitions, binders, state, x) {
+        if !name_right(table, index, state, x) {
             return false;
         }
         x += 1;
@@ -122,26 +100,20 @@ fn names_right(
 }
 
 // Whether a thread stands at a node of its own.
-fn node_right(
-    table: &[u16],
-    homes: &[u32],
-    definitions: &[u16],
-    state: &[u16],
-    thread: usize,
-) -> bool
-    requires { ⌜ Indexed (now table) (now homes) (now definitions) ⌝ }
+fn node_right(table: &[u16], index: &[u32], state: &[u16], thread: usize) -> bool
+    requires { ⌜ Known (now table) (now index) ⌝ }
     ensures { λ r. ⌜ r ≡ nodeRight (scheme (now (table .entry)))
         (stateOf (scheme (now (table .entry))) (now (state .entry))) thread ⌝ }
 {
     let node = word16(state, thread);
     if node < word16(table, 4) {
-        return node_thread(table, homes, definitions, node) == thread;
+        return node_thread(table, index, node) == thread;
     }
     false
 }
 
-fn nodes_right(table: &[u16], homes: &[u32], definitions: &[u16], state: &[u16]) -> bool
-    requires { ⌜ Indexed (now table) (now homes) (now definitions) ⌝ }
+fn nodes_right(table: &[u16], index: &[u32], state: &[u16]) -> bool
+    requires { ⌜ Known (now table) (now index) ⌝ }
     ensures { λ r. ⌜ r ≡ every
         (nodeRight (scheme (now (table .entry))) (stateOf (scheme (now (table .entry))) (now (state .entry))))
         (range (threads (now (table .entry)))) ⌝ }
@@ -149,7 +121,7 @@ fn nodes_right(table: &[u16], homes: &[u32], definitions: &[u16], state: &[u16])
     let threads = word16(table, 3);
     let mut t = 0;
     while t < threads {
-        if !node_right(table, homes, definitions, state, t) {
+        if !node_right(table, index, state, t) {
             return false;
         }
         t += 1;
@@ -280,24 +252,17 @@ fn all_restricted_right(table: &[u16], state: &[u16]) -> bool
 }
 
 // Whether the words are a state's: their length, the nodes, the names, the numbering, and last the restricted names.
-pub(crate) fn well_formed(
-    table: &[u16],
-    owners: &[u32],
-    homes: &[u32],
-    definitions: &[u16],
-    binders: &[u32],
-    state: &[u16],
-) -> bool
-    requires { ⌜ Known (now table) (now owners) (now homes) (now definitions) (now binders) ⌝ }
+pub(crate) fn well_formed(table: &[u16], index: &[u32], state: &[u16]) -> bool
+    requires { ⌜ Known (now table) (now index) ⌝ }
     ensures { λ r. ⌜ r ≡ wellFormed (scheme (now (table .entry))) (now (state .entry)) ⌝ }
 {
     if state.len() != word16(table, 3) + word16(table, 1) {
         return false;
     }
-    if !nodes_right(table, homes, definitions, state) {
+    if !nodes_right(table, index, state) {
         return false;
     }
-    if !names_right(table, owners, homes, definitions, binders, state) {
+    if !names_right(table, index, state) {
         return false;
     }
     if !is_numbered(table, state) {

@@ -8,17 +8,17 @@ ghost use Rattle.process.specs.Steps.{standsAt, isOpen, communication};
 ghost use Rattle.process.specs.Labels.{labelOf, newNamed, silentNamed, callNamed, communicationNamed, isPartner};
 ghost use Rattle.process.specs.Labels.{copyNamed, releaseNamed, stepMeaning, stepOf, meaningOf};
 ghost use Rattle.process.specs.StateWords.{stateOf};
-ghost use Rattle.process.specs.Inner.Index.{Indexed, Owned};
+ghost use Rattle.table.specs.Known.{Known};
 ghost use Rattle.process.specs.Inner.Codes.{meant, named, labelWords, Labelled, opened, ifOpen};
 use crate::formed::holds;
 use crate::threads::branch_is;
 use crate::threads::branch_thread;
+use crate::threads::home;
 use crate::threads::node_is;
 use crate::threads::node_thread;
 use crate::values::one_value;
 use crate::values::value_of;
 use lists::word16;
-use lists::word32;
 use scheme::fields::field3;
 use scheme::fields::field4;
 
@@ -111,8 +111,8 @@ fn copy_named(table: &[u16], node: usize, name: usize) -> Named
 }
 
 // A release: the node is a Stop or a Call, and holds the name.
-fn release_named(table: &[u16], owners: &[u32], homes: &[u32], node: usize, name: usize) -> Named
-    requires { ⌜ Owned (now table) (now owners) (now homes) ⌝ }
+fn release_named(table: &[u16], index: &[u32], node: usize, name: usize) -> Named
+    requires { ⌜ Known (now table) (now index) ⌝ }
     ensures { λ r. ⌜ named r ≡ releaseNamed (scheme (now (table .entry))) node name ⌝ }
 {
     if node_is(table, node, 1) {
@@ -121,7 +121,7 @@ fn release_named(table: &[u16], owners: &[u32], homes: &[u32], node: usize, name
     if node_is(table, node, 2) {
         return Named::Missing;
     }
-    if holds(table, owners, homes, node, name) {
+    if holds(table, index, node, name) {
         return Named::Bookkeeping(Bookkeeping::Release(node, name));
     }
     Named::Missing
@@ -168,14 +168,8 @@ fn call_named(table: &[u16], node: usize, zero: usize) -> Named
 }
 
 // Whether the branches are a send and a receive of different threads.
-fn are_partners(
-    table: &[u16],
-    homes: &[u32],
-    definitions: &[u16],
-    send: usize,
-    receive: usize,
-) -> bool
-    requires { ⌜ Indexed (now table) (now homes) (now definitions) ⌝ }
+fn are_partners(table: &[u16], index: &[u32], send: usize, receive: usize) -> bool
+    requires { ⌜ Known (now table) (now index) ⌝ }
     ensures { λ r. ⌜ r ≡ (isSend (scheme (now (table .entry)) .branch send)
         && isPartner (scheme (now (table .entry))) send receive) ⌝ }
 {
@@ -185,22 +179,16 @@ fn are_partners(
     if !branch_is(table, receive, 2) {
         return false;
     }
-    let sender = branch_thread(table, homes, definitions, send);
-    let receiver = branch_thread(table, homes, definitions, receive);
+    let sender = branch_thread(table, index, send);
+    let receiver = branch_thread(table, index, receive);
     sender != receiver
 }
 
-fn communication_named(
-    table: &[u16],
-    homes: &[u32],
-    definitions: &[u16],
-    send: usize,
-    receive: usize,
-) -> Named
-    requires { ⌜ Indexed (now table) (now homes) (now definitions) ⌝ }
+fn communication_named(table: &[u16], index: &[u32], send: usize, receive: usize) -> Named
+    requires { ⌜ Known (now table) (now index) ⌝ }
     ensures { λ r. ⌜ named r ≡ stepMeaning (communicationNamed (scheme (now (table .entry))) send receive) ⌝ }
 {
-    if are_partners(table, homes, definitions, send, receive) {
+    if are_partners(table, index, send, receive) {
         return Named::Process(Step::Communicate(Pair {
             send: send,
             receive: receive,
@@ -210,65 +198,50 @@ fn communication_named(
 }
 
 // What a label names: its kind decides between bookkeeping and the steps of the process.
-fn named_by(
-    table: &[u16],
-    owners: &[u32],
-    homes: &[u32],
-    definitions: &[u16],
-    kind: u32,
-    a: usize,
-    b: usize,
-) -> Named
-    requires { ⌜ Indexed (now table) (now homes) (now definitions) × Owned (now table) (now owners) (now homes) ⌝ }
+fn named_by(table: &[u16], index: &[u32], kind: u32, a: usize, b: usize) -> Named
+    requires { ⌜ Known (now table) (now index) ⌝ }
     ensures { λ r. ⌜ named r ≡ meaningOf (scheme (now (table .entry))) kind a b ⌝ }
 {
     match kind {
         0 => copy_named(table, a, b),
-        1 => release_named(table, owners, homes, a, b),
+        1 => release_named(table, index, a, b),
         2 => new_named(table, a, b),
         3 => silent_named(table, a, b),
-        4 => communication_named(table, homes, definitions, a, b),
+        4 => communication_named(table, index, a, b),
         5 => call_named(table, a, b),
         _ => Named::Missing,
     }
 }
 
 // Whether the node's thread stands at it.
-pub(crate) fn stands(
-    table: &[u16],
-    homes: &[u32],
-    definitions: &[u16],
-    state: &[u16],
-    node: usize,
-) -> bool
-    requires { ⌜ Indexed (now table) (now homes) (now definitions) ⌝ }
+pub(crate) fn stands(table: &[u16], index: &[u32], state: &[u16], node: usize) -> bool
+    requires { ⌜ Known (now table) (now index) ⌝ }
     ensures { λ r. ⌜ r ≡ standsAt (scheme (now (table .entry)))
         (stateOf (scheme (now (table .entry))) (now (state .entry))) node ⌝ }
 {
-    let thread = node_thread(table, homes, definitions, node);
+    let thread = node_thread(table, index, node);
     word16(state, thread) == node
 }
 
 // Whether a send and a receive can meet: their threads differ and stand at them, and both channels have one value.
 pub(crate) fn can_meet(
     table: &[u16],
-    homes: &[u32],
-    definitions: &[u16],
+    index: &[u32],
     state: &[u16],
     send: usize,
     receive: usize,
 ) -> bool
-    requires { ⌜ Indexed (now table) (now homes) (now definitions) ⌝ }
+    requires { ⌜ Known (now table) (now index) ⌝ }
     ensures { λ r. ⌜ r ≡ isOpen (scheme (now (table .entry)))
         (stateOf (scheme (now (table .entry))) (now (state .entry))) (communication send receive) ⌝ }
 {
-    if !are_partners(table, homes, definitions, send, receive) {
+    if !are_partners(table, index, send, receive) {
         return false;
     }
-    if !stands(table, homes, definitions, state, word32(homes, send)) {
+    if !stands(table, index, state, home(table, index, send)) {
         return false;
     }
-    if !stands(table, homes, definitions, state, word32(homes, receive)) {
+    if !stands(table, index, state, home(table, index, receive)) {
         return false;
     }
     one_value(
@@ -278,8 +251,8 @@ pub(crate) fn can_meet(
 }
 
 // Whether a step is open: its threads stand at its nodes, and for a communication both channels have one value.
-fn is_open(table: &[u16], homes: &[u32], definitions: &[u16], state: &[u16], step: Step) -> bool
-    requires { ⌜ Indexed (now table) (now homes) (now definitions) ⌝ }
+fn is_open(table: &[u16], index: &[u32], state: &[u16], step: Step) -> bool
+    requires { ⌜ Known (now table) (now index) ⌝ }
     ensures { λ r. ⌜ r ≡ isOpen (scheme (now (table .entry)))
         (stateOf (scheme (now (table .entry))) (now (state .entry))) (meant step) ⌝ }
 {
@@ -288,20 +261,20 @@ fn is_open(table: &[u16], homes: &[u32], definitions: &[u16], state: &[u16], ste
             if !node_is(table, n, 2) {
                 return false;
             }
-            stands(table, homes, definitions, state, n)
+            stands(table, index, state, n)
         }
         Step::Silent(b) => {
             if !branch_is(table, b, 0) {
                 return false;
             }
-            stands(table, homes, definitions, state, word32(homes, b))
+            stands(table, index, state, home(table, index, b))
         }
-        Step::Communicate(p) => can_meet(table, homes, definitions, state, p.send, p.receive),
+        Step::Communicate(p) => can_meet(table, index, state, p.send, p.receive),
         Step::Call(n) => {
             if !node_is(table, n, 3) {
                 return false;
             }
-            stands(table, homes, definitions, state, n)
+            stands(table, index, state, n)
         }
     }
 }
@@ -309,30 +282,20 @@ fn is_open(table: &[u16], homes: &[u32], definitions: &[u16], state: &[u16], ste
 // The step that a label names, if it is open.
 pub(crate) fn open_step(
     table: &[u16],
-    owners: &[u32],
-    homes: &[u32],
-    definitions: &[u16],
+    index: &[u32],
     state: &[u16],
     kind: u32,
     a: u32,
     b: u32,
 ) -> Open
-    requires { ⌜ Indexed (now table) (now homes) (now definitions) × Owned (now table) (now owners) (now homes) ⌝ }
+    requires { ⌜ Known (now table) (now index) ⌝ }
     ensures { λ r. ⌜ opened r
         ≡ ifOpen (scheme (now (table .entry))) (stateOf (scheme (now (table .entry))) (now (state .entry)))
         (stepOf (scheme (now (table .entry))) kind a b) ⌝ }
 {
-    match named_by(
-        table,
-        owners,
-        homes,
-        definitions,
-        kind,
-        a as usize,
-        b as usize,
-    ) {
+    match named_by(table, index, kind, a as usize, b as usize) {
         Named::Process(s) => {
-            if is_open(table, homes, definitions, state, s) {
+            if is_open(table, index, state, s) {
                 return Open::Taken(s);
             }
             Open::Closed

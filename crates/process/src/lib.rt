@@ -17,7 +17,6 @@ ghost use Rattle.lists.specs.Lists.{range};
 ghost use Rattle.scheme.specs.Words.{threads, bounds, root, entry};
 ghost use Rattle.process.specs.Answers.{outcomeOf};
 ghost use Rattle.process.specs.Outcomes.{startOutcome, openOutcome, stepOutcome};
-ghost use Rattle.process.specs.Inner.Index.{Indexable, Known};
 use crate::formed::well_formed;
 use crate::labels::Open;
 use crate::labels::open_step;
@@ -27,6 +26,8 @@ use lists::store16;
 use lists::word16;
 use scheme::fields::field1;
 use scheme::fields::field4;
+use scheme::index::SIZE;
+use scheme::index::fill;
 
 // What a call did: how many words or labels it wrote, or what it refuses.
 pub enum Answer {
@@ -82,24 +83,6 @@ pub fn start(table: &[u16], state: &mut [u16]) -> Answer
     Answer::Done(size)
 }
 
-// Fills in the index of an accepted table: owners and definitions of nodes, homes of branches, binders of names.
-fn fill_index(
-    table: &[u16],
-    owners: &mut [u32],
-    homes: &mut [u32],
-    definitions: &mut [u16],
-    binders: &mut [u32],
-)
-    requires { ⌜ Indexable (now table) (now owners) (now homes) (now definitions) (now binders) ⌝ }
-    ensures { λ r. ⌜ Known (now (table .entry)) (now (owners .exit)) (now (homes .exit)) (now (definitions .exit))
-        (now (binders .exit)) ⌝ }
-{
-    scheme::index::owners(table, owners);
-    scheme::index::homes(table, homes);
-    scheme::index::first_definitions(owners, homes, word16(table, 4), definitions);
-    scheme::index::binders(table, binders);
-}
-
 // The labels of the open steps, three words each.
 pub fn open_steps(table: &[u16], state: &[u16], labels: &mut [u32]) -> Answer
     ensures { λ r. ⌜ outcomeOf r (now (labels .exit))
@@ -109,21 +92,12 @@ pub fn open_steps(table: &[u16], state: &[u16], labels: &mut [u32]) -> Answer
     if !table::is_accepted(verdict) {
         return Answer::Refused(verdict);
     }
-    let mut owners = [0u32; 256];
-    let mut homes = [0u32; 256];
-    let mut definitions = [0u16; 256];
-    let mut binders = [0u32; 64];
-    fill_index(
-        table,
-        &mut owners,
-        &mut homes,
-        &mut definitions,
-        &mut binders,
-    );
-    if !well_formed(table, &owners, &homes, &definitions, &binders, state) {
+    let mut index = [0u32; SIZE];
+    fill(table, &mut index);
+    if !well_formed(table, &index, state) {
         return Answer::Malformed;
     }
-    let size = list_open(table, &homes, &definitions, state, labels);
+    let size = list_open(table, &index, state, labels);
     if labels.len() < size {
         return Answer::NoRoom;
     }
@@ -139,28 +113,18 @@ pub fn step(table: &[u16], state: &[u16], kind: u32, a: u32, b: u32, next: &mut 
     if !table::is_accepted(verdict) {
         return Answer::Refused(verdict);
     }
-    let mut owners = [0u32; 256];
-    let mut homes = [0u32; 256];
-    let mut definitions = [0u16; 256];
-    let mut binders = [0u32; 64];
-    fill_index(
-        table,
-        &mut owners,
-        &mut homes,
-        &mut definitions,
-        &mut binders,
-    );
-    if !well_formed(table, &owners, &homes, &definitions, &binders, state) {
+    let mut index = [0u32; SIZE];
+    fill(table, &mut index);
+    if !well_formed(table, &index, state) {
         return Answer::Malformed;
     }
-    let Open::Taken(taken) = open_step(table, &owners, &homes, &definitions, state, kind, a, b)
-    else {
+    let Open::Taken(taken) = open_step(table, &index, state, kind, a, b) else {
         return Answer::NotOpen;
     };
     let size = word16(table, 3) + word16(table, 1);
     if next.len() < size {
         return Answer::NoRoom;
     }
-    write_state(table, &homes, &definitions, &binders, state, taken, next);
+    write_state(table, &index, state, taken, next);
     Answer::Done(size)
 }

@@ -5,13 +5,12 @@
 ghost use mathlib.Core.Path.{_≡_};
 ghost use Prim.Native.Nat.{_+_, _≤_, _<_};
 ghost use lib.ListN.{length};
-ghost use lib.Seq.{slice};
 ghost use Rattle.lists.specs.Lists.{from, range, flat};
 ghost use Rattle.scheme.specs.Words.{nodes, branches};
 ghost use Rattle.scheme.specs.Scheme.{scheme};
 ghost use Rattle.process.specs.Labels.{labelOf, openLabels};
 ghost use Rattle.process.specs.StateWords.{stateOf};
-ghost use Rattle.process.specs.Inner.Index.{Indexed};
+ghost use Rattle.table.specs.Known.{Known};
 ghost use Rattle.process.specs.Inner.Codes.{meant, Labelled};
 ghost use Rattle.process.specs.Inner.Listed.{Listed, far, near, silentWords, stepWords, nodeWords, pairWords};
 ghost use Rattle.process.specs.Inner.Listed.{pairsWords, meetingWords, listWords, standing, Pairing, Meeting};
@@ -22,6 +21,7 @@ use crate::labels::can_meet;
 use crate::labels::label_of;
 use crate::labels::stands;
 use crate::threads::branch_is;
+use crate::threads::home;
 use crate::threads::node_is;
 use lists::store32;
 use lists::word16;
@@ -93,32 +93,25 @@ fn list_steps(table: &[u16], node: usize, at: usize, out: &mut [u32]) -> usize
 
 fn list_node(
     table: &[u16],
-    homes: &[u32],
-    definitions: &[u16],
+    index: &[u32],
     state: &[u16],
     node: usize,
     at: usize,
     out: &mut [u32],
 ) -> usize
-    requires { ⌜ Indexed (now table) (now homes) (now definitions) × (node < 65536) × (at < near) ⌝ }
+    requires { ⌜ Known (now table) (now index) × (node < 65536) × (at < near) ⌝ }
     ensures { λ r. ⌜ Listed 196608
         (nodeWords (scheme (now (table .entry))) (stateOf (scheme (now (table .entry))) (now (state .entry))) node)
         (now (out .entry)) at (now (out .exit)) r ⌝ }
 {
-    if stands(table, homes, definitions, state, node) {
+    if stands(table, index, state, node) {
         return list_steps(table, node, at, out);
     }
     at
 }
 
-fn list_nodes(
-    table: &[u16],
-    homes: &[u32],
-    definitions: &[u16],
-    state: &[u16],
-    out: &mut [u32],
-) -> usize
-    requires { ⌜ Indexed (now table) (now homes) (now definitions) ⌝ }
+fn list_nodes(table: &[u16], index: &[u32], state: &[u16], out: &mut [u32]) -> usize
+    requires { ⌜ Known (now table) (now index) ⌝ }
     ensures { λ r. ⌜ Listed 12884901888
         (flat (nodeWords (scheme (now (table .entry))) (stateOf (scheme (now (table .entry))) (now (state .entry))))
         (range (nodes (now (table .entry))))) (now (out .entry)) 0 (now (out .exit)) r ⌝ }
@@ -127,7 +120,7 @@ fn list_nodes(
     let mut n = 0;
     let mut next = 0;
     while n < nodes {
-        next = list_node(table, homes, definitions, state, n, next, out);
+        next = list_node(table, index, state, n, next, out);
         n += 1;
     }
     next
@@ -135,15 +128,14 @@ fn list_nodes(
 
 fn gather_branch(
     table: &[u16],
-    homes: &[u32],
-    definitions: &[u16],
+    index: &[u32],
     state: &[u16],
     kind: usize,
     branch: usize,
     at: usize,
     out: &mut [u32],
 ) -> usize
-    requires { ⌜ Indexed (now table) (now homes) (now definitions) × (branch < 65536) × (at < far) ⌝ }
+    requires { ⌜ Known (now table) (now index) × (branch < 65536) × (at < far) ⌝ }
     ensures { λ r. ⌜ Listed 1
         (standing (now (table .entry)) (stateOf (scheme (now (table .entry))) (now (state .entry))) kind branch)
         (now (out .entry)) at (now (out .exit)) r ⌝ }
@@ -151,7 +143,7 @@ fn gather_branch(
     if !branch_is(table, branch, kind) {
         return at;
     }
-    if !stands(table, homes, definitions, state, word32(homes, branch)) {
+    if !stands(table, index, state, home(table, index, branch)) {
         return at;
     }
     store32(out, at, branch as u32);
@@ -159,15 +151,8 @@ fn gather_branch(
 }
 
 // The branches of a kind at nodes where threads stand.
-fn gather(
-    table: &[u16],
-    homes: &[u32],
-    definitions: &[u16],
-    state: &[u16],
-    kind: usize,
-    out: &mut [u32],
-) -> usize
-    requires { ⌜ Indexed (now table) (now homes) (now definitions) ⌝ }
+fn gather(table: &[u16], index: &[u32], state: &[u16], kind: usize, out: &mut [u32]) -> usize
+    requires { ⌜ Known (now table) (now index) ⌝ }
     ensures { λ r. ⌜ Listed (branches (now (table .entry)))
         (flat (standing (now (table .entry)) (stateOf (scheme (now (table .entry))) (now (state .entry))) kind)
         (range (branches (now (table .entry))))) (now (out .entry)) 0 (now (out .exit)) r ⌝ }
@@ -176,7 +161,7 @@ fn gather(
     let mut b = 0;
     let mut next = 0;
     while b < branches {
-        next = gather_branch(table, homes, definitions, state, kind, b, next, out);
+        next = gather_branch(table, index, state, kind, b, next, out);
         b += 1;
     }
     next
@@ -184,21 +169,20 @@ fn gather(
 
 fn list_pair(
     table: &[u16],
-    homes: &[u32],
-    definitions: &[u16],
+    index: &[u32],
     state: &[u16],
     send: usize,
     receive: usize,
     at: usize,
     out: &mut [u32],
 ) -> usize
-    requires { ⌜ Indexed (now table) (now homes) (now definitions) × (send < 4294967296) × (receive < 4294967296)
+    requires { ⌜ Known (now table) (now index) × (send < 4294967296) × (receive < 4294967296)
         × (at < far) ⌝ }
     ensures { λ r. ⌜ Listed 3
         (pairWords (scheme (now (table .entry))) (stateOf (scheme (now (table .entry))) (now (state .entry))) send
         receive) (now (out .entry)) at (now (out .exit)) r ⌝ }
 {
-    if can_meet(table, homes, definitions, state, send, receive) {
+    if can_meet(table, index, state, send, receive) {
         let pair = Pair {
             send: send,
             receive: receive,
@@ -210,33 +194,23 @@ fn list_pair(
 
 fn list_pairs(
     table: &[u16],
-    homes: &[u32],
-    definitions: &[u16],
+    index: &[u32],
     state: &[u16],
     send: usize,
     receives: &[u32],
-    count: usize,
     at: usize,
     out: &mut [u32],
 ) -> usize
-    requires { ⌜ Pairing (now table) (now homes) (now definitions) (now receives) count at × (send < 4294967296) ⌝ }
+    requires { ⌜ Pairing (now table) (now index) (now receives) at × (send < 4294967296) ⌝ }
     ensures { λ r. ⌜ Listed 768
         (pairsWords (scheme (now (table .entry))) (stateOf (scheme (now (table .entry))) (now (state .entry)))
-        (slice 0 count (now (receives .entry))) send) (now (out .entry)) at (now (out .exit)) r ⌝ }
+        (now (receives .entry)) send) (now (out .entry)) at (now (out .exit)) r ⌝ }
 {
     let mut i = 0;
     let mut next = at;
-    while i < count {
-        next = list_pair(
-            table,
-            homes,
-            definitions,
-            state,
-            send,
-            word32(receives, i),
-            next,
-            out,
-        );
+    while i < receives.len() {
+        let receive = word32(receives, i);
+        next = list_pair(table, index, state, send, receive, next, out);
         i += 1;
     }
     next
@@ -244,37 +218,23 @@ fn list_pairs(
 
 fn list_meetings(
     table: &[u16],
-    homes: &[u32],
-    definitions: &[u16],
+    index: &[u32],
     state: &[u16],
     sends: &[u32],
-    s: usize,
     receives: &[u32],
-    r: usize,
     at: usize,
     out: &mut [u32],
 ) -> usize
-    requires { ⌜ Meeting (now table) (now homes) (now definitions) (now sends) s (now receives) r
-        × (at ≤ 12884901888) ⌝ }
-    ensures { λ x. ⌜ Listed 196608
+    requires { ⌜ Meeting (now table) (now index) (now sends) (now receives) × (at ≤ 12884901888) ⌝ }
+    ensures { λ r. ⌜ Listed 196608
         (meetingWords (scheme (now (table .entry))) (stateOf (scheme (now (table .entry))) (now (state .entry)))
-        (slice 0 s (now (sends .entry))) (slice 0 r (now (receives .entry)))) (now (out .entry)) at (now (out .exit))
-        x ⌝ }
+        (now (sends .entry)) (now (receives .entry))) (now (out .entry)) at (now (out .exit)) r ⌝ }
 {
     let mut i = 0;
     let mut next = at;
-    while i < s {
-        next = list_pairs(
-            table,
-            homes,
-            definitions,
-            state,
-            word32(sends, i),
-            receives,
-            r,
-            next,
-            out,
-        );
+    while i < sends.len() {
+        let send = word32(sends, i);
+        next = list_pairs(table, index, state, send, receives, next, out);
         i += 1;
     }
     next
@@ -283,96 +243,48 @@ fn list_meetings(
 // The labels of all open steps, by node, then by send and receive; how many words they have.
 fn list(
     table: &[u16],
-    homes: &[u32],
-    definitions: &[u16],
+    index: &[u32],
     state: &[u16],
     sends: &[u32],
-    s: usize,
     receives: &[u32],
-    r: usize,
     out: &mut [u32],
 ) -> usize
-    requires { ⌜ Meeting (now table) (now homes) (now definitions) (now sends) s (now receives) r ⌝ }
-    ensures { λ x. ⌜ Listed 12885098496
+    requires { ⌜ Meeting (now table) (now index) (now sends) (now receives) ⌝ }
+    ensures { λ r. ⌜ Listed 12885098496
         (listWords (scheme (now (table .entry))) (stateOf (scheme (now (table .entry))) (now (state .entry)))
-        (slice 0 s (now (sends .entry))) (slice 0 r (now (receives .entry)))) (now (out .entry)) 0 (now (out .exit))
-        x ⌝ }
+        (now (sends .entry)) (now (receives .entry))) (now (out .entry)) 0 (now (out .exit)) r ⌝ }
 {
-    let at = list_nodes(table, homes, definitions, state, out);
-    list_meetings(
-        table,
-        homes,
-        definitions,
-        state,
-        sends,
-        s,
-        receives,
-        r,
-        at,
-        out,
-    )
+    let at = list_nodes(table, index, state, out);
+    list_meetings(table, index, state, sends, receives, at, out)
 }
 
 // How many words the labels of all open steps have.
-fn count(
-    table: &[u16],
-    homes: &[u32],
-    definitions: &[u16],
-    state: &[u16],
-    sends: &[u32],
-    s: usize,
-    receives: &[u32],
-    r: usize,
-) -> usize
-    requires { ⌜ Meeting (now table) (now homes) (now definitions) (now sends) s (now receives) r ⌝ }
-    ensures { λ x. ⌜ x ≡ length
+fn count(table: &[u16], index: &[u32], state: &[u16], sends: &[u32], receives: &[u32]) -> usize
+    requires { ⌜ Meeting (now table) (now index) (now sends) (now receives) ⌝ }
+    ensures { λ r. ⌜ r ≡ length
         (listWords (scheme (now (table .entry))) (stateOf (scheme (now (table .entry))) (now (state .entry)))
-        (slice 0 s (now (sends .entry))) (slice 0 r (now (receives .entry)))) ⌝ }
+        (now (sends .entry)) (now (receives .entry))) ⌝ }
 {
     let mut none = [0u32; 1];
-    list(
-        table,
-        homes,
-        definitions,
-        state,
-        sends,
-        s,
-        receives,
-        r,
-        &mut none,
-    )
+    list(table, index, state, sends, receives, &mut none)
 }
 
 // Writes the labels of all open steps if there is room for them; how many words they have.
-pub(crate) fn list_open(
-    table: &[u16],
-    homes: &[u32],
-    definitions: &[u16],
-    state: &[u16],
-    labels: &mut [u32],
-) -> usize
-    requires { ⌜ Indexed (now table) (now homes) (now definitions) ⌝ }
+pub(crate) fn list_open(table: &[u16], index: &[u32], state: &[u16], labels: &mut [u32]) -> usize
+    requires { ⌜ Known (now table) (now index) ⌝ }
     ensures { λ r. ⌜ Fitted
         (openLabels (scheme (now (table .entry))) (stateOf (scheme (now (table .entry))) (now (state .entry))))
         (now (labels .entry)) (now (labels .exit)) r ⌝ }
 {
-    let mut sends = [0u32; 256];
-    let mut receives = [0u32; 256];
-    let s = gather(table, homes, definitions, state, 1, &mut sends);
-    let r = gather(table, homes, definitions, state, 2, &mut receives);
-    let size = count(table, homes, definitions, state, &sends, s, &receives, r);
+    let mut sent = [0u32; 256];
+    let mut received = [0u32; 256];
+    let s = gather(table, index, state, 1, &mut sent);
+    let r = gather(table, index, state, 2, &mut received);
+    let sends = &sent[..s];
+    let receives = &received[..r];
+    let size = count(table, index, state, sends, receives);
     if labels.len() < size {
         return size;
     }
-    list(
-        table,
-        homes,
-        definitions,
-        state,
-        &sends,
-        s,
-        &receives,
-        r,
-        labels,
-    )
+    list(table, index, state, sends, receives, labels)
 }

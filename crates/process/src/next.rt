@@ -1,6 +1,6 @@
 // The state after an open step, as words.
 ghost use mathlib.Core.Path.{_≡_};
-ghost use mathlib.Core.Bool.{true, _&&_};
+ghost use mathlib.Core.Bool.{_&&_};
 ghost use mathlib.Core.List.{[], map};
 ghost use Prim.Native.Nat.{_≤_, _<_};
 ghost use lib.ListN.{length};
@@ -9,19 +9,20 @@ ghost use Rattle.lists.specs.Lists.{pick, same, from, range};
 ghost use Rattle.scheme.specs.Words.{publics, bounds, threads};
 ghost use Rattle.scheme.specs.Kinds.{isStop};
 ghost use Rattle.scheme.specs.Scheme.{scheme};
-ghost use Rattle.process.specs.Steps.{take, isOpen, passed, newStep, silentStep, communication, callStep};
-ghost use Rattle.process.specs.StateWords.{stateOf, valueWords, stateWords};
-ghost use Rattle.process.specs.Inner.Index.{Bound};
-ghost use Rattle.process.specs.Inner.Values.{Number, Valued, valueAt};
-ghost use Rattle.process.specs.Inner.Codes.{meant, Going, Valuing};
+ghost use Rattle.process.specs.Steps.{take, newStep, silentStep, communication, callStep};
+ghost use Rattle.process.specs.StateWords.{stateOf, valueAt, valueWords, stateWords};
+ghost use Rattle.table.specs.Known.{Known};
+ghost use Rattle.scheme.specs.Words.{Number};
+ghost use Rattle.process.specs.Inner.Values.{Valued};
+ghost use Rattle.process.specs.Inner.Codes.{meant, Going};
 use crate::labels::Pair;
 use crate::labels::Step;
 use crate::threads::branch_thread;
 use crate::threads::is_stop;
 use crate::threads::name_thread;
 use crate::threads::node_thread;
-use crate::values::number_values;
 use crate::values::value_of;
+use crate::values::write_numbered;
 use lists::store16;
 use lists::word16;
 use scheme::fields::field1;
@@ -29,50 +30,26 @@ use scheme::fields::field3;
 use scheme::fields::field4;
 
 // Whether a name ends as its thread arrives at a node.
-fn ends(
-    table: &[u16],
-    homes: &[u32],
-    definitions: &[u16],
-    binders: &[u32],
-    thread: usize,
-    node: usize,
-    name: usize,
-) -> bool
-    requires { ⌜ Bound (now table) (now homes) (now definitions) (now binders) ⌝ }
+fn ends(table: &[u16], index: &[u32], thread: usize, node: usize, name: usize) -> bool
+    requires { ⌜ Known (now table) (now index) ⌝ }
     ensures { λ r. ⌜ r ≡ (isStop (scheme (now (table .entry)) .node node)
         && same (scheme (now (table .entry)) .nameThread name) thread) ⌝ }
 {
     if is_stop(table, node) {
-        return name_thread(table, homes, definitions, binders, name) == thread;
+        return name_thread(table, index, name) == thread;
     }
     false
 }
 
 // A name's value after a New, which takes a value that no word names.
-fn value_after_new(
-    table: &[u16],
-    homes: &[u32],
-    definitions: &[u16],
-    binders: &[u32],
-    state: &[u16],
-    node: usize,
-    name: usize,
-) -> usize
-    requires { ⌜ Valuing (now table) (now homes) (now definitions) (now binders) (now state) (newStep node) ⌝ }
+fn value_after_new(table: &[u16], index: &[u32], state: &[u16], node: usize, name: usize) -> usize
+    requires { ⌜ Going (now table) (now index) (now state) (newStep node) ⌝ }
     ensures { λ r. ⌜ Valued
         (take (scheme (now (table .entry))) (newStep node) (stateOf (scheme (now (table .entry))) (now (state .entry)))
         .value name) r ⌝ }
 {
-    let thread = node_thread(table, homes, definitions, node);
-    if ends(
-        table,
-        homes,
-        definitions,
-        binders,
-        thread,
-        field3(table, 10, node, 2),
-        name,
-    ) {
+    let thread = node_thread(table, index, node);
+    if ends(table, index, thread, field3(table, 10, node, 2), name) {
         return 65535;
     }
     if name == field3(table, 10, node, 1) {
@@ -83,28 +60,18 @@ fn value_after_new(
 
 fn value_after_silent(
     table: &[u16],
-    homes: &[u32],
-    definitions: &[u16],
-    binders: &[u32],
+    index: &[u32],
     state: &[u16],
     branch: usize,
     name: usize,
 ) -> usize
-    requires { ⌜ Valuing (now table) (now homes) (now definitions) (now binders) (now state) (silentStep branch) ⌝ }
+    requires { ⌜ Going (now table) (now index) (now state) (silentStep branch) ⌝ }
     ensures { λ r. ⌜ Valued
         (take (scheme (now (table .entry))) (silentStep branch)
         (stateOf (scheme (now (table .entry))) (now (state .entry))) .value name) r ⌝ }
 {
-    let thread = branch_thread(table, homes, definitions, branch);
-    if ends(
-        table,
-        homes,
-        definitions,
-        binders,
-        thread,
-        field4(table, 11, branch, 3),
-        name,
-    ) {
+    let thread = branch_thread(table, index, branch);
+    if ends(table, index, thread, field4(table, 11, branch, 3), name) {
         return 65535;
     }
     value_of(table, state, name)
@@ -113,28 +80,26 @@ fn value_after_silent(
 // A name's value after a communication. The sent value is the one before any name ends.
 fn value_after_meeting(
     table: &[u16],
-    homes: &[u32],
-    definitions: &[u16],
-    binders: &[u32],
+    index: &[u32],
     state: &[u16],
     send: usize,
     receive: usize,
     name: usize,
 ) -> usize
-    requires { ⌜ Valuing (now table) (now homes) (now definitions) (now binders) (now state)
+    requires { ⌜ Going (now table) (now index) (now state)
         (communication send receive) ⌝ }
     ensures { λ r. ⌜ Valued
         (take (scheme (now (table .entry))) (communication send receive)
         (stateOf (scheme (now (table .entry))) (now (state .entry))) .value name) r ⌝ }
 {
-    let sender = branch_thread(table, homes, definitions, send);
-    let receiver = branch_thread(table, homes, definitions, receive);
+    let sender = branch_thread(table, index, send);
+    let receiver = branch_thread(table, index, receive);
     let sent = field4(table, 11, send, 3);
-    if ends(table, homes, definitions, binders, sender, sent, name) {
+    if ends(table, index, sender, sent, name) {
         return 65535;
     }
     let received = field4(table, 11, receive, 3);
-    if ends(table, homes, definitions, binders, receiver, received, name) {
+    if ends(table, index, receiver, received, name) {
         return 65535;
     }
     if name == field4(table, 11, receive, 2) {
@@ -144,22 +109,14 @@ fn value_after_meeting(
 }
 
 // A name's value after a call: the caller's names end, a formal has its argument's value.
-fn value_after_call(
-    table: &[u16],
-    homes: &[u32],
-    definitions: &[u16],
-    binders: &[u32],
-    state: &[u16],
-    node: usize,
-    name: usize,
-) -> usize
-    requires { ⌜ Valuing (now table) (now homes) (now definitions) (now binders) (now state) (callStep node) ⌝ }
+fn value_after_call(table: &[u16], index: &[u32], state: &[u16], node: usize, name: usize) -> usize
+    requires { ⌜ Going (now table) (now index) (now state) (callStep node) ⌝ }
     ensures { λ r. ⌜ Valued
         (take (scheme (now (table .entry))) (callStep node) (stateOf (scheme (now (table .entry))) (now (state .entry)))
         .value name) r ⌝ }
 {
-    let thread = node_thread(table, homes, definitions, node);
-    if name_thread(table, homes, definitions, binders, name) != thread {
+    let thread = node_thread(table, index, node);
+    if name_thread(table, index, name) != thread {
         return value_of(table, state, name);
     }
     let called = field3(table, 10, node, 1);
@@ -181,34 +138,17 @@ fn value_after_call(
 }
 
 // A name's value after a step.
-fn value_after(
-    table: &[u16],
-    homes: &[u32],
-    definitions: &[u16],
-    binders: &[u32],
-    state: &[u16],
-    step: Step,
-    name: usize,
-) -> usize
-    requires { ⌜ Valuing (now table) (now homes) (now definitions) (now binders) (now state) (meant step) ⌝ }
+fn value_after(table: &[u16], index: &[u32], state: &[u16], step: Step, name: usize) -> usize
+    requires { ⌜ Going (now table) (now index) (now state) (meant step) ⌝ }
     ensures { λ r. ⌜ Valued
         (take (scheme (now (table .entry))) (meant step) (stateOf (scheme (now (table .entry))) (now (state .entry)))
         .value name) r ⌝ }
 {
     match step {
-        Step::New(n) => value_after_new(table, homes, definitions, binders, state, n, name),
-        Step::Silent(b) => value_after_silent(table, homes, definitions, binders, state, b, name),
-        Step::Communicate(p) => value_after_meeting(
-            table,
-            homes,
-            definitions,
-            binders,
-            state,
-            p.send,
-            p.receive,
-            name,
-        ),
-        Step::Call(n) => value_after_call(table, homes, definitions, binders, state, n, name),
+        Step::New(n) => value_after_new(table, index, state, n, name),
+        Step::Silent(b) => value_after_silent(table, index, state, b, name),
+        Step::Communicate(p) => value_after_meeting(table, index, state, p.send, p.receive, name),
+        Step::Call(n) => value_after_call(table, index, state, n, name),
     }
 }
 
@@ -224,71 +164,41 @@ fn node_if(thread: usize, moved: usize, node: usize, before: usize) -> usize
 }
 
 // Where a thread stands after a step.
-fn node_after(
-    table: &[u16],
-    homes: &[u32],
-    definitions: &[u16],
-    state: &[u16],
-    step: Step,
-    thread: usize,
-) -> usize
-    requires { ⌜ Going (now table) (now homes) (now definitions) (now state) (meant step) ⌝ }
+fn node_after(table: &[u16], index: &[u32], state: &[u16], step: Step, thread: usize) -> usize
+    requires { ⌜ Going (now table) (now index) (now state) (meant step) ⌝ }
     ensures { λ r. ⌜ Number
         (take (scheme (now (table .entry))) (meant step) (stateOf (scheme (now (table .entry))) (now (state .entry)))
         .node thread) r ⌝ }
 {
     let before = word16(state, thread);
     match step {
-        Step::New(n) => node_if(
-            thread,
-            node_thread(table, homes, definitions, n),
-            field3(table, 10, n, 2),
-            before,
-        ),
-        Step::Silent(b) => node_if(
-            thread,
-            branch_thread(table, homes, definitions, b),
-            field4(table, 11, b, 3),
-            before,
-        ),
+        Step::New(n) => {
+            let moved = node_thread(table, index, n);
+            node_if(thread, moved, field3(table, 10, n, 2), before)
+        }
+        Step::Silent(b) => {
+            let moved = branch_thread(table, index, b);
+            node_if(thread, moved, field4(table, 11, b, 3), before)
+        }
         Step::Communicate(p) => {
             let send = p.send;
             let receive = p.receive;
-            let sent = node_if(
-                thread,
-                branch_thread(table, homes, definitions, send),
-                field4(table, 11, send, 3),
-                before,
-            );
-            node_if(
-                thread,
-                branch_thread(table, homes, definitions, receive),
-                field4(table, 11, receive, 3),
-                sent,
-            )
+            let sender = branch_thread(table, index, send);
+            let sent = node_if(thread, sender, field4(table, 11, send, 3), before);
+            let receiver = branch_thread(table, index, receive);
+            node_if(thread, receiver, field4(table, 11, receive, 3), sent)
         }
         Step::Call(n) => {
             let called = field3(table, 10, n, 1);
-            node_if(
-                thread,
-                node_thread(table, homes, definitions, n),
-                field4(table, 8, called, 1),
-                before,
-            )
+            let moved = node_thread(table, index, n);
+            node_if(thread, moved, field4(table, 8, called, 1), before)
         }
     }
 }
 
 // Writes where each thread stands after a step.
-fn write_nodes(
-    table: &[u16],
-    homes: &[u32],
-    definitions: &[u16],
-    state: &[u16],
-    step: Step,
-    out: &mut [u16],
-)
-    requires { ⌜ Going (now table) (now homes) (now definitions) (now state) (meant step) ⌝ }
+fn write_nodes(table: &[u16], index: &[u32], state: &[u16], step: Step, out: &mut [u16])
+    requires { ⌜ Going (now table) (now index) (now state) (meant step) ⌝ }
     ensures { λ r. ⌜ now (out .exit)
         ≡ sets (now (out .entry)) 0
         (map (take (scheme (now (table .entry))) (meant step)
@@ -297,26 +207,14 @@ fn write_nodes(
     let threads = word16(table, 3);
     let mut t = 0;
     while t < threads {
-        store16(
-            out,
-            t,
-            node_after(table, homes, definitions, state, step, t) as u16,
-        );
+        store16(out, t, node_after(table, index, state, step, t) as u16);
         t += 1;
     }
 }
 
 // Fills in the value of each bound name after a step, 65535 where it has none.
-fn fill_values(
-    table: &[u16],
-    homes: &[u32],
-    definitions: &[u16],
-    binders: &[u32],
-    state: &[u16],
-    step: Step,
-    values: &mut [u16],
-)
-    requires { ⌜ Valuing (now table) (now homes) (now definitions) (now binders) (now state) (meant step)
+fn fill_values(table: &[u16], index: &[u32], state: &[u16], step: Step, values: &mut [u16])
+    requires { ⌜ Going (now table) (now index) (now state) (meant step)
         × (32 ≤ length (now values)) ⌝ }
     ensures { λ r. ⌜ map valueAt (slice 0 (bounds (now (table .entry))) (now (values .exit)))
         ≡ map (take (scheme (now (table .entry))) (meant step)
@@ -330,23 +228,15 @@ fn fill_values(
         store16(
             values,
             i,
-            value_after(table, homes, definitions, binders, state, step, publics + i) as u16,
+            value_after(table, index, state, step, publics + i) as u16,
         );
         i += 1;
     }
 }
 
 // Writes the value of each bound name after a step, private values numbered by first appearance.
-fn write_values(
-    table: &[u16],
-    homes: &[u32],
-    definitions: &[u16],
-    binders: &[u32],
-    state: &[u16],
-    step: Step,
-    out: &mut [u16],
-)
-    requires { ⌜ Valuing (now table) (now homes) (now definitions) (now binders) (now state) (meant step) ⌝ }
+fn write_values(table: &[u16], index: &[u32], state: &[u16], step: Step, out: &mut [u16])
+    requires { ⌜ Going (now table) (now index) (now state) (meant step) ⌝ }
     ensures { λ r. ⌜ now (out .exit)
         ≡ sets (now (out .entry)) (threads (now (table .entry)))
         (valueWords (publics (now (table .entry))) []
@@ -358,27 +248,19 @@ fn write_values(
     let bounds = word16(table, 1);
     let threads = word16(table, 3);
     let mut values = [0u16; 32];
-    fill_values(table, homes, definitions, binders, state, step, &mut values);
-    number_values(publics as u16, &values, bounds as u16, threads as u16, out);
+    fill_values(table, index, state, step, &mut values);
+    write_numbered(publics as u16, &values, bounds as u16, threads as u16, out);
 }
 
 // Writes the words of the state after a step.
-pub(crate) fn write_state(
-    table: &[u16],
-    homes: &[u32],
-    definitions: &[u16],
-    binders: &[u32],
-    state: &[u16],
-    step: Step,
-    out: &mut [u16],
-)
-    requires { ⌜ Valuing (now table) (now homes) (now definitions) (now binders) (now state) (meant step) ⌝ }
+pub(crate) fn write_state(table: &[u16], index: &[u32], state: &[u16], step: Step, out: &mut [u16])
+    requires { ⌜ Going (now table) (now index) (now state) (meant step) ⌝ }
     ensures { λ r. ⌜ now (out .exit)
         ≡ sets (now (out .entry)) 0
         (stateWords (scheme (now (table .entry)))
         (take (scheme (now (table .entry))) (meant step)
         (stateOf (scheme (now (table .entry))) (now (state .entry))))) ⌝ }
 {
-    write_nodes(table, homes, definitions, state, step, out);
-    write_values(table, homes, definitions, binders, state, step, out);
+    write_nodes(table, index, state, step, out);
+    write_values(table, index, state, step, out);
 }

@@ -1,5 +1,5 @@
-// Kinds of nodes and branches, and the threads of nodes, branches and names, by lent words: homes of branches,
-// definitions of nodes, binders of names.
+// Kinds of nodes and branches, and what the index of the table tells: the node of a branch, and the threads of nodes,
+// branches and names.
 ghost use mathlib.Core.Path.{_≡_};
 ghost use mathlib.Core.Bool.{_&&_};
 ghost use lib.Dec.{ltb};
@@ -7,10 +7,9 @@ ghost use Rattle.lists.specs.Lists.{same};
 ghost use Rattle.scheme.specs.Words.{nodes, branches, nodeKind, branchKind};
 ghost use Rattle.scheme.specs.Scheme.{scheme};
 ghost use Rattle.scheme.specs.Kinds.{isStop};
-ghost use Rattle.process.specs.Inner.Index.{Indexed, Bound};
-ghost use Rattle.process.specs.Inner.Values.{Number};
+ghost use Rattle.table.specs.Known.{Known};
+ghost use Rattle.scheme.specs.Words.{Number};
 use lists::word16;
-use lists::word32;
 use scheme::fields::field3;
 use scheme::fields::field4;
 
@@ -51,37 +50,34 @@ pub(crate) fn is_stop(table: &[u16], node: usize) -> bool
     true
 }
 
+// The node of a branch.
+pub(crate) fn home(table: &[u16], index: &[u32], branch: usize) -> usize
+    requires { ⌜ Known (now table) (now index) ⌝ }
+    ensures { λ r. ⌜ r ≡ scheme (now (table .entry)) .home branch ⌝ }
+{
+    scheme::lookup::home(index, branch)
+}
+
 // The thread of a node.
-pub(crate) fn node_thread(table: &[u16], homes: &[u32], definitions: &[u16], node: usize) -> usize
-    requires { ⌜ Indexed (now table) (now homes) (now definitions) ⌝ }
+pub(crate) fn node_thread(table: &[u16], index: &[u32], node: usize) -> usize
+    requires { ⌜ Known (now table) (now index) ⌝ }
     ensures { λ r. ⌜ Number (scheme (now (table .entry)) .thread node) r ⌝ }
 {
-    field4(table, 8, word16(definitions, node), 0)
+    scheme::lookup::node_thread(table, index, node)
 }
 
 // The thread of a branch.
-pub(crate) fn branch_thread(
-    table: &[u16],
-    homes: &[u32],
-    definitions: &[u16],
-    branch: usize,
-) -> usize
-    requires { ⌜ Indexed (now table) (now homes) (now definitions) ⌝ }
+pub(crate) fn branch_thread(table: &[u16], index: &[u32], branch: usize) -> usize
+    requires { ⌜ Known (now table) (now index) ⌝ }
     ensures { λ r. ⌜ Number (scheme (now (table .entry)) .thread (scheme (now (table .entry)) .home branch)) r ⌝ }
 {
-    node_thread(table, homes, definitions, word32(homes, branch))
+    scheme::lookup::branch_thread(table, index, branch)
 }
 
-// The thread of what binds a name, by lent binders; the count of threads where nothing does.
-pub(crate) fn name_thread(
-    table: &[u16],
-    homes: &[u32],
-    definitions: &[u16],
-    binders: &[u32],
-    name: usize,
-) -> usize
-    requires { ⌜ Bound (now table) (now homes) (now definitions) (now binders) ⌝ }
+// The thread of what binds a name; the count of threads where nothing does.
+pub(crate) fn name_thread(table: &[u16], index: &[u32], name: usize) -> usize
+    requires { ⌜ Known (now table) (now index) ⌝ }
     ensures { λ r. ⌜ r ≡ scheme (now (table .entry)) .nameThread name ⌝ }
 {
-    scheme::index::name_thread(table, homes, definitions, binders, name)
+    scheme::lookup::name_thread(table, index, name)
 }

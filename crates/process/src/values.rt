@@ -1,13 +1,12 @@
 // Values of names in state words, and their numbering by first appearance.
 ghost use mathlib.Core.Path.{_≡_};
-ghost use mathlib.Core.List.{[], map};
 ghost use Prim.Native.Nat.{_≤_, _<_};
-ghost use lib.ListN.{length, take};
-ghost use lib.Seq.{sets, slice};
+ghost use lib.ListN.{length};
+ghost use lib.Seq.{slice};
 ghost use Rattle.scheme.specs.Scheme.{scheme};
 ghost use Rattle.process.specs.States.{oneValue};
-ghost use Rattle.process.specs.StateWords.{stateOf, place, valueWords};
-ghost use Rattle.process.specs.Inner.Values.{Valued, valueAt, Numberable, Turned};
+ghost use Rattle.process.specs.StateWords.{stateOf, place, valueAt, Numbered};
+ghost use Rattle.process.specs.Inner.Values.{Valued, Numberable, Turned};
 use lists::store16;
 use lists::word16;
 
@@ -88,16 +87,18 @@ fn number(publics: usize, seen: &mut [u16], count: usize, value: usize) -> Turn
 }
 
 // Writes the words of the first `count` values from word `at` on, private values numbered by first appearance; 65535
-// stands for none.
-pub fn number_values(publics: u16, values: &[u16], count: u16, at: u16, out: &mut [u16])
-    ensures { λ r. ⌜ (publics ≤ 32 → count ≤ 32 → count ≤ length (now (values .entry)) → now (out .exit)
-        ≡ sets (now (out .entry)) at (valueWords publics [] (map valueAt (take count (now (values .entry)))))) ⌝ }
+// stands for none. Whether publics and values are few and all lent; else nothing is written.
+pub fn write_numbered(publics: u16, values: &[u16], count: u16, at: u16, out: &mut [u16]) -> bool
+    ensures { λ r. ⌜ Numbered publics (now (values .entry)) count at (now (out .entry)) r (now (out .exit)) ⌝ }
 {
     if 32 < publics {
-        return;
+        return false;
     }
     if 32 < count {
-        return;
+        return false;
+    }
+    if values.len() < count as usize {
+        return false;
     }
     let mut seen = [0u16; 32];
     let mut noted = 0;
@@ -108,4 +109,5 @@ pub fn number_values(publics: u16, values: &[u16], count: u16, at: u16, out: &mu
         noted = turn.count;
         i += 1;
     }
+    true
 }

@@ -1,17 +1,17 @@
 -- The state that a marking shows, by the words that hold where threads stand and the values of names; and what reading answers.
-use mathlib.Core.Path.{_≡_, refl, sym, ap, subst, _∙_}
+use mathlib.Core.Path.{_≡_, refl, sym, ap, _∙_}
 use mathlib.Core.Logic.{_⊎_, inl, inr}
-use mathlib.Core.Bool.{Bool, true, false, not}
+use mathlib.Core.Bool.{Bool, true, false}
 use mathlib.Core.Option.{Option, none, some}
-use mathlib.Core.List.{List, [], _∷_, _++_, map}
-use Prim.Native.Nat.{ℕ, zero, suc, _+_, _-_, _≤_, _<_}
+use mathlib.Core.List.{List, [], _∷_, map}
+use Prim.Native.Nat.{ℕ, zero, suc, _+_, _≤_, _<_}
 use native.Mathlib.Decide.{decLt}
 use native.Mathlib.Omega.{arith}
 use lib.Dec.{ltb}
 use lib.ListN.{length, take, drop}
 use lib.Seq.{sets}
 use borrow.Author.Tests.{lt-ltb, le-ltb}
-use Rattle.lists.specs.Lists.{pick, same, word, from, range, member}
+use Rattle.lists.specs.Lists.{pick, same, from, range, member}
 use Rattle.lists.proofs.Tests.{same-self, same-no}
 use Rattle.lists.proofs.Ranges.{from-member}
 use Rattle.lists.proofs.Members.{member-here, member-there, member-drop}
@@ -25,24 +25,17 @@ use Rattle.net.specs.Firing.{isMarking}
 use Rattle.process.specs.States.{State, valueOf}
 use Rattle.process.specs.Steps.{passed}
 use Rattle.process.specs.StateWords.{stateWords, valueWords}
-use Rattle.process.specs.Outcomes.{Outcome, refusal, answered, written, checked}
-use Rattle.process.specs.Inner.Values.{valueAt}
+use Rattle.process.specs.Outcomes.{Outcome, refusal, answered}
 use Rattle.process.proofs.Sets.{sets-whole}
 use Rattle.process.proofs.Stepping.{state-words-length, state-written}
 use Rattle.places.specs.Places
 use Rattle.places.specs.Inner.Plan.{today}
-use Rattle.places.specs.Inner.Planning.{PlanRight}
-use Rattle.places.specs.declared.layout.Layout.{Layout}
-use Rattle.places.specs.declared.Planned.{Planned}
-use Rattle.places.specs.declared.Planned.the-variants as Planned
-use Rattle.table.specs.declared.Verdict.{Verdict}
-use Rattle.table.specs.Answer.{causeOf}
 use Rattle.places.proofs.Controls.{publics-are, bounds-are}
-use Rattle.readback.specs.Configurations.{Spot, spot, Configuration, nodeShown, nameShownAt, nameShown, stateShown}
+use Rattle.readback.specs.Configurations.{Spot, Configuration, nodeShown, nameShownAt, nameShown, stateShown}
 use Rattle.readback.specs.Reading.{marked, configuration, readBack}
-use Rattle.readback.specs.Answers.{readInto, laidOutcome, readOutcome}
+use Rattle.readback.specs.Answers.{laidOutcome, readOutcome}
 use Rattle.readback.specs.Inner.Showing.{spotAt, valueIn}
-use Rattle.readback.specs.Inner.Settling.{Ready, Settled, standsIn}
+use Rattle.readback.specs.Inner.Settling.{Settled, standsIn}
 use Rattle.readback.proofs.Stands.{read-at, read-value, read-public}
 
 map-within : {A : Type 0} (f g : ℕ → A) (xs : List ℕ) → ((x : ℕ) → member x xs ≡ true → f x ≡ g x) → map f xs ≡ map g xs
@@ -204,16 +197,9 @@ module _ (w m lent : List ℕ) (n : ℕ) (n-is : n ≡ length (Places.places (sc
 
 -- ---- the table's own verdict first
 
-module _ (w owners homes defs rows spots : List ℕ) (r : Planned) (h : PlanRight w owners homes defs rows spots r) where
-  pub plan-ready : (plan : Layout) → r ≡ Planned.Places plan → Ready w owners homes defs rows spots plan
-  plan-ready plan e = let k = subst (PlanRight w owners homes defs rows spots) e h in record { known = k .0; defined = k .1; laid = k .2 }
-
-  pub plan-refused : (m lent : List ℕ) (v : Verdict) → r ≡ Planned.Refused v → refusal (causeOf v) lent ≡ readOutcome w m lent
-  unfolding readOutcome
-  plan-refused m lent v e = let k = subst (PlanRight w owners homes defs rows spots) e h in rw (k .0, same-no (cause w) 0 (k .1))
-
-  pub plan-short : {A : Type 0} → r ≡ Planned.Short → 256 ≤ length owners → 256 ≤ length homes → 256 ≤ length defs → 64 ≤ length rows → 256 ≤ length spots → A
-  plan-short e a b c d f = absurd (subst (PlanRight w owners homes defs rows spots) e h a b c d f)
+pub read-refused : (w m lent : List ℕ) (n : ℕ) → (n ≡ cause w) × (cause w ≡ 0 → ⊥) → refusal n lent ≡ readOutcome w m lent
+unfolding readOutcome
+read-refused w m lent n k = rw (k .0, same-no (cause w) 0 (k .1))
 
 pub read-laid-out : (w m lent : List ℕ) (o : Outcome) → cause w ≡ 0 → o ≡ laidOutcome w m lent → o ≡ readOutcome w m lent
 unfolding readOutcome

@@ -1,37 +1,37 @@
 -- The names held at a control place, as the code lists them, and those held where the threads stand.
-use mathlib.Core.Path.{_≡_, refl, sym, ap, _∙_}
+use mathlib.Core.Path.{_≡_, sym, ap, _∙_}
 use mathlib.Core.Logic.{_⊎_, inl, inr}
-use mathlib.Core.Bool.{Bool, true, false}
-use mathlib.Core.List.{List, [], _∷_, _++_}
+use mathlib.Core.Bool.{true, false}
+use mathlib.Core.List.{List, _++_}
 use Prim.Native.Nat.{ℕ, suc, _+_, _-_, _≤_, _<_}
 use native.Mathlib.Omega.{arith}
 use lib.ListN.{length, take, drop}
 use lib.Seq.{slice}
-use Rattle.lists.specs.Lists.{word, same, from, range, flat}
+use Rattle.lists.specs.Lists.{word, same, from, flat}
 use Rattle.lists.proofs.Tests.{true-or-false, same-yes, same-true, false-true}
-use Rattle.lists.proofs.Ranges.{from-length, from-more, from-done, from-whole}
+use Rattle.lists.proofs.Ranges.{from-length, from-more, from-done}
 use Rattle.scheme.specs.Words.{nodes, threads, nodeKind, nodeFirst, isChoice, isNew, formalCount, formals}
-use Rattle.scheme.specs.Index.{heldIn, HeldNames}
+use Rattle.scheme.specs.Index.{heldAt, HeldNames}
 use Rattle.scheme.specs.Scheme.{Scheme, scheme}
 use Rattle.net.specs.Firing.{put}
-use Rattle.places.specs.Inner.Plan.{Known}
+use Rattle.table.specs.Known.{Known}
 use Rattle.places.proofs.ByWords.{stop-node, choice-node, new-node, call-node, other-call, formals-of, called-inside, held-of}
 use Rattle.places.proofs.NodeCounts.{names-fit, names-taken}
-use Rattle.readback.specs.Configurations.{Spot, spot, heldHere}
+use Rattle.readback.specs.Configurations.{spot, heldHere}
 use Rattle.readback.specs.Inner.Showing.{spotAt}
 use Rattle.readback.specs.Inner.Holding.{heldAll}
 use Rattle.readback.proofs.Marking.{put-append}
 
-module _ (w owners homes : List ℕ) (K : Known w owners homes) (n : ℕ) (l : n < nodes w) (k : ℕ) (before : List ℕ) (r : ℕ) (after : List ℕ)
-    (H : HeldNames (heldIn w owners homes n) before r after) (room : 64 ≤ length before) where
+module _ (w index : List ℕ) (K : Known w index) (n : ℕ) (l : n < nodes w) (k : ℕ) (before : List ℕ) (r : ℕ) (after : List ℕ)
+    (H : HeldNames (heldAt w index n) before r after) (room : 64 ≤ length before) where
   abbrev S : Scheme
   S = scheme w
 
   pub all-fit : r ≤ length after
-  all-fit = names-fit w owners homes K n l before r after H room
+  all-fit = names-fit w index K n l before r after H room
 
   taken : take r after ≡ S .held n
-  taken = names-taken w owners homes K n l before r after H room ∙ sym (held-of w (K .accepted) n)
+  taken = names-taken w index K n l before r after H room ∙ sym (held-of w (K .accepted) n)
 
   from-place : (i : ℕ) → slice i r after ≡ drop i (S .held n)
   from-place i = ap (drop i) taken

@@ -2,7 +2,7 @@
 use mathlib.Core.Path.{_≡_, refl, sym, ap, _∙_}
 use mathlib.Core.Bool.{Bool, true, false}
 use mathlib.Core.List.{List, [], _∷_, _++_, map, append-nil, append-assoc}
-use Prim.Native.Nat.{ℕ, zero, suc, _+_, _*_, _≤_, _<_}
+use Prim.Native.Nat.{ℕ, zero, suc, _+_, _-_, _*_, _≤_, _<_}
 use native.Mathlib.Decide.{ℕ-discrete}
 use native.Mathlib.Numerals.{add-one}
 use native.Mathlib.Omega.{arith}
@@ -12,22 +12,23 @@ use Rattle.lists.specs.Lists.{pick, same, word, from, range, every, flat}
 use Rattle.lists.proofs.Tests.{same-self, same-no}
 use Rattle.lists.proofs.Ranges.{from-snoc, from-member, every-same}
 use Rattle.scheme.specs.Words.{threads, nodes}
-use Rattle.scheme.specs.Index.{threadIn}
+use Rattle.scheme.specs.Index.{threadAt}
 use Rattle.scheme.specs.Scheme.{Scheme, scheme}
 use Rattle.table.proofs.Accepted.{accepted}
 use Rattle.places.specs.Held.{valuesFor}
 use Rattle.places.specs.Places.{controls}
 use Rattle.places.specs.Rows.{controlStart}
+use Rattle.places.specs.Plan.{nodesIn}
 use Rattle.places.specs.Inner.Plan.{controlOf}
-use Rattle.places.specs.declared.layout.Layout.{Layout}
-use Rattle.places.proofs.Controls.{controls-few}
+use Rattle.places.proofs.Controls.{few-nodes, controls-few}
+use Rattle.places.proofs.Plans.{node-is, thread-is}
 use Rattle.readback.specs.Configurations.{Spot, spot}
 use Rattle.readback.specs.Inner.Hits.{hits, FoundOf}
 use Rattle.readback.specs.Inner.Standing.{firstOf, spotsOn, spotsBelow, spotsAt, spotsRight}
 use Rattle.readback.specs.Inner.Noting.{Room, NotedAll, Noting, Seeking, SpotsFound}
 use Rattle.readback.specs.declared.found.Found.{Found}
 use Rattle.readback.proofs.Finding.{hits-few, hits-below}
-use Rattle.readback.proofs.Controls.{nodes-small, starts-at, controls-small}
+use Rattle.readback.proofs.Controls.{controls-next, controls-small}
 
 flat-last : {A : Type 0} (f : ℕ → List A) (xs : List ℕ) (y : ℕ) → flat f (xs ++ (y ∷ [])) ≡ flat f xs ++ f y
 unfolding flat
@@ -76,28 +77,33 @@ module _ (S : Scheme) (m : List ℕ) where
       go true = omega (arith, on-few n, h n)
       go false = omega arith
 
-module _ (w defs spots m counts places indexes : List ℕ) (plan : Layout) (n : ℕ) (N : Noting w defs spots plan m n counts places indexes)
-    (start count : ℕ) (f : Found) (from-is : start ≡ word spots n) (count-is : count ≡ controls (scheme w) n) where
+module _ (w index m counts places indexes : List ℕ) (n : ℕ) (N : Noting w index m n counts places indexes)
+    (start next : ℕ) (f : Found) (from-is : start ≡ word (nodesIn index) n) (next-is : next ≡ word (nodesIn index) (n + 1)) where
   abbrev S : Scheme
   S = scheme w
 
   abbrev hs : List ℕ
   hs = hits m (controlOf w n) (controls S n)
 
-  pub find-fits : count ≤ 65535
-  find-fits = omega (arith, count-is, controls-small w spots plan (N .placed) n (N .inside))
+  pub in-order : start ≤ next
+  in-order = omega (arith, from-is, next-is, controls-next w index (N .laid) n (N .inside))
 
-  module _ (F : FoundOf (hits m start count) f) where
+  pub find-fits : next - start ≤ 65535
+  find-fits = omega (arith, from-is, next-is, controls-next w index (N .laid) n (N .inside), controls-small w index (N .laid) n (N .inside))
+
+  module _ (F : FoundOf (hits m start (next - start)) f) where
     found-here : FoundOf hs f
-    found-here = rw (from-is ∙ starts-at w spots plan (N .placed) n (N .inside), count-is) at F
+    found-here =
+        let e : next - start ≡ controls S n = omega (arith, from-is, next-is, controls-next w index (N .laid) n (N .inside)) in
+        rw (e, from-is ∙ node-is w index (N .laid) n (omega (arith, N .inside))) at F
 
     pub index-small : (f .count ≡ 0 → ⊥) → f .first < 65536
     index-small h =
         let g = found-here in
-        omega (arith, g .first-is, hits-below m (controlOf w n) (controls S n) (λ q. h (g .count-is ∙ q)), controls-few w (N .placed .spotted .accepted) n)
+        omega (arith, g .first-is, hits-below m (controlOf w n) (controls S n) (λ q. h (g .count-is ∙ q)), controls-few w (N .laid .accepted) n)
 
     pub node-small : n < 65536
-    node-small = omega (arith, N .inside, nodes-small w spots plan (N .placed) n (N .inside))
+    node-small = omega (arith, N .inside, few-nodes w (N .laid .accepted))
 
     on-length : length (spotsOn S m n) ≡ f .count
     on-length = length-map hs (spot n) ∙ sym (found-here .count-is)
@@ -113,18 +119,17 @@ module _ (w defs spots m counts places indexes : List ℕ) (plan : Layout) (n : 
         go true = append-nil (spotsBelow S m n t)
         go false = append-nil (spotsBelow S m n t)
 
-    module _ (r : ℕ) (thread-is : r ≡ threadIn w defs n) where
+    module _ (r : ℕ) (thread-here : r ≡ threadAt w index n) where
       own-thread : r ≡ S .thread n
-      unfolding scheme
-      own-thread = thread-is ∙ rw (N .definition-in n (N .inside))
+      own-thread = thread-here ∙ thread-is w index (N .laid) n
 
       inside-thread : r < threads w
       unfolding scheme
-      inside-thread = rw own-thread (accepted w (N .placed .spotted .accepted) .thread-inside n)
+      inside-thread = rw own-thread (accepted w (N .laid .accepted) .thread-inside n)
 
       few-threads : threads w ≤ 8
       unfolding scheme
-      few-threads = accepted w (N .placed .spotted .accepted) .few-threads
+      few-threads = accepted w (N .laid .accepted) .few-threads
 
       pub sum-small : (before : ℕ) → before ≡ word counts r → before + f .count < 65536
       sum-small before e =
@@ -132,12 +137,12 @@ module _ (w defs spots m counts places indexes : List ℕ) (plan : Layout) (n : 
             arith,
             e,
             N .noted r inside-thread .count-is,
-            below-few S m (controls-few w (N .placed .spotted .accepted)) n r,
+            below-few S m (controls-few w (N .laid .accepted)) n r,
             on-length,
             on-few S m n,
-            controls-few w (N .placed .spotted .accepted) n,
+            controls-few w (N .laid .accepted) n,
             N .inside,
-            nodes-small w spots plan (N .placed) n (N .inside),
+            few-nodes w (N .laid .accepted),
           )
 
       -- another thread has nothing new
@@ -187,11 +192,10 @@ module _ (w defs spots m counts places indexes : List ℕ) (plan : Layout) (n : 
                 rw (other-thread t d, getD-set-other places r t n 0 d, getD-set-other indexes r t (f .first) 0 d) (N .noted t l .first-is)
 
 -- before any node nothing is noted
-pub noted-none : (w m defs spots counts places indexes : List ℕ) (plan : Layout) → Seeking w defs spots plan counts places indexes
-    → NotedAll w m 0 counts places indexes
+pub noted-none : (w index m counts places indexes : List ℕ) → Seeking w index counts places indexes → NotedAll w m 0 counts places indexes
 unfolding scheme
-noted-none w m defs spots counts places indexes plan s t l =
-    let few : threads w ≤ 8 = accepted w (s .placed .spotted .accepted) .few-threads in
+noted-none w index m counts places indexes s t l =
+    let few : threads w ≤ 8 = accepted w (s .laid .accepted) .few-threads in
     record {
       count-is = rw (below-none (scheme w) m t) (s .counts-clear t (omega arith));
       first-is = rw (below-none (scheme w) m t, s .places-clear t (omega arith), s .indexes-clear t (omega arith));

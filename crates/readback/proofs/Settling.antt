@@ -10,15 +10,16 @@ use Rattle.scheme.specs.Words.{names}
 use Rattle.scheme.specs.Scheme.{Scheme, scheme}
 use Rattle.net.specs.Firing.{isMarking, put}
 use Rattle.places.specs.Places
+use Rattle.places.specs.Plan.{placesAt, Laid}
 use Rattle.places.specs.Inner.Plan.{today, controlOf}
-use Rattle.places.specs.declared.layout.Layout.{Layout}
 use Rattle.places.proofs.Rows.{places-length}
 use Rattle.places.proofs.Controls.{nodes-are}
+use Rattle.places.proofs.Plans.{places-are}
 use Rattle.readback.specs.Inner.Standing.{spotsRight, valuesRight, heldBit, opposedAll, freedAll}
 use Rattle.readback.specs.Inner.Noting.{Seeking, SpotsFound}
 use Rattle.readback.specs.Inner.Showing.{AtNodes}
 use Rattle.readback.specs.Inner.Holding.{heldAll, ValuesBelow}
-use Rattle.readback.specs.Inner.Settling.{Ready, standsIn, Settles}
+use Rattle.readback.specs.Inner.Settling.{standsIn, Settles}
 use Rattle.readback.proofs.Stands.{stands-is}
 use Rattle.readback.proofs.Owning.{at-nodes, held-bits}
 
@@ -27,26 +28,25 @@ clear-word zero t = refl
 clear-word (suc n) zero = refl
 clear-word (suc n) (suc t) = clear-word n t
 
-module _ (w owners homes defs rows spots : List ℕ) (plan : Layout) (Y : Ready w owners homes defs rows spots plan) where
-  pub clear-seeking : Seeking w defs spots plan (replicate 8 0) (replicate 8 0) (replicate 8 0)
+module _ (w index : List ℕ) (L : Laid w index) where
+  pub clear-seeking : Seeking w index (replicate 8 0) (replicate 8 0) (replicate 8 0)
   clear-seeking = record {
-    placed = record { spotted = Y .laid .spotted; places-are = Y .laid .places-are };
-    definition-in = Y .defined .definition-in;
+    laid = L;
     room = record { counts-enough = omega arith; places-enough = omega arith; indexes-enough = omega arith };
     counts-clear = λ t l. clear-word 8 t;
     places-clear = λ t l. clear-word 8 t;
     indexes-clear = λ t l. clear-word 8 t;
   }
 
-  pub count-is : plan .places ≡ length (Places.places (scheme w) (today w))
-  count-is = Y .laid .places-are ∙ ap (controlOf w) (sym (nodes-are w)) ∙ sym (places-length (scheme w) (today w))
+  pub count-is : (n : ℕ) → n ≡ word index placesAt → n ≡ length (Places.places (scheme w) (today w))
+  count-is n e = e ∙ places-are w index L ∙ ap (controlOf w) (sym (nodes-are w)) ∙ sym (places-length (scheme w) (today w))
 
-  module _ (m : List ℕ) (h : isMarking (plan .places) m ≡ true) where
+  module _ (m : List ℕ) (h : isMarking (word index placesAt) m ≡ true) where
     abbrev S : Scheme
     S = scheme w
 
     pub here : isMarking (length (Places.places S (today w))) m ≡ true
-    here = rw (← count-is) h
+    here = rw (← count-is (word index placesAt) refl) h
 
     tests : standsIn w m ≡ (spotsRight S m && (valuesRight S m (heldBit S m) && (opposedAll S m && freedAll S m)))
     tests = stands-is S m here
@@ -56,11 +56,11 @@ module _ (w owners homes defs rows spots : List ℕ) (plan : Layout) (Y : Ready 
 
     module _ (places indexes : List ℕ) (e : spotsRight S m ≡ true) (f : SpotsFound w m places indexes) where
       pub stand-at : AtNodes w places
-      stand-at = at-nodes w m places indexes (Y .known .accepted) e f
+      stand-at = at-nodes w m places indexes (L .accepted) e f
 
       module _ (held : List ℕ) (marks : held ≡ put 1 (replicate 64 0) (heldAll w places indexes)) where
         right-values : (b : Bool) → b ≡ valuesRight S m (word held) → valuesRight S m (heldBit S m) ≡ b
-        right-values b q = sym (q ∙ held-bits w m places indexes (Y .known .accepted) e f held marks)
+        right-values b q = sym (q ∙ held-bits w m places indexes (L .accepted) e f held marks)
 
         pub no-values : (values : List ℕ) (b : Bool) → b ≡ valuesRight S m (word held) → b ≡ false → Settles w m false places indexes values
         no-values values b q z = (sym (tests ∙ rw (e, right-values b q, z)), λ q. absurd (false≢true q))

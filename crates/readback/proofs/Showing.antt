@@ -10,29 +10,27 @@ use native.Mathlib.Omega.{arith}
 use lib.ListN.{take, drop}
 use lib.Seq.{take-all, take-at}
 use borrow.Author.Tests.{lt-ltb, le-ltb}
-use Rattle.lists.specs.Lists.{pick, same, word, from, range, member}
+use Rattle.lists.specs.Lists.{pick, same, word, from, member}
 use Rattle.lists.proofs.Tests.{same-yes, same-no, not-true-false}
 use Rattle.lists.proofs.Ranges.{from-length, from-append, member-from, from-member}
 use Rattle.lists.proofs.Members.{member-take}
-use Rattle.scheme.specs.Words.{publics, bounds, names, threads, nodes, definitions, nodeKind, nodeFirst, nodeSecond}
-use Rattle.scheme.specs.Words.{root, firstFormal, formalCount, formals, arguments, argument, argumentsOf}
-use Rattle.table.specs.Causes.{cause}
-use Rattle.scheme.specs.Scheme.{Node, stop, choice, new, call, scheme, binderOf}
-use Rattle.scheme.specs.Index.{binderNumber, binderThreadIn}
+use Rattle.scheme.specs.Words.{publics, names, threads, nodes, definitions, nodeKind, nodeFirst, nodeSecond}
+use Rattle.scheme.specs.Words.{root, firstFormal, formalCount, formals, arguments, argument, argumentsOf, Number}
+use Rattle.scheme.specs.Scheme.{Node, stop, choice, new, call, scheme}
+use Rattle.scheme.specs.Index.{nameThreadAt}
 use Rattle.scheme.specs.Kinds.{isStop, isCall}
 use Rattle.table.proofs.Accepted.{accepted}
-use Rattle.table.proofs.NameThreads.{name-thread-in}
-use Rattle.scheme.proofs.Scatter.{word-range}
+use Rattle.table.specs.Known.{Known}
+use Rattle.table.proofs.Lookup.{name-thread-right}
 use Rattle.process.specs.States.{valueOf}
 use Rattle.process.specs.Steps.{passed}
-use Rattle.process.specs.Inner.Values.{Number, Valued, valueAt}
+use Rattle.process.specs.Inner.Values.{Valued, valueAt}
 use Rattle.process.proofs.Taking.{passed-below, passed-above, passed-inside}
 use Rattle.process.proofs.Decoding.{call-there}
-use Rattle.places.specs.Inner.Plan.{Defined}
 use Rattle.places.proofs.ByWords.{other-call, stop-node, choice-node, new-node, call-node}
 use Rattle.places.proofs.ByWords.{called-inside, formals-of, arguments-of, arguments-inside, argument-inside}
 use Rattle.readback.specs.Configurations.{spot, nodeShownAt, nodeShown, nameShownAt, nameShown}
-use Rattle.readback.specs.Inner.Showing.{AtNodes, spotAt, valueIn, NodeOf, CallOf, Bindings}
+use Rattle.readback.specs.Inner.Showing.{AtNodes, spotAt, valueIn, NodeOf, CallOf}
 
 -- where a thread stands and which value a name has in the state that lent words show
 abbrev pub shownNode : List ℕ → List ℕ → List ℕ → ℕ → ℕ
@@ -283,26 +281,25 @@ module _ (w values : List ℕ) (y : ℕ) where
 
 -- ---- the value of a bound name
 
-module _ (w homes defs binders nodes indexes : List ℕ) (x : ℕ) (B : Bindings w homes defs binders nodes) (low : publics w ≤ x) (high : x < names w) where
+module _ (w index nodes indexes : List ℕ) (x : ℕ) (K : Known w index) (at : AtNodes w nodes) (low : publics w ≤ x) (high : x < names w) where
   name-few : x < 65535
   unfolding scheme
-  name-few = omega (arith, accepted w (B .defined .accepted) .few-publics, accepted w (B .defined .accepted) .few-bounds)
+  name-few = omega (arith, accepted w (K .accepted) .few-publics, accepted w (K .accepted) .few-bounds)
 
   thread-few : scheme w .nameThread x < threads w
   unfolding scheme
-  thread-few = accepted w (B .defined .accepted) .name-thread x low high
+  thread-few = accepted w (K .accepted) .name-thread x low high
 
   thread-inside : scheme w .nameThread x < scheme w .threads
   unfolding scheme
-  thread-inside = accepted w (B .defined .accepted) .name-thread x low high
+  thread-inside = accepted w (K .accepted) .name-thread x low high
 
-  module _ (t : ℕ) (e : t ≡ binderThreadIn w homes defs (word binders x)) where
+  module _ (t : ℕ) (e : t ≡ nameThreadAt w index x) where
     pub thread-is : t ≡ scheme w .nameThread x
-    thread-is =
-        e ∙ rw (B .bound x high) (name-thread-in w homes defs (B .defined .accepted) (B .defined .home-in) (B .defined .definition-in) x)
+    thread-is = e ∙ name-thread-right w (K .accepted) index (K .right) x
 
     pub stands : (n : ℕ) → n ≡ word nodes t → NodeOf w n × (x < 65535)
-    stands n f = (record { accepted = B .defined .accepted; inside = rw f (B .at-nodes t (omega (arith, thread-is, thread-few))) }, name-few)
+    stands n f = (record { accepted = K .accepted; inside = rw f (at t (omega (arith, thread-is, thread-few))) }, name-few)
 
     pub name-valued : (values : List ℕ) (n k y r : ℕ) → n ≡ word nodes t → k ≡ word indexes t
         → Valued (nameShownAt (scheme w) (scheme w .node n) n k x) y → Valued (valueOf (valueIn w values) (valueAt y)) r
@@ -311,23 +308,3 @@ module _ (w homes defs binders nodes indexes : List ℕ) (x : ℕ) (B : Bindings
         let q : nameShown (scheme w) (spotAt nodes indexes) x ≡ valueAt y =
         rw (lt-ltb (scheme w .nameThread x) (scheme w .threads) thread-inside, ← thread-is, ← f, ← g) (u .is) in
         record { is = rw q (v .is); small = v .small }
-
--- ---- the binders of all names
-
-pub few-publics : (w : List ℕ) → cause w ≡ 0 → publics w ≤ 32
-unfolding scheme
-few-publics w h = accepted w h .few-publics
-
-pub few-bounds : (w : List ℕ) → cause w ≡ 0 → bounds w ≤ 32
-unfolding scheme
-few-bounds w h = accepted w h .few-bounds
-
-pub bindings : (w homes defs binders nodes : List ℕ) → Defined w homes defs → AtNodes w nodes
-    → binders ≡ map (λ x. binderNumber (binderOf w x)) (range 64) → Bindings w homes defs binders nodes
-bindings w homes defs binders nodes D at e =
-    record {
-      defined = D;
-      bound =
-          λ x h. rw e (word-range (λ y. binderNumber (binderOf w y)) 64 x (omega (arith, few-publics w (D .accepted), few-bounds w (D .accepted))));
-      at-nodes = at;
-    }

@@ -11,14 +11,15 @@ use lib.Seq.{getD-set-same, getD-set-other}
 use Rattle.lists.specs.Lists.{pick, bit, same, word, from, range, every, keep}
 use Rattle.lists.proofs.Tests.{same-self, same-yes, same-no}
 use Rattle.lists.proofs.Ranges.{from-more, from-done}
-use Rattle.scheme.specs.Words.{publics, bounds, names}
+use Rattle.scheme.specs.Words.{publics, bounds}
 use Rattle.scheme.specs.Scheme.{Scheme, scheme}
+use Rattle.table.specs.Causes.{cause}
 use Rattle.process.specs.Inner.Values.{valueAt}
 use Rattle.places.specs.Held.{valuesFor}
 use Rattle.places.specs.Rows.{rowStart}
-use Rattle.places.specs.Inner.Plan.{Rowed}
-use Rattle.places.specs.declared.layout.Layout.{Layout}
-use Rattle.places.proofs.Controls.{publics-are, bounds-are}
+use Rattle.places.specs.Plan.{privatesAt, freeAt, rowsIn, Laid}
+use Rattle.places.proofs.Controls.{publics-are, bounds-are, few-publics, few-bounds}
+use Rattle.places.proofs.Plans.{row-is, privates-are, free-is, few-counted}
 use Rattle.readback.specs.Inner.Hits.{token, hits, FoundOf}
 use Rattle.readback.specs.Inner.Standing.{valueOf, justOne, lowest, valuesAt, valueRight, valuesRight, opposedFor, opposedAll}
 use Rattle.readback.specs.Inner.Standing.{holdsAt, holdersAt, wantedAt, freedFor, freedAll}
@@ -41,25 +42,26 @@ lowest-few S x = go (S .restricted x)
     go true = omega arith
     go false = omega arith
 
-module _ (w rows m held : List ℕ) (plan : Layout) (R : Rowed w rows plan) (x : ℕ) (nm : IsName w x) (low : ℕ) (low-is : low ≡ lowest (scheme w) x) where
+module _ (w index m held : List ℕ) (L : Laid w index) (x : ℕ) (nm : IsName w x) (low : ℕ) (low-is : low ≡ lowest (scheme w) x) (P N : ℕ) (P-is : P ≡ publics w)
+    (N-is : N ≡ word index privatesAt) where
   abbrev S : Scheme
   S = scheme w
 
-  pub low-few : low ≤ plan .publics
-  low-few = omega (arith, low-is, lowest-few S x, publics-are w, R .publics-are)
+  pub low-few : low ≤ P
+  low-few = omega (arith, low-is, lowest-few S x, publics-are w, P-is)
 
-  pub plan-few : plan .publics + plan .privates ≤ 64
-  plan-few = omega (arith, R .publics-are, R .privates-are, R .few-publics, R .few-privates)
+  pub values-few : P + N ≤ 64
+  values-few = omega (arith, P-is, N-is, few-publics w (L .accepted), few-counted w index L)
 
-  module _ (start : ℕ) (start-is : start ≡ word rows x) (f : Found) (F : FoundOf (hits m start (plan .publics + plan .privates - low)) f) where
+  module _ (start : ℕ) (start-is : start ≡ word (rowsIn index) x) (f : Found) (F : FoundOf (hits m start (P + N - low)) f) where
     abbrev hs : List ℕ
     hs = hits m (rowStart S (valuesFor S) x) (S .publics + valuesFor S .privates - lowest S x)
 
     found-here : FoundOf hs f
     found-here =
-        let e : plan .publics + plan .privates - low ≡ S .publics + valuesFor S .privates - lowest S x
-        = omega (arith, low-is, R .publics-are, R .privates-are, publics-are w) in
-        rw (start-is ∙ R .row-is x (nm .0) (nm .1), e) at F
+        let e : P + N - low ≡ S .publics + valuesFor S .privates - lowest S x
+        = omega (arith, low-is, P-is, N-is, privates-are w index L, publics-are w) in
+        rw (start-is ∙ row-is w index L x (nm .0) (nm .1), e) at F
 
     length-is : length (valuesAt S m x) ≡ f .count
     unfolding valuesAt
@@ -87,9 +89,10 @@ module _ (w rows m held : List ℕ) (plan : Layout) (R : Rowed w rows plan) (x :
           hits-below m (rowStart S (valuesFor S) x) (S .publics + valuesFor S .privates - lowest S x) (λ q. d (found-here .count-is ∙ q)),
           low-is,
           lowest-few S x,
-          plan-few,
-          R .publics-are,
-          R .privates-are,
+          values-few,
+          P-is,
+          N-is,
+          privates-are w index L,
           publics-are w,
         )
 
@@ -114,52 +117,50 @@ values-more w m before after x l h f y lo hi = go (ℕ-discrete y x)
 
 -- ---- the tests of rows
 
-module _ (w rows : List ℕ) (plan : Layout) (R : Rowed w rows plan) (m : List ℕ) where
-  pub end-is : plan .publics + plan .bounds ≡ names w
-  end-is = omega (arith, R .publics-are, R .bounds-are)
+module _ (w m : List ℕ) (P B : ℕ) (P-is : P ≡ publics w) (B-is : B ≡ bounds w) where
+  pub end-few : cause w ≡ 0 → P + B ≤ 64
+  end-few ok = omega (arith, P-is, B-is, few-publics w ok, few-bounds w ok)
 
-  pub end-few : plan .publics + plan .bounds ≤ 64
-  end-few = omega (arith, R .publics-are, R .bounds-are, R .few-publics, R .few-bounds)
-
-  pub is-name : (x e : ℕ) → e ≡ plan .publics + plan .bounds → plan .publics ≤ x → x < e → IsName w x
-  is-name x e q l h = (omega (arith, R .publics-are), omega (arith, end-is))
+  pub is-name : (x : ℕ) → P ≤ x → x < P + B → IsName w x
+  is-name x l h = (omega (arith, P-is), omega (arith, P-is, B-is))
 
   -- the bound names from the first on
-  from-first : (e : ℕ) → e ≡ plan .publics + plan .bounds → from (scheme w .publics) (scheme w .bounds) ≡ from (plan .publics) (e - plan .publics)
-  from-first e q =
-      let a : scheme w .publics ≡ plan .publics = omega (arith, R .publics-are, publics-are w) in
-      let b : scheme w .bounds ≡ e - plan .publics = omega (arith, R .bounds-are, bounds-are w) in
+  from-first : from (scheme w .publics) (scheme w .bounds) ≡ from P (P + B - P)
+  from-first =
+      let a : scheme w .publics ≡ P = omega (arith, P-is, publics-are w) in
+      let b : scheme w .bounds ≡ P + B - P = omega (arith, B-is, bounds-are w) in
       rw (a, b)
 
-  pub values-start : (h : ℕ → ℕ) (e : ℕ) → e ≡ plan .publics + plan .bounds
-      → valuesRight (scheme w) m h ≡ every (valueRight (scheme w) m h) (from (plan .publics) (e - plan .publics))
+  pub values-start : (h : ℕ → ℕ) → valuesRight (scheme w) m h ≡ every (valueRight (scheme w) m h) (from P (P + B - P))
   unfolding valuesRight
-  values-start h e q = ap (every (valueRight (scheme w) m h)) (from-first e q)
+  values-start h = ap (every (valueRight (scheme w) m h)) from-first
 
-  pub opposed-start : (e : ℕ) → e ≡ plan .publics + plan .bounds
-      → opposedAll (scheme w) m ≡ every (opposedFor (scheme w) m) (from (plan .publics) (e - plan .publics))
+  pub opposed-start : opposedAll (scheme w) m ≡ every (opposedFor (scheme w) m) (from P (P + B - P))
   unfolding opposedAll
-  opposed-start e q = ap (every (opposedFor (scheme w) m)) (from-first e q)
+  opposed-start = ap (every (opposedFor (scheme w) m)) from-first
 
-  pub holders-start : (n e : ℕ) → e ≡ plan .publics + plan .bounds
-      → length (holdersAt (scheme w) m n) ≡ 0 + length (keep (holdsAt (scheme w) m n) (from (plan .publics) (e - plan .publics)))
-  holders-start n e q = rw (from-first e q) (omega arith)
+  pub holders-start : (n : ℕ) → length (holdersAt (scheme w) m n) ≡ 0 + length (keep (holdsAt (scheme w) m n) (from P (P + B - P)))
+  holders-start n = rw from-first (omega arith)
 
-  pub freed-start : freedAll (scheme w) m ≡ every (freedFor (scheme w) m) (from 0 (plan .privates - 0))
+module _ (w index : List ℕ) (L : Laid w index) (m : List ℕ) (N : ℕ) (N-is : N ≡ word index privatesAt) where
+  pub freed-start : freedAll (scheme w) m ≡ every (freedFor (scheme w) m) (from 0 (N - 0))
   unfolding freedAll
-  freed-start = let b : valuesFor (scheme w) .privates ≡ plan .privates - 0 = omega (arith, R .privates-are) in rw b
+  freed-start = let b : valuesFor (scheme w) .privates ≡ N - 0 = omega (arith, N-is, privates-are w index L) in rw b
 
-  pub opposed-is : (x row : ℕ) → IsName w x → row ≡ word rows x → scheme w .restricted x ≡ false
-      → every (λ i. justOne (token m (row + plan .publics + i)) (token m (row + plan .publics + plan .privates + i))) (range (plan .privates))
-      ≡ opposedFor (scheme w) m x
-  opposed-is x row nm e r =
-      let a : plan .publics ≡ scheme w .publics = omega (arith, R .publics-are, publics-are w) in
-      let b : plan .privates ≡ valuesFor (scheme w) .privates = R .privates-are in
-      rw (e ∙ R .row-is x (nm .0) (nm .1), a, b, r)
+  pub private-few : N ≤ 32
+  private-few = omega (arith, N-is, few-counted w index L)
 
-  pub wanted-is : (n : ℕ) → pick (token m (plan .free + n)) 0 1 ≡ wantedAt (scheme w) m n
-  wanted-is n = rw (R .free-is)
+  pub opposed-is : (P x row : ℕ) → P ≡ publics w → IsName w x → row ≡ word (rowsIn index) x → scheme w .restricted x ≡ false
+      → every (λ i. justOne (token m (row + P + i)) (token m (row + P + N + i))) (range N) ≡ opposedFor (scheme w) m x
+  opposed-is P x row P-is nm e r =
+      let a : P ≡ scheme w .publics = omega (arith, P-is, publics-are w) in
+      let b : N ≡ valuesFor (scheme w) .privates = N-is ∙ privates-are w index L in
+      rw (e ∙ row-is w index L x (nm .0) (nm .1), a, b, r)
 
+  pub wanted-is : (n : ℕ) → pick (token m (word index freeAt + n)) 0 1 ≡ wantedAt (scheme w) m n
+  wanted-is n = rw (free-is w index L)
+
+module _ (w m : List ℕ) where
   -- one name more
   pub holders-more : (n x e count next : ℕ) → x < e → next ≡ count + bit (holdsAt (scheme w) m n x)
       → count + length (keep (holdsAt (scheme w) m n) (from x (e - x))) ≡ next + length (keep (holdsAt (scheme w) m n) (from (x + 1) (e - (x + 1))))

@@ -1,6 +1,7 @@
 // Reading a marking back: the words of the state that it stands for.
 ghost use mathlib.Core.Path.{_≡_};
-ghost use Rattle.readback.specs.Inner.Settling.{Ready, Settling, Settles};
+ghost use Rattle.places.specs.Plan.{Laid};
+ghost use Rattle.readback.specs.Inner.Settling.{Settling, Settles};
 ghost use Rattle.readback.specs.Answers.{outcomeOf, laidOutcome, readOutcome};
 
 mod found;
@@ -10,7 +11,8 @@ mod spots;
 
 use lists::word16;
 use places::Planned;
-use places::layout::Layout;
+use places::lookup::SIZE;
+use places::lookup::place_count;
 
 // What `read` did: how many words it wrote, or what it refuses: the table, bytes that are no marking of its net, a
 // marking that stands for no state, a lent output that is too short.
@@ -25,53 +27,37 @@ pub enum Answer {
 // Whether a marking stands for a state. Fills in where the threads stand, and the values of bound names.
 fn stands_for(
     table: &[u16],
-    owners: &[u32],
-    homes: &[u32],
-    definitions: &[u16],
-    rows: &[u32],
-    spots: &[u32],
-    plan: Layout,
+    index: &[u32],
     marking: &[u8],
     places: &mut [u32],
     indexes: &mut [u32],
     values: &mut [u16],
 ) -> bool
-    requires { ⌜ Settling (now table) (now owners) (now homes) (now definitions)
-        (now rows) (now spots) plan (now marking) (now places) (now indexes) (now values) ⌝ }
+    requires { ⌜ Settling (now table) (now index) (now marking) (now places) (now indexes) (now values) ⌝ }
     ensures { λ r. ⌜ Settles (now (table .entry)) (now (marking .entry)) r
         (now (places .exit)) (now (indexes .exit)) (now (values .exit)) ⌝ }
 {
-    if !spots::find_spots(table, definitions, spots, plan, marking, places, indexes) {
+    if !spots::find_spots(table, index, marking, places, indexes) {
         return false;
     }
     let mut held = [0u8; 64];
-    names::mark_all(table, owners, homes, places, indexes, &mut held);
-    if !names::find_values(table, rows, plan, marking, &held, values) {
+    names::mark_all(table, index, places, indexes, &mut held);
+    if !names::find_values(table, index, marking, &held, values) {
         return false;
     }
-    if !names::opposed(table, rows, plan, marking) {
+    if !names::opposed(table, index, marking) {
         return false;
     }
-    names::freed(table, rows, plan, marking)
+    names::freed(table, index, marking)
 }
 
 // Reads a marking of a table that is laid out.
-fn read_laid(
-    table: &[u16],
-    owners: &[u32],
-    homes: &[u32],
-    definitions: &[u16],
-    rows: &[u32],
-    spots: &[u32],
-    plan: Layout,
-    marking: &[u8],
-    state: &mut [u16],
-) -> Answer
-    requires { ⌜ Ready (now table) (now owners) (now homes) (now definitions) (now rows) (now spots) plan ⌝ }
+fn read_laid(table: &[u16], index: &[u32], marking: &[u8], state: &mut [u16]) -> Answer
+    requires { ⌜ Laid (now table) (now index) ⌝ }
     ensures { λ r. ⌜ outcomeOf r (now (state .exit))
         ≡ laidOutcome (now (table .entry)) (now (marking .entry)) (now (state .entry)) ⌝ }
 {
-    if !net::marking_right(marking, plan.places) {
+    if !net::marking_right(marking, place_count(index)) {
         return Answer::NoMarking;
     }
     let mut places = [0u32; 8];
@@ -79,12 +65,7 @@ fn read_laid(
     let mut values = [0u16; 64];
     if !stands_for(
         table,
-        owners,
-        homes,
-        definitions,
-        rows,
-        spots,
-        plan,
+        index,
         marking,
         &mut places,
         &mut indexes,
@@ -97,7 +78,7 @@ fn read_laid(
         return Answer::NoRoom;
     }
     shown::write_nodes(table, &places, &indexes, state);
-    shown::write_values(table, homes, definitions, &places, &indexes, &values, state);
+    shown::write_values(table, index, &places, &indexes, &values, state);
     Answer::Done(size)
 }
 
@@ -106,30 +87,9 @@ pub fn read(table: &[u16], marking: &[u8], state: &mut [u16]) -> Answer
     ensures { λ r. ⌜ outcomeOf r (now (state .exit))
         ≡ readOutcome (now (table .entry)) (now (marking .entry)) (now (state .entry)) ⌝ }
 {
-    let mut owners = [0u32; 256];
-    let mut homes = [0u32; 256];
-    let mut definitions = [0u16; 256];
-    let mut rows = [0u32; 64];
-    let mut spots = [0u32; 256];
-    match places::plan(
-        table,
-        &mut owners,
-        &mut homes,
-        &mut definitions,
-        &mut rows,
-        &mut spots,
-    ) {
-        Planned::Places(plan) => read_laid(
-            table,
-            &owners,
-            &homes,
-            &definitions,
-            &rows,
-            &spots,
-            plan,
-            marking,
-            state,
-        ),
+    let mut index = [0u32; SIZE];
+    match places::plan(table, &mut index) {
+        Planned::Ready => read_laid(table, &index, marking, state),
         Planned::Refused(verdict) => Answer::Refused(verdict),
         Planned::Short => Answer::NoRoom,
     }

@@ -10,7 +10,8 @@ ghost use Rattle.lists.specs.Lists.{pick, bit, word, from, range, every};
 ghost use Rattle.scheme.specs.Words.{names, nodes, nodeFirst, formalCount, formals};
 ghost use Rattle.scheme.specs.Scheme.{scheme};
 ghost use Rattle.net.specs.Firing.{put};
-ghost use Rattle.places.specs.Inner.Plan.{Known, Rowed, RowsBelow};
+ghost use Rattle.table.specs.Known.{Known};
+ghost use Rattle.places.specs.Plan.{freeAt, Laid};
 ghost use Rattle.readback.specs.Configurations.{spot, heldHere};
 ghost use Rattle.readback.specs.Inner.Hits.{token};
 ghost use Rattle.readback.specs.Inner.Standing.{justOne, lowest, valueRight, valuesRight};
@@ -24,10 +25,13 @@ use lists::store16;
 use lists::word8;
 use lists::word16;
 use lists::word32;
-use places::layout::Layout;
+use places::lookup::free_start;
+use places::lookup::privates;
+use places::lookup::row_start;
 use scheme::fields::field3;
 use scheme::fields::field4;
 use scheme::fields::name_kind;
+use scheme::lookup::held_names;
 
 // a - b, 0 where b is more.
 fn less(a: usize, b: usize) -> usize
@@ -72,46 +76,35 @@ fn mark_span(first: usize, count: usize, held: &mut [u8])
     }
 }
 
-// Marks the names held at control place `index` of a Call: the formals copied, then the names of the caller not
+// Marks the names held at control place k of a Call: the formals copied, then the names of the caller not
 // released.
-fn mark_call(table: &[u16], node: usize, index: usize, names: &[u32], count: usize, held: &mut [u8])
+fn mark_call(table: &[u16], node: usize, k: usize, names: &[u32], count: usize, held: &mut [u8])
     requires { ⌜ count ≤ length (now names) ⌝ }
     ensures { λ r. ⌜ now (held .exit) ≡ put 1 (now (held .entry))
-        (take (index - 1) (formals (now (table .entry)) (nodeFirst (now (table .entry)) node))
-        ++ slice (index - (1 + formalCount (now (table .entry)) (nodeFirst (now (table .entry)) node))) count
+        (take (k - 1) (formals (now (table .entry)) (nodeFirst (now (table .entry)) node))
+        ++ slice (k - (1 + formalCount (now (table .entry)) (nodeFirst (now (table .entry)) node))) count
         (now (names .entry))) ⌝ }
 {
     let d = field3(table, 10, node, 1);
     let formals = field4(table, 8, d, 3);
-    mark_span(
-        field4(table, 8, d, 2),
-        smaller(less(index, 1), formals),
-        held,
-    );
-    mark_names(names, less(index, 1 + formals), count, held);
+    mark_span(field4(table, 8, d, 2), smaller(less(k, 1), formals), held);
+    mark_names(names, less(k, 1 + formals), count, held);
 }
 
-// Marks the names held at control place `index` of a node.
-fn mark_held(
-    table: &[u16],
-    owners: &[u32],
-    homes: &[u32],
-    node: usize,
-    index: usize,
-    held: &mut [u8],
-)
-    requires { ⌜ Known (now table) (now owners) (now homes) × (node < nodes (now table)) ⌝ }
+// Marks the names held at control place k of a node.
+fn mark_held(table: &[u16], index: &[u32], node: usize, k: usize, held: &mut [u8])
+    requires { ⌜ Known (now table) (now index) × (node < nodes (now table)) ⌝ }
     ensures { λ r. ⌜ now (held .exit)
-        ≡ put 1 (now (held .entry)) (heldHere (scheme (now (table .entry))) (spot node index)) ⌝ }
+        ≡ put 1 (now (held .entry)) (heldHere (scheme (now (table .entry))) (spot node k)) ⌝ }
 {
     let mut names = [0u32; 64];
-    let count = scheme::index::held_names(table, owners, homes, node as u8, &mut names);
+    let count = held_names(table, index, node as u8, &mut names);
     let kind = field3(table, 10, node, 0);
     if kind == 0 {
-        return mark_names(&names, index, count, held);
+        return mark_names(&names, k, count, held);
     }
     if kind == 3 {
-        return mark_call(table, node, index, &names, count, held);
+        return mark_call(table, node, k, &names, count, held);
     }
     mark_names(&names, 0, count, held);
 }
@@ -119,27 +112,19 @@ fn mark_held(
 // Marks the names held where the threads stand.
 pub(crate) fn mark_all(
     table: &[u16],
-    owners: &[u32],
-    homes: &[u32],
+    index: &[u32],
     places: &[u32],
     indexes: &[u32],
     held: &mut [u8],
 )
-    requires { ⌜ Known (now table) (now owners) (now homes) × AtNodes (now table) (now places) ⌝ }
+    requires { ⌜ Known (now table) (now index) × AtNodes (now table) (now places) ⌝ }
     ensures { λ r. ⌜ now (held .exit)
         ≡ put 1 (now (held .entry)) (heldAll (now (table .entry)) (now (places .entry)) (now (indexes .entry))) ⌝ }
 {
     let threads = word16(table, 3);
     let mut t = 0;
     while t < threads {
-        mark_held(
-            table,
-            owners,
-            homes,
-            word32(places, t),
-            word32(indexes, t),
-            held,
-        );
+        mark_held(table, index, word32(places, t), word32(indexes, t), held);
         t += 1;
     }
 }
@@ -166,14 +151,13 @@ fn low_value(table: &[u16], name: usize) -> usize
 // Fills in a name's marked value, 65535 where it has none. Whether it has one just if it is held.
 fn find_value(
     table: &[u16],
-    rows: &[u32],
-    plan: Layout,
+    index: &[u32],
     marking: &[u8],
     held: &[u8],
     values: &mut [u16],
     name: usize,
 ) -> bool
-    requires { ⌜ Rowed (now table) (now rows) plan × IsName (now table) name ⌝ }
+    requires { ⌜ Laid (now table) (now index) × IsName (now table) name ⌝ }
     ensures { λ r. ⌜ (r ≡ valueRight (scheme (now (table .entry))) (now (marking .entry)) (word (now (held .entry)))
         name)
         × (r ≡ true → Filled (now (table .entry)) (now (marking .entry)) name (now (values .entry))
@@ -182,8 +166,8 @@ fn find_value(
     let low = low_value(table, name);
     let f = find(
         marking,
-        word32(rows, name),
-        plan.publics + plan.privates - low,
+        row_start(index, name),
+        word16(table, 0) + privates(index) - low,
     );
     if f.count != word8(held, name) {
         return false;
@@ -238,11 +222,11 @@ fn plus(count: usize, more: bool) -> usize
 }
 
 // How many restricted names are to have private value n: none where [*≠n] is marked, else one.
-fn wanted(plan: Layout, marking: &[u8], n: usize) -> usize
-    requires { ⌜ (plan .free ≤ 3072) × (n < 65536) ⌝ }
-    ensures { λ r. ⌜ r ≡ pick (token (now (marking .entry)) (plan .free + n)) 0 1 ⌝ }
+fn wanted(index: &[u32], marking: &[u8], n: usize) -> usize
+    requires { ⌜ n < 65536 ⌝ }
+    ensures { λ r. ⌜ r ≡ pick (token (now (marking .entry)) (word (now (index .entry)) freeAt + n)) 0 1 ⌝ }
 {
-    if is_marked(marking, plan.free + n) {
+    if is_marked(marking, free_start(index) + n) {
         return 0;
     }
     1
@@ -251,21 +235,21 @@ fn wanted(plan: Layout, marking: &[u8], n: usize) -> usize
 // The marked value of each bound name. Whether each has one just if it is held.
 pub(crate) fn find_values(
     table: &[u16],
-    rows: &[u32],
-    plan: Layout,
+    index: &[u32],
     marking: &[u8],
     held: &[u8],
     values: &mut [u16],
 ) -> bool
-    requires { ⌜ Rowed (now table) (now rows) plan × (64 ≤ length (now values)) ⌝ }
+    requires { ⌜ Laid (now table) (now index) × (64 ≤ length (now values)) ⌝ }
     ensures { λ r. ⌜ (r ≡ valuesRight (scheme (now (table .entry))) (now (marking .entry)) (word (now (held .entry))))
         × (r ≡ true → ValuesBelow (now (table .entry)) (now (marking .entry)) (now (values .exit))
         (names (now (table .entry)))) ⌝ }
 {
-    let end = plan.publics + plan.bounds;
-    let mut x = plan.publics;
+    let publics = word16(table, 0);
+    let end = publics + word16(table, 1);
+    let mut x = publics;
     while x < end {
-        if !find_value(table, rows, plan, marking, held, values, x) {
+        if !find_value(table, index, marking, held, values, x) {
             return false;
         }
         x += 1;
@@ -274,26 +258,28 @@ pub(crate) fn find_values(
 }
 
 // Whether [x≠n] is marked just without [x=n], for a name that is not restricted.
-fn opposed_for(table: &[u16], rows: &[u32], plan: Layout, marking: &[u8], name: usize) -> bool
-    requires { ⌜ Rowed (now table) (now rows) plan × IsName (now table) name ⌝ }
+fn opposed_for(table: &[u16], index: &[u32], marking: &[u8], name: usize) -> bool
+    requires { ⌜ Laid (now table) (now index) × IsName (now table) name ⌝ }
     ensures { λ r. ⌜ r ≡ opposedFor (scheme (now (table .entry))) (now (marking .entry)) name ⌝ }
 {
     if is_restricted(table, name) {
         return true;
     }
-    let private = word32(rows, name) + plan.publics;
-    opposite(marking, private, private + plan.privates, plan.privates)
+    let private = row_start(index, name) + word16(table, 0);
+    let count = privates(index);
+    opposite(marking, private, private + count, count)
 }
 
 // Whether [x≠n] is marked just without [x=n], for each name that is not restricted.
-pub(crate) fn opposed(table: &[u16], rows: &[u32], plan: Layout, marking: &[u8]) -> bool
-    requires { ⌜ Rowed (now table) (now rows) plan ⌝ }
+pub(crate) fn opposed(table: &[u16], index: &[u32], marking: &[u8]) -> bool
+    requires { ⌜ Laid (now table) (now index) ⌝ }
     ensures { λ r. ⌜ r ≡ opposedAll (scheme (now (table .entry))) (now (marking .entry)) ⌝ }
 {
-    let end = plan.publics + plan.bounds;
-    let mut x = plan.publics;
+    let publics = word16(table, 0);
+    let end = publics + word16(table, 1);
+    let mut x = publics;
     while x < end {
-        if !opposed_for(table, rows, plan, marking, x) {
+        if !opposed_for(table, index, marking, x) {
             return false;
         }
         x += 1;
@@ -302,40 +288,41 @@ pub(crate) fn opposed(table: &[u16], rows: &[u32], plan: Layout, marking: &[u8])
 }
 
 // Whether a bound name is restricted and has private value n.
-fn holds(table: &[u16], rows: &[u32], marking: &[u8], name: usize, n: usize) -> bool
-    requires { ⌜ RowsBelow (now table) (now rows) (names (now table)) × IsName (now table) name × (n < 65536) ⌝ }
+fn holds(table: &[u16], index: &[u32], marking: &[u8], name: usize, n: usize) -> bool
+    requires { ⌜ Laid (now table) (now index) × IsName (now table) name × (n < 65536) ⌝ }
     ensures { λ r. ⌜ r ≡ holdsAt (scheme (now (table .entry))) (now (marking .entry)) n name ⌝ }
 {
     if !is_restricted(table, name) {
         return false;
     }
-    is_marked(marking, word32(rows, name) + n)
+    is_marked(marking, row_start(index, name) + n)
 }
 
 // How many restricted names have private value n.
-fn holders(table: &[u16], rows: &[u32], plan: Layout, marking: &[u8], n: usize) -> usize
-    requires { ⌜ Rowed (now table) (now rows) plan × (n < 65536) ⌝ }
+fn holders(table: &[u16], index: &[u32], marking: &[u8], n: usize) -> usize
+    requires { ⌜ Laid (now table) (now index) × (n < 65536) ⌝ }
     ensures { λ r. ⌜ r ≡ length (holdersAt (scheme (now (table .entry))) (now (marking .entry)) n) ⌝ }
 {
-    let end = plan.publics + plan.bounds;
+    let publics = word16(table, 0);
+    let end = publics + word16(table, 1);
     let mut count = 0;
-    let mut x = plan.publics;
+    let mut x = publics;
     while x < end {
-        count = plus(count, holds(table, rows, marking, x, n));
+        count = plus(count, holds(table, index, marking, x, n));
         x += 1;
     }
     count
 }
 
 // Whether [*≠n] is marked just where no restricted name has n, and no two have it.
-pub(crate) fn freed(table: &[u16], rows: &[u32], plan: Layout, marking: &[u8]) -> bool
-    requires { ⌜ Rowed (now table) (now rows) plan ⌝ }
+pub(crate) fn freed(table: &[u16], index: &[u32], marking: &[u8]) -> bool
+    requires { ⌜ Laid (now table) (now index) ⌝ }
     ensures { λ r. ⌜ r ≡ freedAll (scheme (now (table .entry))) (now (marking .entry)) ⌝ }
 {
-    let count = plan.privates;
+    let count = privates(index);
     let mut n = 0;
     while n < count {
-        if holders(table, rows, plan, marking, n) != wanted(plan, marking, n) {
+        if holders(table, index, marking, n) != wanted(index, marking, n) {
             return false;
         }
         n += 1;

@@ -5,28 +5,31 @@ ghost use Prim.Native.Nat.{suc, _≤_, _<_};
 ghost use lib.ListN.{length};
 ghost use lib.Seq.{sets, slice};
 ghost use Rattle.lists.specs.Lists.{from, range};
-ghost use Rattle.scheme.specs.Words.{publics, bounds, names, threads};
+ghost use Rattle.scheme.specs.Words.{publics, bounds, threads, Number};
 ghost use Rattle.table.specs.Causes.{cause};
+ghost use Rattle.table.specs.Known.{Known};
 ghost use Rattle.scheme.specs.Scheme.{scheme};
 ghost use Rattle.process.specs.States.{valueOf};
 ghost use Rattle.process.specs.StateWords.{valueWords};
-ghost use Rattle.process.specs.Inner.Values.{Number, Valued, valueAt};
-ghost use Rattle.places.specs.Inner.Plan.{Defined};
+ghost use Rattle.process.specs.Inner.Values.{Valued, valueAt};
 ghost use Rattle.readback.specs.Configurations.{spot, nodeShown, nameShownAt, nameShown};
-ghost use Rattle.readback.specs.Inner.Showing.{AtNodes, spotAt, valueIn, NodeOf, CallOf, Bindings};
+ghost use Rattle.readback.specs.Inner.Showing.{AtNodes, spotAt, valueIn, NodeOf, CallOf};
+ghost use Rattle.readback.specs.Inner.Holding.{IsName};
 use lists::store16;
 use lists::word16;
 use lists::word32;
+use process::values::write_numbered;
 use scheme::fields::field1;
 use scheme::fields::field3;
 use scheme::fields::field4;
+use scheme::lookup::name_thread;
 
-// The node that control place `index` of a node shows: in a call's chain the root of the definition called.
-fn node_shown(table: &[u16], node: usize, index: usize) -> usize
+// The node that control place k of a node shows: in a call's chain the root of the definition called.
+fn node_shown(table: &[u16], node: usize, k: usize) -> usize
     requires { ⌜ NodeOf (now table) node ⌝ }
-    ensures { λ r. ⌜ Number (nodeShown (scheme (now (table .entry))) (spot node index)) r ⌝ }
+    ensures { λ r. ⌜ Number (nodeShown (scheme (now (table .entry))) (spot node k)) r ⌝ }
 {
-    if index == 0 {
+    if k == 0 {
         return node;
     }
     if field3(table, 10, node, 0) == 3 {
@@ -81,11 +84,11 @@ fn name_called(table: &[u16], node: usize, copied: usize, name: usize) -> usize
     field1(table, 12, field3(table, 10, node, 2) + place)
 }
 
-// The name whose value a name has where its thread stands at control place `index` of a node, 65535 where it has none.
-fn name_shown(table: &[u16], node: usize, index: usize, name: usize) -> usize
+// The name whose value a name has where its thread stands at control place k of a node, 65535 where it has none.
+fn name_shown(table: &[u16], node: usize, k: usize, name: usize) -> usize
     requires { ⌜ NodeOf (now table) node × (name < 65535) ⌝ }
     ensures { λ r. ⌜ Valued
-        (nameShownAt (scheme (now (table .entry))) (scheme (now (table .entry)) .node node) node index name) r ⌝ }
+        (nameShownAt (scheme (now (table .entry))) (scheme (now (table .entry)) .node node) node k name) r ⌝ }
 {
     let kind = field3(table, 10, node, 0);
     if kind == 0 {
@@ -94,10 +97,10 @@ fn name_shown(table: &[u16], node: usize, index: usize, name: usize) -> usize
     if kind != 3 {
         return name;
     }
-    if index == 0 {
+    if k == 0 {
         return name;
     }
-    name_called(table, node, index - 1, name)
+    name_called(table, node, k - 1, name)
 }
 
 // The value of a name that may be missing, 65535 where it has none.
@@ -116,21 +119,18 @@ fn value_of(table: &[u16], values: &[u16], name: usize) -> usize
 // The value that the state has for a bound name, 65535 where it has none.
 fn name_value(
     table: &[u16],
-    homes: &[u32],
-    definitions: &[u16],
-    binders: &[u32],
+    index: &[u32],
     nodes: &[u32],
     indexes: &[u32],
     values: &[u16],
     name: usize,
 ) -> usize
-    requires { ⌜ Bindings (now table) (now homes) (now definitions) (now binders) (now nodes)
-        × ((publics (now table) ≤ name) × (name < names (now table))) ⌝ }
+    requires { ⌜ Known (now table) (now index) × AtNodes (now table) (now nodes) × IsName (now table) name ⌝ }
     ensures { λ r. ⌜ Valued
         (valueOf (valueIn (now (table .entry)) (now (values .entry)))
         (nameShown (scheme (now (table .entry))) (spotAt (now (nodes .entry)) (now (indexes .entry))) name)) r ⌝ }
 {
-    let t = scheme::index::name_thread(table, homes, definitions, binders, name);
+    let t = name_thread(table, index, name);
     let shown = name_shown(table, word32(nodes, t), word32(indexes, t), name);
     value_of(table, values, shown)
 }
@@ -138,16 +138,13 @@ fn name_value(
 // Fills in the value of each bound name.
 fn fill_values(
     table: &[u16],
-    homes: &[u32],
-    definitions: &[u16],
-    binders: &[u32],
+    index: &[u32],
     nodes: &[u32],
     indexes: &[u32],
     values: &[u16],
     list: &mut [u16],
 )
-    requires { ⌜ Bindings (now table) (now homes) (now definitions) (now binders) (now nodes)
-        × (32 ≤ length (now list)) ⌝ }
+    requires { ⌜ Known (now table) (now index) × AtNodes (now table) (now nodes) × (32 ≤ length (now list)) ⌝ }
     ensures { λ r. ⌜ map valueAt (slice 0 (bounds (now (table .entry))) (now (list .exit)))
         ≡ map (λ x. valueOf (valueIn (now (table .entry)) (now (values .entry)))
         (nameShown (scheme (now (table .entry))) (spotAt (now (nodes .entry)) (now (indexes .entry))) x))
@@ -160,16 +157,7 @@ fn fill_values(
         store16(
             list,
             i,
-            name_value(
-                table,
-                homes,
-                definitions,
-                binders,
-                nodes,
-                indexes,
-                values,
-                publics + i,
-            ) as u16,
+            name_value(table, index, nodes, indexes, values, publics + i) as u16,
         );
         i += 1;
     }
@@ -178,14 +166,13 @@ fn fill_values(
 // Writes the value of each bound name, private values numbered by first appearance.
 pub(crate) fn write_values(
     table: &[u16],
-    homes: &[u32],
-    definitions: &[u16],
+    index: &[u32],
     nodes: &[u32],
     indexes: &[u32],
     values: &[u16],
     state: &mut [u16],
 )
-    requires { ⌜ Defined (now table) (now homes) (now definitions) × AtNodes (now table) (now nodes) ⌝ }
+    requires { ⌜ Known (now table) (now index) × AtNodes (now table) (now nodes) ⌝ }
     ensures { λ r. ⌜ now (state .exit)
         ≡ sets (now (state .entry)) (threads (now (table .entry)))
         (valueWords (publics (now (table .entry))) []
@@ -196,18 +183,7 @@ pub(crate) fn write_values(
     let publics = word16(table, 0);
     let bounds = word16(table, 1);
     let threads = word16(table, 3);
-    let mut binders = [0u32; 64];
-    scheme::index::binders(table, &mut binders);
     let mut list = [0u16; 32];
-    fill_values(
-        table,
-        homes,
-        definitions,
-        &binders,
-        nodes,
-        indexes,
-        values,
-        &mut list,
-    );
-    process::values::number_values(publics as u16, &list, bounds as u16, threads as u16, state);
+    fill_values(table, index, nodes, indexes, values, &mut list);
+    write_numbered(publics as u16, &list, bounds as u16, threads as u16, state);
 }

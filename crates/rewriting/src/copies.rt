@@ -8,18 +8,21 @@ ghost use Prim.Native.Nat.{_+_, _-_, _≤_, _<_};
 ghost use lib.ListN.{length, set};
 ghost use lib.Seq.{slice};
 ghost use Rattle.lists.specs.Lists.{pick, same, word, from, flat};
-ghost use Rattle.scheme.specs.Inner.Spans.{spanOf};
+ghost use Rattle.scheme.specs.Spans.{spanOf};
+ghost use Rattle.scheme.specs.Index.{definitionsIn, indexEnd};
 ghost use Rattle.process.specs.Inner.Listed.{Listed, far, near};
 ghost use Rattle.rewriting.specs.Inner.Copying.{selfCall, Marked, grouped, Listable, Rows};
-ghost use Rattle.rewriting.specs.Inner.Belonging.{Bodies};
 ghost use Rattle.rewriting.specs.Inner.Counting.{Few, Summed, countsWithin};
 ghost use Rattle.rewriting.specs.Inner.Preparing.{PreparedRight};
-use crate::belonging::belonging;
-use lists::store16;
+use crate::belonging::name_definitions;
 use lists::store32;
 use lists::word16;
 use lists::word32;
 use scheme::fields::field3;
+use scheme::index::BINDERS;
+use scheme::index::DEFINITIONS;
+use scheme::index::fill;
+use scheme::lookup::definition;
 use scheme::spans::Source;
 use scheme::spans::span_count;
 use scheme::spans::span_first;
@@ -40,46 +43,46 @@ pub enum Prepared {
 }
 
 // Whether a node is a Call of the definition that it stands in.
-pub(crate) fn calls_itself(table: &[u16], definitions: &[u16], node: usize) -> bool
-    ensures { λ r. ⌜ r ≡ selfCall (now (table .entry)) (now (definitions .entry)) node ⌝ }
+pub(crate) fn calls_itself(table: &[u16], index: &[u32], node: usize) -> bool
+    ensures { λ r. ⌜ r ≡ selfCall (now (table .entry)) (definitionsIn (now (index .entry))) node ⌝ }
 {
     if field3(table, 10, node, 0) != 3 {
         return false;
     }
-    field3(table, 10, node, 1) == word16(definitions, node)
+    field3(table, 10, node, 1) == definition(index, node)
 }
 
 // Writes 1 at a node's definition if the node calls it.
-fn mark_caller(table: &[u16], definitions: &[u16], node: usize, marks: &mut [u16])
+fn mark_caller(table: &[u16], index: &[u32], node: usize, marks: &mut [u32])
     ensures { λ r. ⌜ now (marks .exit)
-        ≡ pick (selfCall (now (table .entry)) (now (definitions .entry)) node)
-        (set (now (marks .entry)) (word (now (definitions .entry)) node) 1) (now (marks .entry)) ⌝ }
+        ≡ pick (selfCall (now (table .entry)) (definitionsIn (now (index .entry))) node)
+        (set (now (marks .entry)) (word (definitionsIn (now (index .entry))) node) 1) (now (marks .entry)) ⌝ }
 {
-    if calls_itself(table, definitions, node) {
-        store16(marks, word16(definitions, node), 1);
+    if calls_itself(table, index, node) {
+        store32(marks, definition(index, node), 1);
     }
 }
 
 // Writes 1 at each definition that calls itself.
-fn mark_callers(table: &[u16], definitions: &[u16], marks: &mut [u16])
-    ensures { λ r. ⌜ Marked (now (table .entry)) (now (definitions .entry)) (now (marks .entry))
+fn mark_callers(table: &[u16], index: &[u32], marks: &mut [u32])
+    ensures { λ r. ⌜ Marked (now (table .entry)) (definitionsIn (now (index .entry))) (now (marks .entry))
         (now (marks .exit)) ⌝ }
 {
     let nodes = word16(table, 4);
     let mut n = 0;
     while n < nodes {
-        mark_caller(table, definitions, n, marks);
+        mark_caller(table, index, n, marks);
         n += 1;
     }
 }
 
 // Writes i if it belongs to the group; where the next number goes.
-fn list_member(of: &[u16], group: usize, i: usize, at: usize, out: &mut [u32]) -> usize
+fn list_member(of: &[u32], group: usize, i: usize, at: usize, out: &mut [u32]) -> usize
     requires { ⌜ (i < 4294967296) × (at < far) ⌝ }
     ensures { λ r. ⌜ Listed 1 (pick (same (word (now (of .entry)) i) group) (i ∷ []) []) (now (out .entry)) at
         (now (out .exit)) r ⌝ }
 {
-    if word16(of, i) == group {
+    if word32(of, i) == group {
         store32(out, at, i as u32);
         return at + 1;
     }
@@ -88,7 +91,7 @@ fn list_member(of: &[u16], group: usize, i: usize, at: usize, out: &mut [u32]) -
 
 // Writes the numbers from `first` up to `end` that belong to the group.
 fn list_group(
-    of: &[u16],
+    of: &[u32],
     group: usize,
     first: usize,
     end: usize,
@@ -110,7 +113,7 @@ fn list_group(
 
 // Writes, for each of the groups that stand at the front of `out`, the numbers that belong to it.
 fn list_groups(
-    of: &[u16],
+    of: &[u32],
     groups: usize,
     first: usize,
     end: usize,
@@ -164,17 +167,17 @@ fn list_spans(table: &[u16], source: Source, nodes: usize, at: usize, out: &mut 
     next
 }
 
-// Lists what is copied, and fills in the definition of each node.
-pub(crate) fn list_copies(table: &[u16], definitions: &mut [u16], out: &mut [u32]) -> Counts
-    requires { ⌜ Listable (now table) (now definitions) (now out) ⌝ }
-    ensures { λ r. ⌜ Bodies (now (table .entry)) (now (definitions .exit))
-        × Rows (now (table .entry)) (now (out .exit)) r ⌝ }
+// Lists what is copied.
+pub(crate) fn list_copies(table: &[u16], index: &[u32], out: &mut [u32]) -> Counts
+    requires { ⌜ Listable (now table) (now index) (now out) ⌝ }
+    ensures { λ r. ⌜ Rows (now (table .entry)) (now (out .exit)) r ⌝ }
 {
-    let mut names = [0u16; 64];
-    belonging(table, definitions, &mut names);
-    let mut marks = [0u16; 32];
-    mark_callers(table, definitions, &mut marks);
+    let mut names = [0u32; 64];
+    name_definitions(table, index, &mut names);
+    let mut marks = [0u32; 32];
+    mark_callers(table, index, &mut marks);
     let publics = word16(table, 0);
+    let definitions = &index[DEFINITIONS..BINDERS];
     let d = list_group(&marks, 1, 0, word16(table, 2), 0, out);
     let x = list_groups(&names, d, publics, publics + word16(table, 1), 256, out);
     let n = list_groups(definitions, d, 0, word16(table, 4), 512, out);
@@ -222,16 +225,17 @@ pub(crate) fn within(counts: Counts) -> bool
     counts.arguments <= 256
 }
 
-// Checks a table, and lists what is copied.
-pub(crate) fn prepare(table: &[u16], definitions: &mut [u16], list: &mut [u32]) -> Prepared
-    requires { ⌜ (length (now definitions) ≡ 256) × (length (now list) ≡ 1280) ⌝ }
-    ensures { λ r. ⌜ PreparedRight (now (table .entry)) (now (definitions .exit)) (now (list .exit)) r ⌝ }
+// Checks a table, fills in its index, and lists what is copied.
+pub(crate) fn prepare(table: &[u16], index: &mut [u32], list: &mut [u32]) -> Prepared
+    requires { ⌜ (length (now index) ≡ indexEnd) × (length (now list) ≡ 1280) ⌝ }
+    ensures { λ r. ⌜ PreparedRight (now (table .entry)) (now (index .exit)) (now (list .exit)) r ⌝ }
 {
     let verdict = table::check_sparing(table, true);
     if !table::is_accepted(verdict) {
         return Prepared::Refused(verdict);
     }
-    let copies = list_copies(table, definitions, list);
+    fill(table, index);
+    let copies = list_copies(table, index, list);
     let counts = with_copies(table, copies);
     if within(counts) {
         return Prepared::Ready(copies);

@@ -23,6 +23,7 @@ use crate::words::size;
 use crate::words::write_table;
 use lists::word16;
 use lists::word32;
+use scheme::index::SIZE;
 
 // What a call did: how many words it wrote or which number it read back, or what it refuses.
 pub enum Answer {
@@ -36,9 +37,9 @@ pub enum Answer {
 pub fn rewrite(table: &[u16], out: &mut [u16]) -> Answer
     ensures { λ r. ⌜ outcomeOf r (now (out .exit)) ≡ rewriteOutcome (now (table .entry)) (now (out .entry)) ⌝ }
 {
-    let mut definitions = [0u16; 256];
+    let mut index = [0u32; SIZE];
     let mut list = [0u32; 1280];
-    match prepare(table, &mut definitions, &mut list) {
+    match prepare(table, &mut index, &mut list) {
         Prepared::Refused(verdict) => Answer::Refused(verdict),
         Prepared::Ready(copies) => {
             let counts = with_copies(table, copies);
@@ -46,7 +47,7 @@ pub fn rewrite(table: &[u16], out: &mut [u16]) -> Answer
             if out.len() < words {
                 return Answer::NoRoom;
             }
-            write_table(table, &definitions, &list, copies, counts, out);
+            write_table(table, &index, &list, copies, counts, out);
             Answer::Done(words)
         }
     }
@@ -71,9 +72,9 @@ fn original(list: &[u32], first: usize, count: usize, old: usize, number: usize)
 pub fn original_node(table: &[u16], number: u32) -> Answer
     ensures { λ r. ⌜ outcomeOf r [] ≡ originalNode (now (table .entry)) number ⌝ }
 {
-    let mut definitions = [0u16; 256];
+    let mut index = [0u32; SIZE];
     let mut list = [0u32; 1280];
-    match prepare(table, &mut definitions, &mut list) {
+    match prepare(table, &mut index, &mut list) {
         Prepared::Refused(verdict) => Answer::Refused(verdict),
         Prepared::Ready(copies) => original(
             &list,
@@ -89,9 +90,9 @@ pub fn original_node(table: &[u16], number: u32) -> Answer
 pub fn original_branch(table: &[u16], number: u32) -> Answer
     ensures { λ r. ⌜ outcomeOf r [] ≡ originalBranch (now (table .entry)) number ⌝ }
 {
-    let mut definitions = [0u16; 256];
+    let mut index = [0u32; SIZE];
     let mut list = [0u32; 1280];
-    match prepare(table, &mut definitions, &mut list) {
+    match prepare(table, &mut index, &mut list) {
         Prepared::Refused(verdict) => Answer::Refused(verdict),
         Prepared::Ready(copies) => original(
             &list,
@@ -107,9 +108,9 @@ pub fn original_branch(table: &[u16], number: u32) -> Answer
 pub fn original_name(table: &[u16], number: u32) -> Answer
     ensures { λ r. ⌜ outcomeOf r [] ≡ originalName (now (table .entry)) number ⌝ }
 {
-    let mut definitions = [0u16; 256];
+    let mut index = [0u32; SIZE];
     let mut list = [0u32; 1280];
-    match prepare(table, &mut definitions, &mut list) {
+    match prepare(table, &mut index, &mut list) {
         Prepared::Refused(verdict) => Answer::Refused(verdict),
         Prepared::Ready(copies) => {
             let names = word16(table, 0) + word16(table, 1);

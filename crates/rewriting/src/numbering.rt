@@ -6,7 +6,7 @@ ghost use mathlib.Core.Path.{_≡_};
 ghost use Prim.Native.Nat.{_+_, _<_};
 ghost use lib.ListN.{length, replicate};
 ghost use lib.Seq.{sets, slice};
-ghost use Rattle.scheme.specs.Inner.Spans.{Number};
+ghost use Rattle.scheme.specs.Words.{Number};
 ghost use Rattle.process.specs.Inner.Listed.{near};
 ghost use Rattle.rewriting.specs.Rewriting.{copyName, copyDefinition, copyNode, copyBranch, copyArgument};
 ghost use Rattle.rewriting.specs.Inner.Placing.{placeAt, Numberable, Numbered, Listing, Places, Placing};

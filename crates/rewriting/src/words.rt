@@ -5,12 +5,11 @@ ghost use Prim.Native.Nat.{_+_, _≤_, _<_};
 ghost use lib.ListN.{length};
 ghost use lib.Seq.{sets, slice};
 ghost use Rattle.lists.specs.Lists.{word, from, range, flat};
-ghost use Rattle.scheme.specs.Words.{nodes};
-ghost use Rattle.scheme.specs.Inner.Spans.{Number};
+ghost use Rattle.scheme.specs.Words.{Number, nodes};
+ghost use Rattle.scheme.specs.Index.{IsIndex, definitionsIn};
 ghost use Rattle.process.specs.Inner.Listed.{Listed, far, near};
 ghost use Rattle.rewriting.specs.Rewriting.{nodeWords, definitionCopy, nodeCopy, branchCopy, nodePart};
 ghost use Rattle.rewriting.specs.Rewriting.{rewritten};
-ghost use Rattle.rewriting.specs.Inner.Belonging.{Bodies};
 ghost use Rattle.rewriting.specs.Inner.Counting.{Small, headerWith, sizeWith};
 ghost use Rattle.rewriting.specs.Inner.Placing.{Placing};
 ghost use Rattle.rewriting.specs.Inner.Writing.{targetIn, copiedFormal, copiedFirst, copiedSecond, copiedUse};
@@ -41,6 +40,13 @@ pub enum Part {
     Nodes,
     Branches,
     Arguments,
+}
+
+// A section, and where the originals of its copies stand in the list of all.
+pub struct Row {
+    pub part: Part,
+    pub first: usize,
+    pub count: usize,
 }
 
 // Writes a word; where the next one goes.
@@ -75,15 +81,15 @@ fn write4(out: &mut [u16], at: usize, a: usize, b: usize, c: usize, d: usize) ->
 
 // The second word of a node, or of its copy: a self-call of the original goes to the copy, one of the copy to the
 // original.
-fn target_of(table: &[u16], definitions: &[u16], places: &[u32], node: usize, copy: bool) -> usize
+fn target_of(table: &[u16], index: &[u32], places: &[u32], node: usize, copy: bool) -> usize
     requires { ⌜ Placing (now table) (now places) ⌝ }
-    ensures { λ r. ⌜ Number (targetIn (now (table .entry)) (now (definitions .entry)) copy node) r ⌝ }
+    ensures { λ r. ⌜ Number (targetIn (now (table .entry)) (definitionsIn (now (index .entry))) copy node) r ⌝ }
 {
     let first = field3(table, 10, node, 1);
     if copy {
         return first;
     }
-    if calls_itself(table, definitions, node) {
+    if calls_itself(table, index, node) {
         return copy_definition(table, places, first);
     }
     first
@@ -91,29 +97,23 @@ fn target_of(table: &[u16], definitions: &[u16], places: &[u32], node: usize, co
 
 fn write_node(
     table: &[u16],
-    definitions: &[u16],
+    index: &[u32],
     places: &[u32],
     node: usize,
     at: usize,
     out: &mut [u16],
 ) -> usize
-    requires { ⌜ Writable (now table) (now definitions) (now places) × (node < nodes (now table)) × (at < far) ⌝ }
+    requires { ⌜ Writable (now table) (now index) (now places) × (node < nodes (now table)) × (at < far) ⌝ }
     ensures { λ r. ⌜ Listed 4 (nodeWords (now (table .entry)) node) (now (out .entry)) at (now (out .exit)) r ⌝ }
 {
     let kind = field3(table, 10, node, 0);
-    let first = target_of(table, definitions, places, node, false);
+    let first = target_of(table, index, places, node, false);
     write3(out, at, kind, first, field3(table, 10, node, 2))
 }
 
 // Writes the nodes that were there.
-fn write_nodes(
-    table: &[u16],
-    definitions: &[u16],
-    places: &[u32],
-    at: usize,
-    out: &mut [u16],
-) -> usize
-    requires { ⌜ Writable (now table) (now definitions) (now places) × (at < near) ⌝ }
+fn write_nodes(table: &[u16], index: &[u32], places: &[u32], at: usize, out: &mut [u16]) -> usize
+    requires { ⌜ Writable (now table) (now index) (now places) × (at < near) ⌝ }
     ensures { λ r. ⌜ Listed 262144 (flat (nodeWords (now (table .entry))) (range (nodes (now (table .entry)))))
         (now (out .entry)) at (now (out .exit)) r ⌝ }
 {
@@ -121,7 +121,7 @@ fn write_nodes(
     let mut n = 0;
     let mut next = at;
     while n < nodes {
-        next = write_node(table, definitions, places, n, next, out);
+        next = write_node(table, index, places, n, next, out);
         n += 1;
     }
     next
@@ -139,7 +139,7 @@ fn copied_formal(table: &[u16], places: &[u32], definition: usize) -> usize
 }
 
 // The second word of a node's copy: a branch of a Choice, a name of a New, the definition called.
-fn copied_first(table: &[u16], definitions: &[u16], places: &[u32], node: usize) -> usize
+fn copied_first(table: &[u16], index: &[u32], places: &[u32], node: usize) -> usize
     requires { ⌜ Placing (now table) (now places) ⌝ }
     ensures { λ r. ⌜ Number (copiedFirst (now (table .entry)) node) r ⌝ }
 {
@@ -150,7 +150,7 @@ fn copied_first(table: &[u16], definitions: &[u16], places: &[u32], node: usize)
     if kind == 2 {
         return copy_name(table, places, field3(table, 10, node, 1));
     }
-    target_of(table, definitions, places, node, true)
+    target_of(table, index, places, node, true)
 }
 
 // The third word of a node's copy: a child of a New, the first argument of a Call that has any.
@@ -191,7 +191,7 @@ fn write_definition(table: &[u16], places: &[u32], i: usize, at: usize, out: &mu
 
 fn write_copied_node(
     table: &[u16],
-    definitions: &[u16],
+    index: &[u32],
     places: &[u32],
     i: usize,
     at: usize,
@@ -200,7 +200,7 @@ fn write_copied_node(
     requires { ⌜ Placing (now table) (now places) × (at < far) ⌝ }
     ensures { λ r. ⌜ Listed 4 (nodeCopy (now (table .entry)) i) (now (out .entry)) at (now (out .exit)) r ⌝ }
 {
-    let first = copied_first(table, definitions, places, i);
+    let first = copied_first(table, index, places, i);
     let second = copied_second(table, places, i);
     write3(out, at, field3(table, 10, i, 0), first, second)
 }
@@ -219,7 +219,7 @@ fn write_branch(table: &[u16], places: &[u32], i: usize, at: usize, out: &mut [u
 fn write_copy(
     table: &[u16],
     part: Part,
-    definitions: &[u16],
+    index: &[u32],
     places: &[u32],
     i: usize,
     at: usize,
@@ -231,35 +231,37 @@ fn write_copy(
     match part {
         Part::Names => write1(out, at, name_kind(table, i)),
         Part::Definitions => write_definition(table, places, i, at, out),
-        Part::Nodes => write_copied_node(table, definitions, places, i, at, out),
+        Part::Nodes => write_copied_node(table, index, places, i, at, out),
         Part::Branches => write_branch(table, places, i, at, out),
         Part::Arguments => write1(out, at, copy_name(table, places, field1(table, 12, i))),
     }
 }
 
-// Writes the copies of a section, whose originals are `count` words of `list` from `first` on.
+// Writes the copies of a section, whose originals stand in `list`.
 fn write_copies(
     table: &[u16],
-    part: Part,
+    row: Row,
     list: &[u32],
-    first: usize,
-    count: usize,
-    definitions: &[u16],
+    index: &[u32],
     places: &[u32],
     at: usize,
     out: &mut [u16],
 ) -> usize
-    requires { ⌜ Placing (now table) (now places) × (first + count ≤ length (now list)) × (count ≤ 256)
-        × (first ≤ 1280) × (at < near) ⌝ }
+    requires { ⌜ Placing (now table) (now places) × (row .first + row .count ≤ length (now list)) × (row .count ≤ 256)
+        × (row .first ≤ 1280) × (at < near) ⌝ }
     ensures { λ r. ⌜ Listed 1024
-        (flat (copyWords (now (table .entry)) part) (slice first (first + count) (now (list .entry))))
+        (flat (copyWords (now (table .entry)) (row .part))
+        (slice (row .first) (row .first + row .count) (now (list .entry))))
         (now (out .entry)) at (now (out .exit)) r ⌝ }
 {
+    let part = row.part;
+    let first = row.first;
+    let count = row.count;
     let mut k = 0;
     let mut next = at;
     while k < count {
         let i = word32(list, first + k);
-        next = write_copy(table, part, definitions, places, i, next, out);
+        next = write_copy(table, part, index, places, i, next, out);
         k += 1;
     }
     next
@@ -316,7 +318,7 @@ pub(crate) fn size(table: &[u16], counts: Counts) -> usize
 // Writes the header, the names, the definitions and the threads.
 fn write_front(
     table: &[u16],
-    definitions: &[u16],
+    index: &[u32],
     list: &[u32],
     copies: Counts,
     counts: Counts,
@@ -328,113 +330,88 @@ fn write_front(
 {
     let mut at = write_header(table, counts, out);
     at = write_words(table, word16(table, 7), word16(table, 1), at, out);
-    at = write_copies(
-        table,
-        Part::Names,
-        list,
-        256,
-        copies.names,
-        definitions,
-        places,
-        at,
-        out,
-    );
+    let names = Row {
+        part: Part::Names,
+        first: 256,
+        count: copies.names,
+    };
+    at = write_copies(table, names, list, index, places, at, out);
     at = write_words(table, word16(table, 8), 4 * word16(table, 2), at, out);
-    at = write_copies(
-        table,
-        Part::Definitions,
-        list,
-        0,
-        copies.definitions,
-        definitions,
-        places,
-        at,
-        out,
-    );
+    let definitions = Row {
+        part: Part::Definitions,
+        first: 0,
+        count: copies.definitions,
+    };
+    at = write_copies(table, definitions, list, index, places, at, out);
     write_words(table, word16(table, 9), word16(table, 3), at, out)
 }
 
 // Writes the nodes.
 fn write_bodies(
     table: &[u16],
-    definitions: &[u16],
+    index: &[u32],
     list: &[u32],
     copies: Counts,
     places: &[u32],
     start: usize,
     out: &mut [u16],
 ) -> usize
-    requires { ⌜ Back (now table) (now definitions) (now list) copies (now places) × (start ≤ 1048576) ⌝ }
+    requires { ⌜ Back (now table) (now index) (now list) copies (now places) × (start ≤ 1048576) ⌝ }
     ensures { λ r. ⌜ Listed 263168 (nodePart (now (table .entry))) (now (out .entry)) start (now (out .exit)) r ⌝ }
 {
-    let at = write_nodes(table, definitions, places, start, out);
-    write_copies(
-        table,
-        Part::Nodes,
-        list,
-        512,
-        copies.nodes,
-        definitions,
-        places,
-        at,
-        out,
-    )
+    let at = write_nodes(table, index, places, start, out);
+    let nodes = Row {
+        part: Part::Nodes,
+        first: 512,
+        count: copies.nodes,
+    };
+    write_copies(table, nodes, list, index, places, at, out)
 }
 
 // Writes the branches and the arguments.
 fn write_back(
     table: &[u16],
-    definitions: &[u16],
+    index: &[u32],
     list: &[u32],
     copies: Counts,
     places: &[u32],
     start: usize,
     out: &mut [u16],
 ) -> usize
-    requires { ⌜ Back (now table) (now definitions) (now list) copies (now places) × (start ≤ 1311744) ⌝ }
+    requires { ⌜ Back (now table) (now index) (now list) copies (now places) × (start ≤ 1311744) ⌝ }
     ensures { λ r. ⌜ Listed 1048576 (backWords (now (table .entry))) (now (out .entry)) start (now (out .exit)) r ⌝ }
 {
     let mut at = write_words(table, word16(table, 11), 4 * word16(table, 5), start, out);
-    at = write_copies(
-        table,
-        Part::Branches,
-        list,
-        768,
-        copies.branches,
-        definitions,
-        places,
-        at,
-        out,
-    );
+    let branches = Row {
+        part: Part::Branches,
+        first: 768,
+        count: copies.branches,
+    };
+    at = write_copies(table, branches, list, index, places, at, out);
     at = write_words(table, word16(table, 12), word16(table, 6), at, out);
-    write_copies(
-        table,
-        Part::Arguments,
-        list,
-        1024,
-        copies.arguments,
-        definitions,
-        places,
-        at,
-        out,
-    )
+    let arguments = Row {
+        part: Part::Arguments,
+        first: 1024,
+        count: copies.arguments,
+    };
+    write_copies(table, arguments, list, index, places, at, out)
 }
 
 // Writes the rewritten table.
 pub(crate) fn write_table(
     table: &[u16],
-    definitions: &[u16],
+    index: &[u32],
     list: &[u32],
     copies: Counts,
     counts: Counts,
     out: &mut [u16],
 )
-    requires { ⌜ Bodies (now table) (now definitions) × Counted (now table) (now list) copies counts ⌝ }
+    requires { ⌜ IsIndex (now table) (now index) × Counted (now table) (now list) copies counts ⌝ }
     ensures { λ r. ⌜ now (out .exit) ≡ sets (now (out .entry)) 0 (rewritten (now (table .entry))) ⌝ }
 {
     let mut places = [0u32; 1285];
     number_copies(list, copies, &mut places);
-    let mut at = write_front(table, definitions, list, copies, counts, &places, out);
-    at = write_bodies(table, definitions, list, copies, &places, at, out);
-    write_back(table, definitions, list, copies, &places, at, out);
+    let mut at = write_front(table, index, list, copies, counts, &places, out);
+    at = write_bodies(table, index, list, copies, &places, at, out);
+    write_back(table, index, list, copies, &places, at, out);
 }

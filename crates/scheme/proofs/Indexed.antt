@@ -5,7 +5,6 @@ use mathlib.Core.Bool.{Bool, true, false, _&&_}
 use mathlib.Core.List.{List, [], _∷_, _++_, map, append-nil}
 use Prim.Native.Nat.{ℕ, zero, suc, _+_, _-_, _*_, _≤_, _<_}
 use native.Mathlib.Decide.{decLt}
-use native.Mathlib.Nat.{add-zero}
 use native.Mathlib.Numerals.{add-one}
 use native.Mathlib.Omega.{arith}
 use lib.Dec.{ltb}
@@ -15,13 +14,14 @@ use borrow.Author.Tests.{lt-ltb, le-ltb}
 use Rattle.lists.specs.Lists.{pick, same, word, from, range, firstFrom}
 use Rattle.lists.proofs.Tests.{same-yes, same-no, pick-true, pick-false}
 use Rattle.lists.proofs.Ranges.{from-length}
+use Rattle.lists.proofs.Stores.{word-range, sets-snoc}
 use Rattle.scheme.specs.Words.{definitions, nodes, branches, formals, root, firstFormal, formalCount, nodeFirst, nodeSecond, isNew, isReceive, branchKind, branchName, next}
 use Rattle.scheme.specs.Owners.{Owner, rootOf, childOf, nextOf, nobody, home, pickOwner, owner, bindsOf, heldBy, definitionBy, held, definition}
-use Rattle.scheme.specs.Index.{ownerNumber, numbered, ownerIn, homeIn, parentOf, stepUp, definitionStep, definitionNext, definitionIn, heldIn, HeldNames}
-use Rattle.scheme.specs.declared.index.Parent.{Parent}
-use Rattle.scheme.specs.declared.index.Parent.the-variants.{Definition, New, Branch, Nobody}
+use Rattle.scheme.specs.Index.{ownerNumber, numbered, ownerIn, homeIn, parentOf, stepUp, definitionIn, heldIn, HeldNames}
+use Rattle.scheme.specs.Inner.Filling.{definitionStep}
+use Rattle.scheme.specs.declared.lookup.Parent.{Parent}
+use Rattle.scheme.specs.declared.lookup.Parent.the-variants.{Definition, New, Branch, Nobody}
 use Rattle.scheme.proofs.Climb.{held-root, held-child, held-next, held-child-not, held-next-not, held-nobody, definition-root, definition-child, definition-next, definition-child-not, definition-next-not, definition-nobody}
-use Rattle.scheme.proofs.Scatter.{word-range}
 
 -- ---- what a step up says
 
@@ -157,7 +157,7 @@ module _ (owners homes : List ℕ) where
 
   -- the definition of a node, where those below it are right
   pub definition-next-in : (below : List ℕ) (n : ℕ) → ((m : ℕ) → m < n → word below m ≡ definitionIn owners homes m)
-      → definitionNext (ownerIn owners) (homeIn homes) below n ≡ definitionIn owners homes n
+      → definitionStep below (parentOf (ownerIn owners) (homeIn homes) n) ≡ definitionIn owners homes n
   definition-next-in below n h =
       as-from (parentOf (ownerIn owners) (homeIn homes) n) ∙
       definition-same (word below) (definitionIn owners homes) n h (parentOf (ownerIn owners) (homeIn homes) n) (lower (ownerIn owners) (homeIn homes) n) ∙
@@ -281,10 +281,6 @@ sets-more out first i e h =
 pub sets-done : (out : List ℕ) (first i e : ℕ) → e ≤ i → sets out i (from (first + i) (e - i)) ≡ out
 unfolding from
 sets-done out first i e h = let q : e - i ≡ 0 = omega arith in rw q
-
-sets-snoc : (l : List ℕ) (i : ℕ) (vs : List ℕ) (a : ℕ) → sets l i (vs ++ (a ∷ [])) ≡ set (sets l i vs) (i + length vs) a
-sets-snoc l i [] a = rw (add-zero i)
-sets-snoc l i (v ∷ vs) a = sets-snoc (set l i v) (suc i) vs a ∙ (let q : suc i + length vs ≡ i + suc (length vs) = omega arith in rw q)
 
 -- one name more
 held-more : (names before middle after : List ℕ) (r x : ℕ) → HeldNames names before r middle → after ≡ set middle r x → HeldNames (names ++ (x ∷ [])) before (r + 1) after

@@ -3,3 +3,5 @@ pub mod Tally
 pub mod SpanLists
 pub mod Scatter
 pub mod Indexed
+pub mod Parts
+pub mod Joined

@@ -14,35 +14,20 @@ use Rattle.lists.specs.Lists.{pick, bit, same, word, from, range, member, first
 use Rattle.lists.proofs.Tests.{same-self, same-no, false-true}
 use Rattle.lists.proofs.Ranges.{from-more, from-done, from-length}
 use Rattle.lists.proofs.First.{First, first-cases, tells-one}
-use Rattle.scheme.specs.Words.{definitions, nodes, branches, root, nodeFirst, nodeSecond, isChoice, isNew, isReceive, branchName, firstFormal, formalCount, formals, branchesOf, next}
+use Rattle.lists.proofs.Stores.{word-range}
+use Rattle.scheme.specs.Words.{definitions, nodes, branches, root, nodeFirst, nodeSecond, isChoice, isNew}
+use Rattle.scheme.specs.Words.{isReceive, branchName, formals, branchesOf, next}
 use Rattle.scheme.specs.Owners.{rootOf, childOf, nextOf, nobody, home, pickOwner, owner}
 use Rattle.scheme.specs.Scheme.{byNew, byReceive, byFormal, unbound, pickBinder, binderOf}
 use Rattle.scheme.specs.Index.{ownerNumber, binderNumber}
-use Rattle.scheme.specs.Inner.Spans.{spanOf, putAll, scatter}
+use Rattle.scheme.specs.Spans.{spanOf}
+use Rattle.scheme.specs.Inner.Scatter.{putAll, scatter}
 use Rattle.scheme.specs.declared.spans.Source.the-variants.{Roots, Formals, NewChildren, NewNames, NextNodes, ReceivedNames, Branches}
 
--- ---- a list of values at the numbers below n
-
-word-map : (g : ℕ → ℕ) (a n i : ℕ) → i < n → word (map g (from a n)) i ≡ g (a + i)
-unfolding from
-word-map g a zero i h = absurd (omega arith)
-word-map g a (suc n) zero h = let q : a ≡ a + 0 = omega arith in ap g q
-word-map g a (suc n) (suc i) h = word-map g (a + 1) n i (omega arith) ∙ (let q : a + 1 + i ≡ a + suc i = omega arith in ap g q)
-
-pub word-range : (g : ℕ → ℕ) (n i : ℕ) → i < n → word (map g (range n)) i ≡ g i
-word-range g n i h = word-map g 0 n i h ∙ (let q : 0 + i ≡ i = omega arith in ap g q)
-
+-- a list of values at the numbers below n
 pub map-range : (g : ℕ → ℕ) (l : List ℕ) (n : ℕ) → length l ≡ n → ((k : ℕ) → k < n → word l k ≡ g k) → l ≡ map g (range n)
 map-range g l n e h =
     ext-getD 0 l (map g (range n)) (e ∙ sym (length-map (range n) g ∙ from-length 0 n)) (λ i u. let v : i < n = omega arith in h i v ∙ sym (word-range g n i v))
-
--- the values below n stand already, and the next one is stored
-pub filled-more : (g : ℕ → ℕ) (l : List ℕ) (n v : ℕ) → n < length l → v ≡ g n → ((k : ℕ) → k < n → word l k ≡ g k) → (k : ℕ) → k < n + 1 → word (set l n v) k ≡ g k
-filled-more g l n v u e h k b = go (ℕ-discrete k n)
-  where
-    go : Dec (k ≡ n) → word (set l n v) k ≡ g k
-    go (yes p) = rw p (getD-set-same l n v 0 u ∙ e)
-    go (no d) = getD-set-other l n k v 0 d ∙ h k (omega arith)
 
 -- ---- the same value at several numbers
 

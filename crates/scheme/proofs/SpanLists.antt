@@ -4,7 +4,8 @@ use mathlib.Core.List.{List}
 use Prim.Native.Nat.{ℕ, _+_, _-_}
 use native.Mathlib.Omega.{arith}
 use Rattle.lists.specs.Lists.{from}
-use Rattle.scheme.specs.Inner.Spans.{Number, spanFirst, spanCount, spanOf}
+use Rattle.scheme.specs.Words.{Number}
+use Rattle.scheme.specs.Spans.{spanFirst, spanCount, spanOf}
 use Rattle.scheme.specs.declared.spans.Source.{Source}
 
 -- the numbers from a span's first up to its end

@@ -1,16 +1,15 @@
 -- Laws of tallies: what a pass over a list of numbers leaves in the counts, and how a count tells none and once.
 use mathlib.Core.Path.{_≡_, refl, sym, ap, _∙_}
-use mathlib.Core.Bool.{Bool, true, false}
 use mathlib.Core.List.{List, [], _∷_, _++_}
 use Prim.Native.Nat.{ℕ, zero, suc, _+_, _-_, _≤_, _<_}
 use native.Mathlib.Decide.{ℕ-discrete}
 use native.Mathlib.Omega.{arith}
-use lib.ListN.{length, getD, set, replicate, length-set, length-replicate, getD-replicate}
+use lib.ListN.{length, replicate, length-set, length-replicate, getD-replicate}
 use lib.Seq.{getD-set-same, getD-set-other}
 use Rattle.lists.specs.Lists.{pick, bit, same, word, from, flat, times}
-use Rattle.lists.proofs.Tests.{same-yes, same-no, same-self}
+use Rattle.lists.proofs.Tests.{same-no, same-self}
 use Rattle.lists.proofs.Ranges.{from-more, from-done, flat-more, flat-done}
-use Rattle.scheme.specs.Inner.Spans.{tallied, tallyAll}
+use Rattle.scheme.specs.Spans.{tallied, tallyAll}
 
 pub tally-append : (c xs ys : List ℕ) → tallyAll c (xs ++ ys) ≡ tallyAll (tallyAll c xs) ys
 unfolding tallyAll

@@ -1,2 +1,3 @@
 -- Definitions for promises of functions that a user of the library need not call.
-pub mod Spans
+pub mod Scatter
+pub mod Filling

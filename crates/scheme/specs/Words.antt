@@ -1,10 +1,16 @@
 -- The process table as words: its counts, sections and fields (document 01, Process table).
 -- Every accessor means something on any list of words: a word past the end reads 0.
-use mathlib.Core.Bool.{Bool, true, false, _&&_}
-use mathlib.Core.List.{List, [], _∷_, map}
-use Prim.Native.Nat.{ℕ, _+_, _-_, _*_}
+use mathlib.Core.Path.{_≡_}
+use mathlib.Core.Bool.{Bool, _&&_}
+use mathlib.Core.List.{List, [], map}
+use Prim.Native.Nat.{ℕ, _+_, _-_, _*_, _<_}
 use lib.Dec.{ltb, leb}
 use Rattle.lists.specs.Lists.{pick, same, word, from}
+
+-- r is the number, and fits a word
+pub record Number (n r : ℕ) : Type 0 where
+  pub is : r ≡ n
+  pub small : r < 65536
 
 -- Entry i of a section of single words, and word k of entry i of a section with 3 or 4 words an entry. The header's word s holds where the
 -- section starts.

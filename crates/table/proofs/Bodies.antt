@@ -6,17 +6,17 @@ use mathlib.Core.Logic.{_⊎_, inl, inr}
 use Prim.Native.Nat.{ℕ, zero, suc, _+_, _-_, _≤_, _<_}
 use native.Mathlib.Omega.{arith}
 use lib.Dec.{ltb}
-use lib.ListN.{length, replicate}
+use lib.ListN.{replicate}
 use borrow.Author.Tests.{lt-ltb, ltb-true}
 use Rattle.lists.specs.Lists.{pick, same, word, from, range, every, member, times}
 use Rattle.lists.proofs.Tests.{true-or-false, both-ways, and-intro, and-left, and-right, same-yes, same-no, pick-same}
 use Rattle.lists.proofs.Ranges.{member-from, from-member, every-same, every-member, member-every, every-below, below-every}
 use Rattle.lists.proofs.Members.{member-append}
-use Rattle.lists.proofs.Counts.{times-none, none-times, member-times}
-use Rattle.scheme.specs.Words.{publics, definitions, nodes, root, firstFormal, formalCount, formals, nodeFirst, nodeSecond, isNew, isCall, isChoice, branchesOf, next, argumentsOf}
+use Rattle.lists.proofs.Counts.{times-none, member-times}
+use Rattle.scheme.specs.Words.{publics, definitions, nodes, root, firstFormal, formalCount, formals, nodeSecond, isNew, isCall, branchesOf, next, argumentsOf}
 use Rattle.scheme.specs.Owners.{held}
 use Rattle.table.specs.Causes.{usable, branchScoped, nodeScoped, scopeRight}
-use Rattle.scheme.specs.Inner.Spans.{tallied, tallyAll}
+use Rattle.scheme.specs.Spans.{tallied, tallyAll}
 use Rattle.table.specs.Inner.Shaped.{Shaped, BranchOf, Reached, from-root, from-new, from-branch}
 use Rattle.table.specs.Inner.Scope.{heldTally, bodyFuel, bodyScoped, branchBodyScoped}
 use Rattle.scheme.proofs.Tally.{tally-none, tally-append, tally-one-more}

@@ -17,3 +17,4 @@ pub mod Bodies
 pub mod Parts
 pub mod Walk
 pub mod NameThreads
+pub mod Lookup

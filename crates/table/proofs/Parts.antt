@@ -1,16 +1,16 @@
 -- A cause's test is the tests of its parts: what each part's check answers, as a fact of the definition.
-use mathlib.Core.Path.{_≡_, refl, sym, ap, _∙_}
+use mathlib.Core.Path.{_≡_, sym, ap, _∙_}
 use mathlib.Core.Bool.{Bool, true, false}
-use mathlib.Core.List.{List, [], _∷_, _++_}
+use mathlib.Core.List.{List, _++_}
 use Prim.Native.Nat.{ℕ, _+_, _-_, _≤_, _<_}
 use native.Mathlib.Omega.{arith}
 use lib.ListN.{replicate}
-use Rattle.lists.specs.Lists.{same, word, bit, from, range, every, flat, member, times}
+use Rattle.lists.specs.Lists.{same, word, bit, from, range, every, flat, times}
 use Rattle.lists.proofs.Ranges.{from-whole, every-same, from-member}
 use Rattle.scheme.specs.Words.{publics, bounds, definitions, nodes, branches, names, nameKind}
 use Rattle.table.specs.Causes.{ownedOnce, boundRight, rootNodes, newChildren, nextNodes}
 use Rattle.table.specs.Inner.Items.{passesOf}
-use Rattle.scheme.specs.Inner.Spans.{spanOf, tallyAll}
+use Rattle.scheme.specs.Spans.{spanOf, tallyAll}
 use Rattle.table.specs.declared.tests.Item.{Item}
 use Rattle.scheme.specs.declared.spans.Source.{Source}
 use Rattle.scheme.specs.declared.spans.Source.the-variants.{Roots, NewChildren, NextNodes}

@@ -1,18 +1,15 @@
 -- Laws of the spans that entries name: as lists of the causes' definitions, and in the check of consecutive ranges.
-use mathlib.Core.Path.{_≡_, refl, sym, ap, _∙_}
-use mathlib.Core.Bool.{Bool, true, false, _&&_}
-use mathlib.Core.List.{List, [], _∷_, _++_}
-use Prim.Native.Nat.{ℕ, zero, suc, _+_, _-_, _≤_, _<_}
-use native.Mathlib.Omega.{arith}
+use mathlib.Core.Path.{_≡_, refl}
+use mathlib.Core.Bool.{Bool, true, false}
+use mathlib.Core.List.{List, [], _∷_}
+use Prim.Native.Nat.{ℕ, _+_, _-_, _≤_, _<_}
 use Rattle.lists.specs.Lists.{pick, bit, same, from, range, flat}
 use Rattle.lists.proofs.Tests.{same-yes, same-no}
 use Rattle.lists.proofs.Ranges.{from-more, from-done}
 use Rattle.lists.proofs.Members.{flat-same}
-use Rattle.scheme.specs.Words.{definitions, nodes, branches, formals, nodeFirst, nodeSecond, isNew, isChoice, branchesOf, branchName, isReceive, root, next}
+use Rattle.scheme.specs.Words.{definitions, nodes, branches, formals, nodeFirst, nodeSecond, isNew, isChoice, branchesOf, branchName, isReceive}
 use Rattle.table.specs.Causes.{rootNodes, newChildren, nextNodes, newNames, receivedNames, formalNames, consecutive}
-use Rattle.scheme.specs.Words.{branchCount}
-use Rattle.scheme.specs.Inner.Spans.{spanOf}
-use Rattle.scheme.specs.declared.spans.Source.{Source}
+use Rattle.scheme.specs.Spans.{spanOf}
 use Rattle.scheme.specs.declared.spans.Source.the-variants.{Roots, Formals, NewChildren, NewNames, NextNodes, ReceivedNames, Branches}
 
 -- a span of one number, or of none

@@ -1,17 +1,18 @@
 -- One step of the scope check into a body, in terms of the words that the code has read.
-use mathlib.Core.Path.{_≡_, refl, sym, ap, _∙_}
-use mathlib.Core.Bool.{Bool, true, false, _&&_}
-use mathlib.Core.List.{List, [], _∷_, _++_, append-nil, map}
+use mathlib.Core.Path.{_≡_, sym, _∙_}
+use mathlib.Core.Bool.{Bool, true, false}
+use mathlib.Core.List.{List, _++_, append-nil}
 use Prim.Native.Nat.{ℕ, _+_, _-_, _≤_, _<_}
 use native.Mathlib.Omega.{arith}
-use Rattle.lists.specs.Lists.{pick, same, word, from, every, member}
+use Rattle.lists.specs.Lists.{word, from, every, member}
 use Rattle.lists.proofs.Tests.{same-yes, same-no}
 use Rattle.lists.proofs.Ranges.{member-from, every-map}
 use Rattle.lists.proofs.Members.{member-map}
-use Rattle.scheme.specs.Words.{nodes, branches, names, formalCount, nodeKind, nodeFirst, nodeSecond, isNew, isCall, isChoice, branchesOf, branchKind, channel, branchName, next, isSilent, isReceive, argument, argumentsOf}
+use Rattle.scheme.specs.Words.{nodes, branches, formalCount, nodeKind, nodeFirst, nodeSecond, isNew, isCall, isChoice}
+use Rattle.scheme.specs.Words.{branchesOf, branchKind, channel, branchName, next, isSilent, isReceive, argument, argumentsOf}
 use Rattle.scheme.specs.Owners.{held, bindsOf}
 use Rattle.table.specs.Causes.{usable, branchScoped}
-use Rattle.scheme.specs.Inner.Spans.{tallied}
+use Rattle.scheme.specs.Spans.{tallied}
 use Rattle.table.specs.Inner.Shaped.{Shaped, BranchOf}
 use Rattle.table.specs.Inner.Scope.{heldTally, bodyScoped, branchBodyScoped}
 use Rattle.table.proofs.Parts.{from-to}

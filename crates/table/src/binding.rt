@@ -4,7 +4,7 @@ ghost use Prim.Native.Nat.{_-_, _≤_, _<_};
 ghost use Rattle.lists.specs.Lists.{same, word, bit, from, range, every, flat};
 ghost use Rattle.scheme.specs.Words.{publics, bounds, names, nameKind};
 ghost use Rattle.table.specs.Causes.{boundRight, bindingRight};
-ghost use Rattle.scheme.specs.Inner.Spans.{spanOf};
+ghost use Rattle.scheme.specs.Spans.{spanOf};
 use lists::word8;
 use lists::word16;
 use scheme::fields::name_kind;

@@ -3,6 +3,7 @@
 ghost use mathlib.Core.Path.{_≡_};
 ghost use Prim.Native.Nat.{_≤_};
 ghost use Rattle.scheme.specs.Words.{definitions, nodes, branches};
+ghost use Rattle.scheme.specs.Index.{definitionsIn};
 ghost use Rattle.lists.specs.Lists.{word, range, every};
 ghost use Rattle.table.specs.Causes.{entryRight, callRightIn, callsRight};
 use crate::tests::Item;
@@ -11,9 +12,9 @@ use lists::word16;
 use scheme::fields::field1;
 use scheme::fields::field3;
 use scheme::fields::field4;
-use scheme::index::first_definitions;
-use scheme::index::homes;
-use scheme::index::owners;
+use scheme::index::BINDERS;
+use scheme::index::fill_bodies;
+use scheme::lookup::definition;
 
 pub(crate) fn entry_right(table: &[u16], thread: usize) -> bool
     ensures { λ r. ⌜ r ≡ entryRight (now (table .entry)) thread ⌝ }
@@ -42,15 +43,16 @@ fn call_right(table: &[u16], node: usize, own: usize, spared: bool) -> bool
     called != own
 }
 
-// Whether every Call is right, with the definition of each node at hand.
-fn all_calls_right(table: &[u16], definitions: &[u16], spared: bool) -> bool
-    ensures { λ r. ⌜ r ≡ every (λ n. callRightIn (now (table .entry)) spared (word (now (definitions .entry)) n) n)
+// Whether every Call is right, by the definitions that an index has.
+fn all_calls_right(table: &[u16], index: &[u32], spared: bool) -> bool
+    ensures { λ r. ⌜ r ≡ every
+        (λ n. callRightIn (now (table .entry)) spared (word (definitionsIn (now (index .entry))) n) n)
         (range (nodes (now (table .entry)))) ⌝ }
 {
     let count = word16(table, 4);
     let mut n = 0;
     while n < count {
-        if !call_right(table, n, word16(definitions, n), spared) {
+        if !call_right(table, n, definition(index, n), spared) {
             return false;
         }
         n += 1;
@@ -65,11 +67,7 @@ pub(crate) fn calls_right(table: &[u16], spared: bool) -> bool
     if !all_pass(table, Item::EntryRight, 0, word16(table, 3)) {
         return false;
     }
-    let mut owner = [0u32; 256];
-    let mut home = [0u32; 256];
-    let mut definition = [0u16; 256];
-    owners(table, &mut owner);
-    homes(table, &mut home);
-    first_definitions(&owner, &home, word16(table, 4), &mut definition);
-    all_calls_right(table, &definition, spared)
+    let mut index = [0u32; BINDERS];
+    fill_bodies(table, &mut index);
+    all_calls_right(table, &index, spared)
 }

@@ -5,7 +5,7 @@ ghost use lib.Dec.{ltb};
 ghost use Rattle.lists.specs.Lists.{same, word, from, range, every};
 ghost use Rattle.scheme.specs.Words.{nodes, next};
 ghost use Rattle.table.specs.Causes.{consecutive, ownedOnce, childrenAbove, shapeRight};
-ghost use Rattle.scheme.specs.Inner.Spans.{spanFirst, spanCount};
+ghost use Rattle.scheme.specs.Spans.{spanFirst, spanCount};
 use crate::tests::Item;
 use crate::tests::all_pass;
 use lists::word8;

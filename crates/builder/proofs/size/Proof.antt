@@ -1,10 +1,10 @@
 -- `builder::size` meets its contract: what the table measures decides.
-use mathlib.Core.Path.{_≡_, sym, subst, _∙_}
+use mathlib.Core.Path.{refl, _∙_}
 use native.Mathlib.Omega.{arith}
 use borrow.Author.Needs.{needs}
-use Rattle.places.specs.Inner.Counting.{Few}
-use Rattle.places.proofs.Indexing.{measured-net, measured-refused, measured-short}
-use Rattle.places.proofs.WholeSums.{whole-few, words-are}
+use Rattle.places.proofs.Outcomes.{measured-net, measured-refused, measured-short}
+use Rattle.places.proofs.Plans.{few-tokens}
+use Rattle.places.proofs.WholeSums.{few-totals, words-are}
 use Rattle.builder.proofs.Building.{size-answer, no-size}
 use Rattle.builder.proofs.size.Statement.{statement}
 use Rattle.builder.proofs.size.Tie as tie
@@ -12,29 +12,19 @@ use Rattle.builder.proofs.size.Tie as tie
 slice-aggregate-measure : tie.Need-slice-aggregate-measure
 slice-aggregate-measure c = search needs
 
-slice-aggregate-measure-2 : tie.Need-slice-aggregate-measure-2
-slice-aggregate-measure-2 c = search needs
-
-slice-aggregate-measure-3 : tie.Need-slice-aggregate-measure-3
-slice-aggregate-measure-3 c = search needs
-
-slice-aggregate-measure-4 : tie.Need-slice-aggregate-measure-4
-slice-aggregate-measure-4 c = search needs
-
-slice-aggregate-measure-5 : tie.Need-slice-aggregate-measure-5
-slice-aggregate-measure-5 c = search needs
-
 measure-requires : tie.Need-measure-requires
 measure-requires c κs = search needs
 
-enum-known-plan : tie.Need-enum-known-plan
-enum-known-plan c = search needs
+enum-known-totals : tie.Need-enum-known-totals
+enum-known-totals c = search needs
+
+slice-aggregate-length-of : tie.Need-slice-aggregate-length-of
+slice-aggregate-length-of c = search needs
 
 length-of-requires : tie.Need-length-of-requires
 length-of-requires c κs =
-    let e = c .before .before .before .before .before .before .before .before .measure .ensures in
-    let m = measured-net _ _ _ _ _ _ _ e _ _ (c .before .plan .given .1) in
-    (m .0 .2 .few-tokens, subst Few (sym (m .1)) (whole-few _ (m .0 .0 .accepted)))
+    let m = measured-net _ _ _ _ (c .before .before .before .before .before .measure .ensures) _ (c .before .before .totals .given .1) in
+    (few-tokens _ _ (m .0), few-totals _ (m .0 .accepted) _ (m .0) _ (m .1))
 
 enum-known-verdict : tie.Need-enum-known-verdict
 enum-known-verdict c = search needs
@@ -44,34 +34,26 @@ enum-told c = search needs
 
 returns : tie.Need-returns
 returns c =
-    let e = c .before .before .before .before .before .before .before .before .before .measure .ensures in
-    let m = measured-net _ _ _ _ _ _ _ e _ _ (c .before .before .plan .given .1) in
-    size-answer _ _ (m .0 .0 .accepted) (c .length-of .ensures ∙ words-are _ (m .0 .0 .accepted) _ _ _ (m .0 .2) _ (m .1))
+    let m = measured-net _ _ _ _ (c .before .before .before .before .before .before .measure .ensures) _ (c .before .before .before .totals .given .1) in
+    size-answer _ _ (m .0 .accepted) (c .length-of .ensures ∙ words-are _ (m .0 .accepted) _ (m .0) _ (m .1) _ refl)
 
 returns-2 : tie.Need-returns-2
 returns-2 c =
-    let e = c .before .before .before .before .before .before .before .before .measure .ensures in
-    let k = measured-refused _ _ _ _ _ _ _ e _ (c .before .verdict .given .1) in
+    let k = measured-refused _ _ _ _ (c .before .before .before .before .measure .ensures) _ (c .before .verdict .given .1) in
     no-size _ _ (k .0) (k .1)
 
 returns-3 : tie.Need-returns-3
-returns-3 c =
-    let m = c .before .before .before .before .before .before .before .measure in
-    let k = m .kept in
-    absurd (measured-short _ _ _ _ _ _ _ (m .ensures) (c .enum-told .given .1) (omega (arith, k .1 .0)) (omega (arith, k .1 .1 .0))
-    (omega (arith, k .1 .1 .1 .0)) (omega (arith, k .1 .1 .1 .1 .0)) (omega (arith, k .1 .1 .1 .1 .1 .0)))
+returns-3 c = absurd (measured-short _ _ _ _ (c .before .before .before .measure .ensures) (c .enum-told .given .1) (omega
+    (arith, c .before .before .before .measure .kept .1 .0)))
 
 pub size-spec : {M : Type 1} → statement M
 size-spec =
     tie.close
     (tie.spec
     slice-aggregate-measure
-    slice-aggregate-measure-2
-    slice-aggregate-measure-3
-    slice-aggregate-measure-4
-    slice-aggregate-measure-5
     measure-requires
-    enum-known-plan
+    enum-known-totals
+    slice-aggregate-length-of
     length-of-requires
     enum-known-verdict
     enum-told

@@ -5,7 +5,7 @@ use mathlib.Core.List.{List, [], _∷_, map}
 use Prim.Native.Nat.{ℕ, _+_, _≤_, _<_}
 use lib.Dec.{ltb}
 use lib.ListN.{length, take}
-use Rattle.lists.specs.Lists.{pick, from, range, flat, member, ascends}
+use Rattle.lists.specs.Lists.{pick, word, from, range, flat, member, ascends}
 use Rattle.scheme.specs.Words.{publics, bounds, nodes, branches, channel, branchName, next, nodeFirst, nodeSecond, isSend, isReceive}
 use Rattle.scheme.specs.Owners.{home, branchThread}
 use Rattle.scheme.specs.Scheme.{scheme}
@@ -16,9 +16,10 @@ use Rattle.places.specs.Places.{Place, controls, common}
 use Rattle.places.specs.Transitions.{Description, making, communicating, sentOn, ofPair}
 use Rattle.places.specs.Image.{transitionOf}
 use Rattle.places.specs.Inner.Arcs.{insert, numbersOf, startsAt}
-use Rattle.places.specs.Inner.Plan.{today, values, controlOf, rowOf, Reads}
+use Rattle.places.specs.Inner.Plan.{today, values, controlOf, rowOf, reached, Reads}
 use Rattle.builder.specs.Inner.Writing
 use Rattle.builder.specs.Inner.Writing.{heads, putAll, rise}
+use Rattle.places.specs.declared.layout.Reach.{Reach}
 use Rattle.builder.specs.declared.write.Heads.{Heads}
 use Rattle.builder.specs.declared.write.Arcs.{Arcs}
 use Rattle.builder.specs.declared.chain.Chain.{Chain}
@@ -152,3 +153,11 @@ Placed w p count before r after = (ps : List Place) → Filled w before count ps
 unfoldable pub pairTold : List ℕ → ℕ → ℕ → List Description
 pairTold w s r =
     flat (λ i. map (told w s r i) (sentOn (scheme w) (today w) (channel w s) (branchName w s) i)) (common (scheme w) (today w) (channel w s) (channel w r))
+
+-- value k of a reach with p public values, however many private ones there are
+abbrev pub ValueAt : ℕ → Reach → ℕ → ℕ → Type 0
+ValueAt p r k v = (n : ℕ) → k < length (reached p n r) → v ≡ word (reached p n r) k
+
+-- how many values a reach with n private values has, however many public ones there are
+abbrev pub CountOf : ℕ → Reach → ℕ → Type 0
+CountOf n r k = (p : ℕ) → k ≡ length (reached p n r)

@@ -7,7 +7,8 @@ use mathlib.Core.List.{List, [], _∷_}
 use Rattle.scheme.specs.Scheme.{Scheme, new, call, silent, send, receive}
 use Rattle.process.specs.States.{State}
 use Rattle.process.specs.Steps.{Step, newStep, silentStep, communication, callStep}
-use Rattle.process.specs.Labels.{isBookkeeping, stepOf}
+use Rattle.net.specs.Image.{isBookkeeping}
+use Rattle.process.specs.Labels.{stepOf}
 use Rattle.places.specs.Values.{Values}
 use Rattle.places.specs.Transitions.{Description}
 use Rattle.readback.specs.Configurations.{Configuration}

@@ -8,8 +8,8 @@ use Rattle.lists.specs.Lists.{pick, bit}
 use Rattle.scheme.specs.Scheme.{Scheme}
 use Rattle.process.specs.States.{State, valueOf}
 use Rattle.process.specs.Steps as Steps
-use Rattle.process.specs.Labels.{isBookkeeping, stepOf}
-use Rattle.net.specs.Image.{Label}
+use Rattle.process.specs.Labels.{stepOf}
+use Rattle.net.specs.Image.{Label, isBookkeeping}
 use Rattle.places.specs.Values.{Values}
 use Rattle.places.specs.Places.{places}
 use Rattle.places.specs.Transitions.{Description}

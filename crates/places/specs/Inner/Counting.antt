@@ -12,18 +12,7 @@ use Rattle.scheme.specs.Scheme.{scheme}
 use Rattle.net.specs.Net.{Transition}
 use Rattle.places.specs.Places.{common}
 use Rattle.places.specs.Inner.Plan.{today, privatesOf, values, freeNames}
-use Rattle.places.specs.declared.count.Totals.{Totals}
-
-pub record Sums : Type 0 where
-  pub transitions : ℕ
-  pub inputs : ℕ
-  pub outputs : ℕ
-
-abbrev pub sums : ℕ → ℕ → ℕ → Sums
-sums t i o = record { transitions = t; inputs = i; outputs = o }
-
-abbrev pub sumsOf : Totals → Sums
-sumsOf t = sums (t .transitions) (t .inputs) (t .outputs)
+use Rattle.places.specs.Answers.{Sums, sums}
 
 -- every count is below 2³²
 pub record Few (s : Sums) : Type 0 where

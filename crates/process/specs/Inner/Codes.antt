@@ -12,7 +12,7 @@ use Rattle.process.specs.Steps.{newStep, silentStep, communication, call
 use Rattle.process.specs.Labels
 use Rattle.process.specs.Labels.{Meaning, bookkeeping, step, missing, copy, release}
 use Rattle.process.specs.StateWords.{stateOf}
-use Rattle.process.specs.Inner.Index.{Indexed, Bound}
+use Rattle.table.specs.Known.{Known}
 use Rattle.process.specs.declared.labels.Step.{Step}
 use Rattle.process.specs.declared.labels.Step.the-variants.{New, Silent, Communicate, Call}
 use Rattle.process.specs.declared.labels.Bookkeeping as code
@@ -59,12 +59,7 @@ opened Closed = noStep
 abbrev pub ifOpen : Scheme → State → Steps.Step → Steps.Step
 ifOpen S s x = pick (isOpen S s x) x noStep
 
--- the words have the index of an accepted table, and the step is open in the state
-pub record Going (w homes definitions ws : List ℕ) (x : Steps.Step) : Type 0 where
-  pub indexed : Indexed w homes definitions
+-- the table is accepted and the index is its own, and the step is open in the state
+pub record Going (w index ws : List ℕ) (x : Steps.Step) : Type 0 where
+  pub known : Known w index
   pub is-open : isOpen (scheme w) (stateOf (scheme w) ws) x ≡ true
-
--- moreover the words have what binds each name
-pub record Valuing (w homes definitions binders ws : List ℕ) (x : Steps.Step) : Type 0 where
-  pub going : Going w homes definitions ws x
-  pub bound : Bound w homes definitions binders

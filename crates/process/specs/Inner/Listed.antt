@@ -13,7 +13,7 @@ use Rattle.scheme.specs.Kinds.{isSilent}
 use Rattle.process.specs.States.{State}
 use Rattle.process.specs.Steps.{silentStep, communication, isOpen, standsAt}
 use Rattle.process.specs.Labels.{labelOf, stepsOfNode}
-use Rattle.process.specs.Inner.Index.{Indexed}
+use Rattle.table.specs.Known.{Known}
 
 -- the words are written from place i on, as far as the buffer reaches; the next place is r, not far from i
 pub record Listed (most : ℕ) (words before : List ℕ) (i : ℕ) (after : List ℕ) (r : ℕ) : Type 0 where
@@ -61,22 +61,17 @@ module _ (S : Scheme) where
 unfoldable pub standing : List ℕ → State → ℕ → ℕ → List ℕ
 standing w s kind b = pick ((ltb b (branches w) && same (branchKind w b) kind) && standsAt (scheme w) s (scheme w .home b)) (b ∷ []) []
 
--- the first words of a buffer hold branches
-pub record Gathered (buffer : List ℕ) (count : ℕ) : Type 0 where
-  pub reach : count ≤ length buffer
-  pub few : count ≤ 256
-
--- the index of an accepted table, a place to write at, and the receives gathered
-pub record Pairing (w homes definitions receives : List ℕ) (count i : ℕ) : Type 0 where
-  pub indexed : Indexed w homes definitions
-  pub gathered : Gathered receives count
+-- the index of an accepted table, a place to write at, and few receives
+pub record Pairing (w index receives : List ℕ) (i : ℕ) : Type 0 where
+  pub known : Known w index
+  pub few : length receives ≤ 256
   pub room : i < near
 
--- the index, and both gathered
-pub record Meeting (w homes definitions sends : List ℕ) (s : ℕ) (receives : List ℕ) (r : ℕ) : Type 0 where
-  pub indexed : Indexed w homes definitions
-  pub sends-gathered : Gathered sends s
-  pub receives-gathered : Gathered receives r
+-- the index, and few sends and receives
+pub record Meeting (w index sends receives : List ℕ) : Type 0 where
+  pub known : Known w index
+  pub few-sends : length sends ≤ 256
+  pub few-receives : length receives ≤ 256
 
 -- the words are written if there is room for all of them; r is how many there are
 pub record Fitted (words before after : List ℕ) (r : ℕ) : Type 0 where

@@ -1,6 +1,6 @@
 -- Values as words: 65535 stands for none.
 use mathlib.Core.Path.{_≡_}
-use mathlib.Core.Option.{Option, none, some}
+use mathlib.Core.Option.{Option}
 use mathlib.Core.List.{List, _∷_}
 use Prim.Native.Nat.{ℕ, _+_, _≤_, _<_}
 use lib.Dec.{ltb}
@@ -8,18 +8,11 @@ use lib.ListN.{length}
 use lib.Seq.{slice}
 use Rattle.lists.specs.Lists.{pick, same}
 use Rattle.process.specs.StateWords.{valueWords}
-
-abbrev pub valueAt : ℕ → Option ℕ
-valueAt v = pick (same v 65535) none (some v)
+pub use Rattle.process.specs.StateWords.{valueAt}
 
 -- r is the word of a value that may be missing
 pub record Valued (o : Option ℕ) (r : ℕ) : Type 0 where
   pub is : o ≡ valueAt r
-  pub small : r < 65536
-
--- r is the number, and fits a word
-pub record Number (n r : ℕ) : Type 0 where
-  pub is : r ≡ n
   pub small : r < 65536
 
 -- how many private values have appeared once v has, where `seen` had before it and were numbered from P on; 65536 where v is numbered otherwise

@@ -1,23 +1,27 @@
 -- `readback::read_laid` meets its contract.
-use mathlib.Core.Path.{_≡_, refl, sym, ap, _∙_}
-use Prim.Native.Nat.{ℕ, _+_, _-_, _≤_, _<_}
+use mathlib.Core.Path.{sym, _∙_}
 use native.Mathlib.Omega.{arith}
 use borrow.Author.Tests.{not-true, not-false}
 use Rattle.readback.proofs.Settling.{clear-seeking, count-is, here}
 use Rattle.readback.proofs.Answering.{no-marking, no-state, no-room, done, state-is}
+use Rattle.places.proofs.Plans.{known}
 use borrow.Author.Needs.{needs}
 use Rattle.readback.proofs.read_laid.Statement.{statement}
 use Rattle.readback.proofs.read_laid.Tie as tie
+
+place-count-requires : tie.Need-place-count-requires
+place-count-requires c κs = search needs
 
 marking-right-requires : tie.Need-marking-right-requires
 marking-right-requires c κs = search needs
 
 returns : tie.Need-returns
 returns c =
-    let s = c .before .before .before .before .before .before .before .before .before .before in
-    no-marking (s .args .table .now) (s .args .marking .now) (s .args .state .now) (s .args .plan .places)
-    (count-is (s .args .table .now) (s .args .owners .now) (s .args .homes .now) (s .args .definitions .now) (s .args .rows .now)
-    (s .args .spots .now) (s .args .plan) (s .pre)) (sym (c .before .marking-right .ensures) ∙ not-true _ (c .if1 .taken))
+    let at-place-count = c .before .before in
+    let s = at-place-count .before .before .before .before .before in
+    no-marking (s .args .table .now) (s .args .marking .now) (s .args .state .now) (at-place-count .place-count .result)
+    (count-is (s .args .table .now) (s .args .index .now) (s .pre) _ (at-place-count .place-count .ensures .is))
+    (sym (c .before .marking-right .ensures) ∙ not-true _ (c .if1 .taken))
 
 slice-aggregate-stands-for : tie.Need-slice-aggregate-stands-for
 slice-aggregate-stands-for c = search needs
@@ -32,13 +36,12 @@ stands-for-requires : tie.Need-stands-for-requires
 stands-for-requires c κs =
     let at-if1 = c .before .before .before in
     let at-marking-right = at-if1 .before in
-    let s = at-marking-right .before .before .before .before .before .before .before .before .before in
+    let at-place-count = at-marking-right .before in
+    let s = at-place-count .before .before .before .before .before in
     record {
-      ready = s .pre;
-      seeking = clear-seeking (s .args .table .now) (s .args .owners .now) (s .args .homes .now) (s .args .definitions .now) (s .args .rows .now)
-          (s .args .spots .now) (s .args .plan) (s .pre);
+      seeking = clear-seeking (s .args .table .now) (s .args .index .now) (s .pre);
       room = omega arith;
-      marking = sym (at-marking-right .marking-right .ensures) ∙ not-false _ (at-if1 .if1 .left);
+      marking = rw (← at-place-count .place-count .ensures .is) (sym (at-marking-right .marking-right .ensures) ∙ not-false _ (at-if1 .if1 .left));
     }
 
 returns-2 : tie.Need-returns-2
@@ -46,10 +49,11 @@ returns-2 c =
     let at-stands-for = c .before .before .before .before in
     let at-if1 = at-stands-for .before .before .before .before in
     let at-marking-right = at-if1 .before in
-    let s = at-marking-right .before .before .before .before .before .before .before .before .before in
-    no-state (s .args .table .now) (s .args .marking .now) (s .args .state .now) (s .args .plan .places)
-    (count-is (s .args .table .now) (s .args .owners .now) (s .args .homes .now) (s .args .definitions .now) (s .args .rows .now)
-    (s .args .spots .now) (s .args .plan) (s .pre)) (sym (at-marking-right .marking-right .ensures) ∙ not-false _ (at-if1 .if1 .left))
+    let at-place-count = at-marking-right .before in
+    let s = at-place-count .before .before .before .before .before in
+    no-state (s .args .table .now) (s .args .marking .now) (s .args .state .now) (at-place-count .place-count .result)
+    (count-is (s .args .table .now) (s .args .index .now) (s .pre) _ (at-place-count .place-count .ensures .is))
+    (sym (at-marking-right .marking-right .ensures) ∙ not-false _ (at-if1 .if1 .left))
     (sym (at-stands-for .stands-for .ensures .0) ∙ not-true _ (c .if2 .taken))
 
 word16-requires : tie.Need-word16-requires
@@ -63,17 +67,17 @@ add-size c = search needs
 
 returns-3 : tie.Need-returns-3
 returns-3 c =
-    let at-word16 = c .before .before in
-    let at-if2 = at-word16 .before in
+    let at-if2 = c .before .before .before in
     let at-stands-for = at-if2 .before .before .before .before in
     let at-if1 = at-stands-for .before .before .before .before in
     let at-marking-right = at-if1 .before in
-    let s = at-marking-right .before .before .before .before .before .before .before .before .before in
-    no-room (s .args .table .now) (s .args .marking .now) (s .args .state .now) (s .args .plan .places)
-    (count-is (s .args .table .now) (s .args .owners .now) (s .args .homes .now) (s .args .definitions .now) (s .args .rows .now)
-    (s .args .spots .now) (s .args .plan) (s .pre)) (sym (at-marking-right .marking-right .ensures) ∙ not-false _ (at-if1 .if1 .left))
+    let at-place-count = at-marking-right .before in
+    let s = at-place-count .before .before .before .before .before in
+    no-room (s .args .table .now) (s .args .marking .now) (s .args .state .now) (at-place-count .place-count .result)
+    (count-is (s .args .table .now) (s .args .index .now) (s .pre) _ (at-place-count .place-count .ensures .is))
+    (sym (at-marking-right .marking-right .ensures) ∙ not-false _ (at-if1 .if1 .left))
     (sym (at-stands-for .stands-for .ensures .0) ∙ not-false _ (at-if2 .if2 .left)) _
-    (omega (arith, at-word16 .word16 .ensures .is, c .before .word162 .ensures .is)) (c .if3 .taken)
+    (omega (arith, c .before .before .word16 .ensures .is, c .before .word162 .ensures .is)) (c .if3 .taken)
 
 slice-aggregate-write-nodes : tie.Need-slice-aggregate-write-nodes
 slice-aggregate-write-nodes c = search needs
@@ -85,8 +89,8 @@ write-nodes-requires : tie.Need-write-nodes-requires
 write-nodes-requires c κs =
     let at-if2 = c .before .before .before .before .before .before in
     let at-stands-for = at-if2 .before .before .before .before in
-    let s = at-stands-for .before .before .before .before .before .before .before .before .before .before .before .before .before .before in
-    (s .pre .known .accepted, (at-stands-for .stands-for .ensures .1 (not-false _ (at-if2 .if2 .left))) .at-nodes)
+    let s = at-stands-for .before .before .before .before .before .before .before .before .before .before .before in
+    (s .pre .accepted, (at-stands-for .stands-for .ensures .1 (not-false _ (at-if2 .if2 .left))) .at-nodes)
 
 slice-aggregate-write-values : tie.Need-slice-aggregate-write-values
 slice-aggregate-write-values c = search needs
@@ -101,16 +105,15 @@ write-values-requires : tie.Need-write-values-requires
 write-values-requires c κs =
     let at-if2 = c .before .before .before .before .before .before .before .before .before .before .before .before .before in
     let at-stands-for = at-if2 .before .before .before .before in
-    let s = at-stands-for .before .before .before .before .before .before .before .before .before .before .before .before .before .before in
-    (s .pre .defined, (at-stands-for .stands-for .ensures .1 (not-false _ (at-if2 .if2 .left))) .at-nodes)
+    let s = at-stands-for .before .before .before .before .before .before .before .before .before .before .before in
+    (known _ _ (s .pre), (at-stands-for .stands-for .ensures .1 (not-false _ (at-if2 .if2 .left))) .at-nodes)
 
 same-length : tie.Need-same-length
 same-length c = search needs
 
 returns-4 : tie.Need-returns-4
 returns-4 c =
-    let at-write-values = c .before .before in
-    let at-write-nodes = at-write-values .before .before .before .before .before .before .before in
+    let at-write-nodes = c .before .before .before .before .before .before .before .before .before in
     let at-if3 = at-write-nodes .before .before .before .before in
     let at-word162 = at-if3 .before in
     let at-word16 = at-word162 .before in
@@ -118,22 +121,24 @@ returns-4 c =
     let at-stands-for = at-if2 .before .before .before .before in
     let at-if1 = at-stands-for .before .before .before .before in
     let at-marking-right = at-if1 .before in
-    let s = at-marking-right .before .before .before .before .before .before .before .before .before in
-    done (s .args .table .now) (s .args .marking .now) (s .args .state .now) (s .args .plan .places)
-    (count-is (s .args .table .now) (s .args .owners .now) (s .args .homes .now) (s .args .definitions .now) (s .args .rows .now)
-    (s .args .spots .now) (s .args .plan) (s .pre)) (sym (at-marking-right .marking-right .ensures) ∙ not-false _ (at-if1 .if1 .left))
+    let at-place-count = at-marking-right .before in
+    let s = at-place-count .before .before .before .before .before in
+    done (s .args .table .now) (s .args .marking .now) (s .args .state .now) (at-place-count .place-count .result)
+    (count-is (s .args .table .now) (s .args .index .now) (s .pre) _ (at-place-count .place-count .ensures .is))
+    (sym (at-marking-right .marking-right .ensures) ∙ not-false _ (at-if1 .if1 .left))
     (sym (at-stands-for .stands-for .ensures .0) ∙ not-false _ (at-if2 .if2 .left)) _
     (omega (arith, at-word16 .word16 .ensures .is, at-word162 .word162 .ensures .is)) _ (at-if3 .if3 .left)
-    (state-is (s .args .table .now) (s .args .marking .now) _ _ _ (s .pre .known .accepted)
-    (here (s .args .table .now) (s .args .owners .now) (s .args .homes .now) (s .args .definitions .now) (s .args .rows .now) (s .args .spots .now)
-    (s .args .plan) (s .pre) (s .args .marking .now) (sym (at-marking-right .marking-right .ensures) ∙ not-false _ (at-if1 .if1 .left)))
+    (state-is (s .args .table .now) (s .args .marking .now) _ _ _ (s .pre .accepted)
+    (here (s .args .table .now) (s .args .index .now) (s .pre) (s .args .marking .now)
+    (rw (← at-place-count .place-count .ensures .is) (sym (at-marking-right .marking-right .ensures) ∙ not-false _ (at-if1 .if1 .left))))
     (at-stands-for .stands-for .ensures .1 (not-false _ (at-if2 .if2 .left))) (s .args .state .now) _ _ (at-write-nodes .write-nodes .ensures)
-    (at-write-values .write-values .ensures))
+    (c .before .before .write-values .ensures))
 
 pub read-laid-spec : {M : Type 1} → statement M
 read-laid-spec =
     tie.close
     (tie.spec
+    place-count-requires
     marking-right-requires
     returns
     slice-aggregate-stands-for

@@ -5,17 +5,10 @@ use Prim.Native.Nat.{ℕ, _≤_, _<_}
 use lib.ListN.{length}
 use Rattle.lists.specs.Lists.{word}
 use Rattle.scheme.specs.Words.{nodes, threads}
-use Rattle.scheme.specs.Owners.{definition}
 use Rattle.scheme.specs.Scheme.{scheme}
-use Rattle.places.specs.Inner.Plan.{Spotted, controlOf}
-use Rattle.places.specs.declared.layout.Layout.{Layout}
+use Rattle.places.specs.Plan.{Laid}
 use Rattle.readback.specs.Configurations.{spot}
 use Rattle.readback.specs.Inner.Standing.{firstOf, spotsBelow, spotsAt}
-
--- where the control places of nodes start and end
-pub record Placed (w spots : List ℕ) (plan : Layout) : Type 0 where
-  pub spotted : Spotted w spots
-  pub places-are : plan .places ≡ controlOf w (nodes w)
 
 -- there is a word for each thread
 pub record Room (counts places indexes : List ℕ) : Type 0 where
@@ -40,17 +33,15 @@ abbrev pub SpotsFound : List ℕ → List ℕ → List ℕ → List ℕ → Type
 SpotsFound w m places indexes = (t : ℕ) → t < threads w → spot (word places t) (word indexes t) ≡ firstOf (spotsAt (scheme w) m t)
 
 -- the nodes below n are noted, and node n is next
-pub record Noting (w definitions spots : List ℕ) (plan : Layout) (m : List ℕ) (n : ℕ) (counts places indexes : List ℕ) : Type 0 where
-  pub placed : Placed w spots plan
-  pub definition-in : (k : ℕ) → k < nodes w → word definitions k ≡ definition w k
+pub record Noting (w index m : List ℕ) (n : ℕ) (counts places indexes : List ℕ) : Type 0 where
+  pub laid : Laid w index
   pub inside : n < nodes w
   pub room : Room counts places indexes
   pub noted : NotedAll w m n counts places indexes
 
 -- what is needed to find where threads stand; nothing is noted yet
-pub record Seeking (w definitions spots : List ℕ) (plan : Layout) (counts places indexes : List ℕ) : Type 0 where
-  pub placed : Placed w spots plan
-  pub definition-in : (k : ℕ) → k < nodes w → word definitions k ≡ definition w k
+pub record Seeking (w index counts places indexes : List ℕ) : Type 0 where
+  pub laid : Laid w index
   pub room : Room counts places indexes
   pub counts-clear : Clear counts
   pub places-clear : Clear places

@@ -4,29 +4,23 @@ use mathlib.Core.Bool.{Bool, true}
 use mathlib.Core.List.{List}
 use Prim.Native.Nat.{ℕ, _≤_}
 use lib.ListN.{length, replicate}
+use Rattle.lists.specs.Lists.{word}
 use Rattle.scheme.specs.Words.{names}
 use Rattle.scheme.specs.Scheme.{scheme}
 use Rattle.net.specs.Firing.{isMarking}
 use Rattle.places.specs.Places
-use Rattle.places.specs.Inner.Plan.{today, Known, Defined, Laid}
-use Rattle.places.specs.declared.layout.Layout.{Layout}
+use Rattle.places.specs.Plan.{placesAt}
+use Rattle.places.specs.Inner.Plan.{today}
 use Rattle.readback.specs.Reading.{marked, standsForState}
 use Rattle.readback.specs.Inner.Noting.{Seeking, SpotsFound}
 use Rattle.readback.specs.Inner.Showing.{AtNodes}
 use Rattle.readback.specs.Inner.Holding.{ValuesBelow}
 
--- an accepted table, its index and where its places stand
-pub record Ready (w owners homes definitions rows spots : List ℕ) (plan : Layout) : Type 0 where
-  pub known : Known w owners homes
-  pub defined : Defined w homes definitions
-  pub laid : Laid w rows spots plan
-
--- and a marking, with lent words that are clear
-pub record Settling (w owners homes definitions rows spots : List ℕ) (plan : Layout) (m places indexes values : List ℕ) : Type 0 where
-  pub ready : Ready w owners homes definitions rows spots plan
-  pub seeking : Seeking w definitions spots plan (replicate 8 0) places indexes
+-- an accepted table with its plan and a marking, with lent words that are clear
+pub record Settling (w index m places indexes values : List ℕ) : Type 0 where
+  pub seeking : Seeking w index (replicate 8 0) places indexes
   pub room : 64 ≤ length values
-  pub marking : isMarking (plan .places) m ≡ true
+  pub marking : isMarking (word index placesAt) m ≡ true
 
 -- where threads stand, and the values of bound names
 pub record Settled (w m places indexes values : List ℕ) : Type 0 where

@@ -1,17 +1,14 @@
--- Where threads stand, which values names have and what binds them, all in lent words.
+-- Where threads stand and which values names have, all in lent words.
 use mathlib.Core.Path.{_≡_}
 use mathlib.Core.Option.{Option, some}
 use mathlib.Core.List.{List}
-use Prim.Native.Nat.{ℕ, _≤_, _<_}
+use Prim.Native.Nat.{ℕ, _<_}
 use lib.Dec.{ltb}
 use Rattle.lists.specs.Lists.{pick, word}
 use Rattle.scheme.specs.Words
-use Rattle.scheme.specs.Words.{publics, names, threads}
+use Rattle.scheme.specs.Words.{publics, threads}
 use Rattle.table.specs.Causes.{cause}
-use Rattle.scheme.specs.Scheme.{binderOf}
-use Rattle.scheme.specs.Index.{binderNumber}
 use Rattle.process.specs.Inner.Values.{valueAt}
-use Rattle.places.specs.Inner.Plan.{Defined}
 use Rattle.readback.specs.Configurations.{Spot, spot}
 
 -- each thread stands at a node of the table
@@ -35,9 +32,3 @@ pub record CallOf (w : List ℕ) (n x : ℕ) : Type 0 where
   pub node-of : NodeOf w n
   pub is-call : Words.nodeKind w n ≡ 3
   pub small : x < 65535
-
--- definitions of nodes, what binds each name, and nodes for the threads
-pub record Bindings (w homes defs binders nodes : List ℕ) : Type 0 where
-  pub defined : Defined w homes defs
-  pub bound : (x : ℕ) → x < names w → word binders x ≡ binderNumber (binderOf w x)
-  pub at-nodes : AtNodes w nodes

@@ -13,9 +13,10 @@ use borrow.Author.Tests.{lt-ltb, le-ltb}
 use Rattle.lists.specs.Lists.{pick, word, member}
 use Rattle.lists.proofs.Tests.{not-true-false}
 use Rattle.lists.proofs.Members.{member-getD}
-use Rattle.lists.proofs.Slices.{slice-step}
+use Rattle.lists.proofs.Slices.{slice-step, slice-word}
+use Rattle.lists.proofs.Stores.{word-low, word-high, word-in}
 use Rattle.scheme.specs.Words.{publics, bounds, definitions, nodes, branches, arguments, names}
-use Rattle.scheme.specs.Inner.Spans.{Number}
+use Rattle.scheme.specs.Words.{Number}
 use Rattle.table.proofs.Inside.{Counted, counted}
 use Rattle.process.specs.StateWords.{place}
 use Rattle.rewriting.specs.Rewriting.{copied, nameCopies, nodeCopies, branchCopies, argumentCopies, copyName, copyDefinition, copyNode, copyBranch}
@@ -24,7 +25,6 @@ use Rattle.rewriting.specs.Inner.Placing.{placeAt, SmallWords, Numbered,
 use Rattle.rewriting.specs.Inner.Copying.{Row, Rows}
 use Rattle.rewriting.specs.declared.copies.Counts.{Counts}
 use Rattle.rewriting.proofs.Appended.{place-hit, place-miss, place-most, place-absent}
-use Rattle.rewriting.proofs.Laws.Stored.{word-low, word-high, word-in, slice-word}
 use Rattle.rewriting.proofs.Family.{sound}
 
 module _ (w words : List ℕ) (p : Placing w words) where

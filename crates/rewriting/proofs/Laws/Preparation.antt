@@ -12,6 +12,7 @@ use borrow.Author.Tests.{lt-ltb, le-ltb, le-leb, not-true}
 use Rattle.lists.specs.Lists.{same, word, range}
 use Rattle.lists.proofs.Tests.{false-true, true-or-false, same-yes, same-no, same-true}
 use Rattle.lists.proofs.Ranges.{from-length, from-getD}
+use Rattle.lists.proofs.Slices.{slice-word}
 use Rattle.scheme.specs.Words.{publics, bounds, definitions, threads, nodes, branches, arguments, names}
 use Rattle.table.specs.Answer.{causeOf}
 use Rattle.table.specs.Causes.{causeSparing, countsRight}
@@ -21,7 +22,7 @@ use Rattle.process.specs.Outcomes.{Outcome, refusal, answered}
 use Rattle.process.proofs.Sets.{sets-whole}
 use Rattle.rewriting.specs.Rewriting.{rewritten, nodeOrigins, branchOrigins, nameOrigins}
 use Rattle.rewriting.specs.Outcomes.{rewriteCause, rewriteOutcome, originAt, originOutcome}
-use Rattle.rewriting.specs.Inner.Belonging.{Bodies}
+use Rattle.scheme.specs.Index.{IsIndex}
 use Rattle.rewriting.specs.Inner.Copying.{Rows}
 use Rattle.rewriting.specs.Inner.Counting.{Few, Summed, Small, countsWithin, sizeWith}
 use Rattle.rewriting.specs.Inner.Preparing.{PreparedRight}
@@ -30,7 +31,6 @@ use Rattle.rewriting.specs.declared.copies.Prepared.{Prepared}
 use Rattle.rewriting.specs.declared.copies.Prepared.the-variants.{Ready, Refused}
 use Rattle.rewriting.proofs.Family.{sound}
 use Rattle.rewriting.proofs.Reading
-use Rattle.rewriting.proofs.Laws.Stored.{slice-word}
 
 -- ---- causes
 
@@ -129,8 +129,8 @@ few-copies w list copies R = record {
 
 -- ---- what was prepared, by its case
 
-module _ (w defs list : List ℕ) (x : Prepared) (right : PreparedRight w defs list x) where
-  pub prepared-ready : (c : Counts) → x ≡ Ready c → (rewriteCause w ≡ 0) × Bodies w defs × Rows w list c
+module _ (w index list : List ℕ) (x : Prepared) (right : PreparedRight w index list x) where
+  pub prepared-ready : (c : Counts) → x ≡ Ready c → (rewriteCause w ≡ 0) × IsIndex w index × Rows w list c
   prepared-ready c e = rw e at right
 
   pub prepared-refused : (v : Verdict) → x ≡ Refused v → (causeOf v ≡ rewriteCause w) × (rewriteCause w ≡ 0 → ⊥)

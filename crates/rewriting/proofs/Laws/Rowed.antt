@@ -13,7 +13,7 @@ use Rattle.lists.proofs.Members.{member-here, member-there, keep-same, flat-sam
 use Rattle.lists.proofs.Counts.{distinct-below}
 use Rattle.scheme.specs.Words.{publics, bounds, definitions, nodes, branches, arguments, names}
 use Rattle.scheme.specs.Owners.{definition}
-use Rattle.scheme.specs.Inner.Spans.{spanOf}
+use Rattle.scheme.specs.Spans.{spanOf}
 use Rattle.scheme.specs.declared.spans.Source.the-variants.{Branches, Arguments}
 use Rattle.table.specs.Causes.{causeSparing}
 use Rattle.table.proofs.Inside.{Counted, counted}

@@ -2,13 +2,14 @@
 use mathlib.Core.Path.{_≡_, refl, sym, ap, _∙_}
 use mathlib.Core.Bool.{Bool, true, false}
 use mathlib.Core.List.{List, [], _∷_, _++_, map, append-assoc}
-use Prim.Native.Nat.{ℕ, zero, suc, _+_, _-_, _≤_, _<_}
+use Prim.Native.Nat.{ℕ, suc, _+_, _-_, _≤_, _<_}
 use native.Mathlib.Omega.{arith}
 use lib.ListN.{length, set, take, drop, replicate, length-set}
-use lib.Seq.{sets, sets-eq, slice, getD-set-same, getD-set-other, ext-getD, length-slice, length-take-le}
+use lib.Seq.{sets, sets-eq, slice, ext-getD, length-slice, length-take-le}
 use Rattle.lists.specs.Lists.{pick, same, word, from, range, keep, flat}
 use Rattle.lists.proofs.Ranges.{from-more, from-done}
-use Rattle.lists.proofs.Slices.{getD-slice, slice-between}
+use Rattle.lists.proofs.Slices.{slice-between, slice-word}
+use Rattle.lists.proofs.Stores.{word-low}
 use Rattle.rewriting.proofs.Runs.{map-from}
 use Rattle.process.specs.Inner.Listed.{Listed}
 use Rattle.process.proofs.Sets.{sets-fill-more, sets-fill-done}
@@ -16,23 +17,6 @@ use Rattle.process.proofs.Listed.{Left, left-more, one-listed, three-listed, li
 use Rattle.rewriting.specs.Inner.Copying.{grouped}
 
 -- ---- words after a run of stores
-
-pub word-low : (l : List ℕ) (i : ℕ) (ws : List ℕ) (k : ℕ) → k < i → word (sets l i ws) k ≡ word l k
-word-low l i [] k h = refl
-word-low l i (a ∷ ws) k h = word-low (set l i a) (suc i) ws k (omega arith) ∙ getD-set-other l i k a 0 (λ e. omega arith)
-
-pub word-high : (l : List ℕ) (i : ℕ) (ws : List ℕ) (k : ℕ) → i + length ws ≤ k → word (sets l i ws) k ≡ word l k
-word-high l i [] k h = refl
-word-high l i (a ∷ ws) k h = word-high (set l i a) (suc i) ws k (omega arith) ∙ getD-set-other l i k a 0 (λ e. omega arith)
-
-pub word-in : (l : List ℕ) (i : ℕ) (ws : List ℕ) (k : ℕ) → i + length ws ≤ length l → k < length ws → word (sets l i ws) (i + k) ≡ word ws k
-word-in l i [] k h u = absurd (omega arith)
-word-in l i (a ∷ ws) zero h u =
-    let e : i + 0 ≡ i = omega arith in
-    rw e (word-low (set l i a) (suc i) ws i (omega arith) ∙ getD-set-same l i a 0 (omega arith))
-word-in l i (a ∷ ws) (suc k) h u =
-    let e : i + suc k ≡ suc i + k = omega arith in
-    rw e (word-in (set l i a) (suc i) ws k (rw (length-set l i a) (omega arith)) (omega arith))
 
 pub set-long : (l after : List ℕ) (i v : ℕ) → after ≡ set l i v → length after ≡ length l
 set-long l after i v e = ap length e ∙ length-set l i v
@@ -43,11 +27,6 @@ pub listed-low : (most : ℕ) (words out : List ℕ) (i : ℕ) (after : List ℕ
 listed-low most words out i after r l k h = ap (λ (x : List ℕ). word x k) (l .written) ∙ word-low out i words k h
 
 -- ---- parts
-
-pub slice-word : (l : List ℕ) (i e k : ℕ) → k < e - i → word (slice i e l) k ≡ word l (i + k)
-slice-word l i e k h =
-    let q : i + k - i ≡ k = omega arith in
-    rw q at (getD-slice l i e (i + k) (omega arith) (omega arith))
 
 pub slice-alike : (l m : List ℕ) (i e : ℕ) → e ≤ length l → e ≤ length m → ((k : ℕ) → i ≤ k → k < e → word l k ≡ word m k) → slice i e l ≡ slice i e m
 slice-alike l m i e p q h =

@@ -9,6 +9,7 @@ use Rattle.lists.specs.Lists.{pick, same, word, range, some, keep, member}
 use Rattle.scheme.specs.Words.{nodes, nodeFirst, isCall}
 use Rattle.table.specs.Causes.{causeSparing}
 use Rattle.rewriting.specs.Rewriting.{copied, nameCopies, nodeCopies, branchCopies, argumentCopies}
+use Rattle.rewriting.specs.Inner.Belonging.{Spared}
 use Rattle.rewriting.specs.declared.copies.Counts.{Counts}
 
 -- a Call of the definition that it stands in, by lent definitions
@@ -45,8 +46,7 @@ pub record Rows (w list : List ℕ) (c : Counts) : Type 0 where
   pub branch-row : Row (branchCopies w) 768 list (c .branches)
   pub argument-row : Row (argumentCopies w) 1024 list (c .arguments)
 
--- the table is accepted with self-calls spared, and the words have room for what is copied
-pub record Listable (w defs list : List ℕ) : Type 0 where
-  pub ok : causeSparing w true ≡ 0
-  pub defs-reach : length defs ≡ 256
+-- the index of a table that is accepted with self-calls spared, and room for what is copied
+pub record Listable (w index list : List ℕ) : Type 0 where
+  pub spared : Spared w index
   pub list-reach : length list ≡ 1280

@@ -7,7 +7,7 @@ use Rattle.scheme.specs.Words.{nameKind, firstFormal, formalCount, nodeFirst, n
 use Rattle.scheme.specs.Words.{isChoice, isNew, isSilent, argument, argumentCount}
 use Rattle.rewriting.specs.Rewriting.{copyName, copyDefinition, copyNode, copyBranch, copyArgument, definitionCopy, nodeCopy, branchCopy}
 use Rattle.rewriting.specs.Rewriting.{rewrittenHeader, namePart, definitionPart, threadPart, branchPart, argumentPart}
-use Rattle.rewriting.specs.Inner.Belonging.{Bodies}
+use Rattle.rewriting.specs.Inner.Belonging.{Spared}
 use Rattle.rewriting.specs.Inner.Copying.{selfCall, Rows}
 use Rattle.rewriting.specs.Inner.Counting.{Summed, Small}
 use Rattle.rewriting.specs.Inner.Placing.{Placing}
@@ -43,9 +43,9 @@ module _ (w : List ℕ) where
   copyWords Branches i = branchCopy w i
   copyWords Arguments i = copyName w (argument w i) ∷ []
 
--- the nodes' definitions and the places of all copies
-pub record Writable (w defs words : List ℕ) : Type 0 where
-  pub bodies : Bodies w defs
+-- the index of a table that is accepted with self-calls spared, and the places of all copies
+pub record Writable (w index words : List ℕ) : Type 0 where
+  pub spared : Spared w index
   pub placing : Placing w words
 
 -- what is copied, and the counts that this gives
@@ -59,9 +59,9 @@ pub record Front (w list : List ℕ) (copies counts : Counts) (words : List ℕ)
   pub counted : Counted w list copies counts
   pub placing : Placing w words
 
-pub record Back (w defs list : List ℕ) (copies : Counts) (words : List ℕ) : Type 0 where
+pub record Back (w index list : List ℕ) (copies : Counts) (words : List ℕ) : Type 0 where
   pub rows : Rows w list copies
-  pub writable : Writable w defs words
+  pub writable : Writable w index words
 
 -- the header and the sections up to the threads, and the sections from the branches on
 unfoldable pub frontWords : List ℕ → List ℕ

@@ -1,13 +1,13 @@
 -- The scope check of a body: "A body is checked node by node, each choice through its branches, each branch through its next node."
-use mathlib.Core.Bool.{Bool, true, false, _&&_}
-use mathlib.Core.List.{List, [], _∷_, _++_}
+use mathlib.Core.Bool.{Bool, true, _&&_}
+use mathlib.Core.List.{List, _++_}
 use Prim.Native.Nat.{ℕ, zero, suc, _-_}
 use lib.ListN.{replicate}
 use Rattle.lists.specs.Lists.{pick, range, every}
 use Rattle.scheme.specs.Words.{publics, nodes, nodeSecond, isNew, isCall, branchesOf, next, argumentsOf}
 use Rattle.scheme.specs.Owners.{held}
 use Rattle.table.specs.Causes.{usable, branchScoped}
-use Rattle.scheme.specs.Inner.Spans.{tallyAll}
+use Rattle.scheme.specs.Spans.{tallyAll}
 
 module _ (w : List ℕ) where
   -- the names that may be used at a node, tallied

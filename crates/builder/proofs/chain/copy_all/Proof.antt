@@ -13,69 +13,78 @@ use Rattle.builder.specs.Inner.Parts.{put, state, ofTable}
 use Rattle.builder.proofs.Writing.{put-none}
 use Rattle.builder.proofs.Chains.{chain-few, state-length}
 use Rattle.builder.proofs.ChainLoops.{part-inside, part-more, argument-member, copies-start, copies-more, copies-done}
+use Rattle.places.proofs.Controls.{few-publics, few-bounds}
 use borrow.Author.Needs.{needs}
 use Rattle.builder.proofs.chain.copy_all.Statement.{statement}
 use Rattle.builder.proofs.chain.copy_all.Tie as tie
-use Rattle.builder.proofs.chain.copy_formal.Reads as copy-formal-reads
-use Rattle.scheme.proofs.fields.field1.Reads as field1-reads
 
 abbrev Inv-loop : tie.InvT-loop
-Inv-loop table rows plan out₀ c formal argument count q₀ i₀ out q i =
-    (put table out₀ q₀ (copies (scheme table) (today table) (c .node) (c .to) 1 (from formal count) (map (argumentName table) (from argument count)))
-    ≡ put table out q (copies (scheme table) (today table) (c .node) (c .to) (1 + i) (from (formal + i) (count - i))
-    (map (argumentName table) (from (argument + i) (count - i)))))
+Inv-loop table index out₀ c x count q₀ i₀ out q i =
+    (put table out₀ q₀ (copies (scheme table) (today table) (c .node) (c .to) (x .k) (from (x .formal) count)
+    (map (argumentName table) (from (x .argument) count)))
+    ≡ put table out q (copies (scheme table) (today table) (c .node) (c .to) (x .k + i) (from (x .formal + i) (count - i))
+    (map (argumentName table) (from (x .argument + i) (count - i)))))
     × (length out ≡ length out₀) × (i ≤ count)
 
 abbrev μ-loop : tie.MeasureT-loop
-μ-loop table rows plan out₀ c formal argument count q₀ i₀ out q i = count - i
+μ-loop table index out₀ c x count q₀ i₀ out q i = count - i
 
 loop-holds : tie.Need-loop-holds Inv-loop μ-loop
 loop-holds c =
     let a = c .before .before .before .args in
     let w = a .table .now in (
-      ap (put w (a .out .now) (a .h)) (copies-start (scheme w) (today w) (a .c .node) (a .c .to) (argumentName w) 1 (a .formal) (a .argument) (a .count)),
+      ap (put w (a .out .now) (a .h))
+          (copies-start (scheme w) (today w) (a .c .node) (a .c .to) (argumentName w) (a .x .k) (a .x .formal) (a .x .argument) (a .count)),
       refl,
       omega arith,
     )
 
-add-copy-formal : tie.Need-add-copy-formal Inv-loop μ-loop
-add-copy-formal c =
+add-t12 : tie.Need-add-t12 Inv-loop μ-loop
+add-t12 c =
     let s = c .before .before .before .before .before .before in
     omega (arith, chain-few (s .args .table .now) (s .pre .0 .accepted) (s .args .c) (s .pre .1) .0, s .pre .2, c .before .loop-test .taken)
 
-add-copy-formal-2 : tie.Need-add-copy-formal-2 Inv-loop μ-loop
-add-copy-formal-2 c =
-    let s = c .before .before .before .before .before .before in
+add-t13 : tie.Need-add-t13 Inv-loop μ-loop
+add-t13 c =
+    let s = c .before .before .before .before .before .before .before in
     let a = s .args in
     let p = s .pre in
-    let i = c .before .before .loop .i in
+    let w = a .table .now in
+    let f = a .x .formal + c .before .before .before .loop .i in
     omega (
       arith,
-      p .4 (a .formal + i) (member-from (a .formal + i) (a .formal) (a .count) (omega arith) (omega (arith, c .before .loop-test .taken))) .1,
-      p .0 .few-publics,
-      p .0 .few-bounds,
+      p .4 f (member-from f (a .x .formal) (a .count) (omega arith) (omega (arith, c .before .before .loop-test .taken))) .1,
+      few-publics w (p .0 .accepted),
+      few-bounds w (p .0 .accepted),
     )
 
 add-field1 : tie.Need-add-field1 Inv-loop μ-loop
 add-field1 c =
-    let s = c .before .before .before .before .before .before in
-    omega (arith, chain-few (s .args .table .now) (s .pre .0 .accepted) (s .args .c) (s .pre .1) .0, s .pre .2, s .pre .3, c .before .loop-test .taken)
+    let s = c .before .before .before .before .before .before .before .before in
+    omega (
+      arith,
+      chain-few (s .args .table .now) (s .pre .0 .accepted) (s .args .c)
+          (s .pre .1) .0,
+      s .pre .2,
+      s .pre .3,
+      c .before .before .before .loop-test .taken,
+    )
 
 field1-requires : tie.Need-field1-requires Inv-loop μ-loop
 field1-requires c κs = search needs
 
 copy-formal-requires : tie.Need-copy-formal-requires Inv-loop μ-loop
 copy-formal-requires c κs =
-    let a = c .before .before .before .before .before .before .before .args in
-    let p = c .before .before .before .before .before .before .before .pre in
+    let a = c .before .before .before .before .before .before .before .before .before .before .args in
+    let p = c .before .before .before .before .before .before .before .before .before .before .pre in
     let w = a .table .now in
-    let l = c .before .before .before .loop in
-    let x = c .field1 in
-    let u = c .before .before .loop-test .taken in
-    let f = p .4 (a .formal + l .i) (member-from (a .formal + l .i) (a .formal) (a .count) (omega arith) (omega (arith, u))) in
-    let n = p .5 (x .result) (argument-member (argumentName w) (a .argument) (a .count) (l .i) (x .result) u (x .ensures .is)) in
-    let e = copies-more (scheme w) (today w) (a .c .node) (a .c .to) (argumentName w) 1 (a .formal) (a .argument) (a .count) (l .i) (x .result) u
-    (x .ensures .is) in (
+    let l = c .before .before .before .before .before .before .loop in
+    let y = c .before .field1 in
+    let u = c .before .before .before .before .before .loop-test .taken in
+    let f = p .4 (a .x .formal + l .i) (member-from (a .x .formal + l .i) (a .x .formal) (a .count) (omega arith) (omega (arith, u))) in
+    let n = p .5 (y .result) (argument-member (argumentName w) (a .x .argument) (a .count) (l .i) (y .result) u (y .ensures .is)) in
+    let e = copies-more (scheme w) (today w) (a .c .node) (a .c .to) (argumentName w) (a .x .k) (a .x .formal) (a .x .argument) (a .count) (l .i) (y .result) u
+    (y .ensures .is) in (
       p .0,
       p .1,
       omega (arith, p .2, u),
@@ -94,13 +103,13 @@ loop-less c = omega arith
 
 loop-again : tie.Need-loop-again Inv-loop μ-loop
 loop-again c =
-    let a = c .before .before .before .before .before .before .before .before .before .before .args in
+    let a = c .before .before .before .before .before .before .before .before .before .before .before .before .before .args in
     let w = a .table .now in
-    let l = c .before .before .before .before .before .before .loop in
-    let x = c .before .before .before .field1 in
-    let u = c .before .before .before .before .before .loop-test .taken in
-    let e = copies-more (scheme w) (today w) (a .c .node) (a .c .to) (argumentName w) 1 (a .formal) (a .argument) (a .count) (l .i) (x .result) u
-    (x .ensures .is) in (
+    let l = c .before .before .before .before .before .before .before .before .before .loop in
+    let y = c .before .before .before .before .field1 in
+    let u = c .before .before .before .before .before .before .before .before .loop-test .taken in
+    let e = copies-more (scheme w) (today w) (a .c .node) (a .c .to) (argumentName w) (a .x .k) (a .x .formal) (a .x .argument) (a .count) (l .i) (y .result) u
+    (y .ensures .is) in (
       part-more (ofTable w) _ (state (l .out) (l .q)) _ _ (l .inv .0 ∙ ap (put w (l .out) (l .q)) e) _ (c .before .before .copy-formal .ensures),
       state-length w (l .out) _ (l .q) _ _ (c .before .before .copy-formal .ensures) ∙ l .inv .1,
       omega (arith, u),
@@ -114,7 +123,7 @@ returns c =
     let a = c .before .before .before .before .before .args in
     let w = a .table .now in
     let l = c .before .loop in
-    let e = copies-done (scheme w) (today w) (a .c .node) (a .c .to) (argumentName w) 1 (a .formal) (a .argument) (a .count) (l .i)
+    let e = copies-done (scheme w) (today w) (a .c .node) (a .c .to) (argumentName w) (a .x .k) (a .x .formal) (a .x .argument) (a .count) (l .i)
     (omega (arith, c .loop-test .left)) in
     sym (l .inv .0 ∙ ap (put w (l .out) (l .q)) e ∙ put-none (ofTable w) (state (l .out) (l .q)))
 
@@ -125,8 +134,8 @@ copy-all-spec =
     Inv-loop
     μ-loop
     loop-holds
-    add-copy-formal
-    add-copy-formal-2
+    add-t12
+    add-t13
     add-field1
     field1-requires
     copy-formal-requires

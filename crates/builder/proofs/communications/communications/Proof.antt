@@ -16,19 +16,19 @@ use Rattle.builder.proofs.communications.communications.Statement.{stat
 use Rattle.builder.proofs.communications.communications.Tie as tie
 
 abbrev Inv-loop : tie.InvT-loop
-Inv-loop table homes definitions rows spots plan out₀ branches q₀ s₀ out q s =
+Inv-loop table index out₀ branches q₀ s₀ out q s =
     (put table out₀ q₀ (flat (withAll table) (range branches)) ≡ put table out q (flat (withAll table) (from s (branches - s))))
     × (length out ≡ length out₀)
 
 abbrev μ-loop : tie.MeasureT-loop
-μ-loop table homes definitions rows spots plan out₀ branches q₀ s₀ out q s = branches - s
+μ-loop table index out₀ branches q₀ s₀ out q s = branches - s
 
 word16-requires : tie.Need-word16-requires Inv-loop μ-loop
 word16-requires c κs = search needs
 
 loop-holds : tie.Need-loop-holds Inv-loop μ-loop
 loop-holds c =
-    let b = c .before .before .before .before .before .before .before in
+    let b = c .before .before .before .before in
     let a = b .args in
     let w = a .table .now in
     let n = c .word16 in
@@ -39,7 +39,7 @@ field4-requires c κs = search needs
 
 partners-requires : tie.Need-partners-requires Inv-loop μ-loop
 partners-requires c κs =
-    let b = c .before .before .before .before .before .before .before .before .before .before .before .before in
+    let b = c .before .before .before .before .before .before .before .before .before in
     let a = b .args in
     let w = a .table .now in
     let l = c .before .before .before .before .loop in
@@ -47,9 +47,8 @@ partners-requires c κs =
     let h = c .before .before .before .loop-test .taken in
     let u : l .s < branches w = omega (arith, n .ensures .is) in
     let k : branchKind w (l .s) ≡ 1 = sym (c .before .before .field4 .ensures .is) ∙ c .before .if1 .taken in
-    let i = subst (λ (k : ℕ). Inside (put w (a .out .now) (a .h) (flat (withAll w) (range k)))) (sym (n .ensures .is)) (b .pre .2) in (
+    let i = subst (λ (k : ℕ). Inside (put w (a .out .now) (a .h) (flat (withAll w) (range k)))) (sym (n .ensures .is)) (b .pre .1) in (
       b .pre .0,
-      b .pre .1,
       u,
       same-yes (branchKind w (l .s)) 1 k,
       flat-inside (ofTable w) (put w (a .out .now) (a .h) (flat (withAll w) (range (n .result))))
@@ -64,7 +63,7 @@ loop-less c = omega arith
 
 loop-again : tie.Need-loop-again Inv-loop μ-loop
 loop-again c =
-    let b = c .before .before .before .before .before .before .before .before .before .before .before in
+    let b = c .before .before .before .before .before .before .before .before in
     let a = b .args in
     let w = a .table .now in
     let l = c .before .before .before .loop in
@@ -76,8 +75,8 @@ loop-again c =
     (λ v. (
       flat-more (ofTable w) (put w (a .out .now) (a .h) (flat (withAll w) (range (n .result)))) (state (l .out) (l .q)) (withAll w) (l .s) (n .result)
           (l .inv .0) h t
-          (same-state (v .2 .last .1 .1 .1 .1 .1 .1 .0) (c .if1 .out) (v .2 .result) (c .if1 .q) (v .5) (v .6) ∙ v .2 .ensures),
-      ap length (v .5) ∙ v .2 .kept .1 .1 .1 .1 .1 .1 .0 ∙ l .inv .1,
+          (same-state (v .2 .last .1 .1 .0) (c .if1 .out) (v .2 .result) (c .if1 .q) (v .5) (v .6) ∙ v .2 .ensures),
+      ap length (v .5) ∙ v .2 .kept .1 .1 .0 ∙ l .inv .1,
     ))
     (λ v. (
       flat-skip (ofTable w) (put w (a .out .now) (a .h) (flat (withAll w) (range (n .result)))) (state (l .out) (l .q)) (withAll w) (l .s) (n .result)
@@ -91,7 +90,7 @@ same-length c = c .before .loop .inv .1
 
 returns : tie.Need-returns Inv-loop μ-loop
 returns c =
-    let b = c .before .before .before .before .before .before .before .before .before in
+    let b = c .before .before .before .before .before .before in
     let a = b .args in
     let w = a .table .now in
     let l = c .before .loop in

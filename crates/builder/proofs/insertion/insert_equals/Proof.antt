@@ -8,15 +8,20 @@ use borrow.Author.Needs.{needs}
 use Rattle.builder.proofs.insertion.insert_equals.Statement.{statement}
 use Rattle.builder.proofs.insertion.insert_equals.Tie as tie
 
+word16-requires : tie.Need-word16-requires
+word16-requires c κs = search needs
+
 returns : tie.Need-returns
 returns c =
-    let s = c .before .before .before .before .before in
-    let a = s .args in
+    let a = c .before .before .before .before .before .args in
     λ ps f. fill-without (a .table .now) (a .list .now) (a .count) (equals (a .name) (a .v)) ps
-    (no-value (a .table .now) (a .name) (a .v) (omega (arith, s .pre .0 .publics-are, c .if1 .taken))) f
+    (no-value (a .table .now) (a .name) (a .v) (omega (arith, c .before .word16 .ensures .is, c .if1 .taken))) f
 
 equals-requires : tie.Need-equals-requires
-equals-requires c κs = search needs
+equals-requires c κs =
+    let s = c .before .before .before .before .before .before in
+    let a = s .args in
+    (s .pre .0, read-holds (a .table .now) (a .name) (a .v) (omega (arith, c .before .before .word16 .ensures .is, c .before .if1 .left)) (s .pre .1))
 
 insert-requires : tie.Need-insert-requires
 insert-requires c κs = search needs
@@ -29,10 +34,15 @@ returns-2 c =
     let s = c .before .before .before .before .before .before .before .before .before .before in
     let a = s .args in
     let w = a .table .now in
-    let h = read-holds w (a .name) (a .v) (omega (arith, s .pre .0 .publics-are, c .before .before .before .before .before .if1 .left)) (s .pre .1) in
+    let h = read-holds w (a .name) (a .v) (omega (
+      arith,
+      c .before .before .before .before .before .before .word16 .ensures .is,
+      c .before .before .before
+          .before .before .if1 .left,
+    )) (s .pre .1) in
     λ ps f. fill-with w (a .list .now) _ (a .count) _ (c .before .before .before .equals .result) (equals (a .name) (a .v)) ps
     (has-value w (a .name) (a .v) h) (c .before .before .before .equals .ensures) (c .before .before .insert .ensures) f
 
 pub insert-equals-spec : {M : Type 1} → statement M
 insert-equals-spec =
-    tie.close (tie.spec returns equals-requires insert-requires same-length returns-2)
+    tie.close (tie.spec word16-requires returns equals-requires insert-requires same-length returns-2)

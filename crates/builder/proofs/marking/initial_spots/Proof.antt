@@ -9,10 +9,10 @@ use Rattle.builder.proofs.marking.initial_spots.Statement.{statement}
 use Rattle.builder.proofs.marking.initial_spots.Tie as tie
 
 abbrev Inv-loop : tie.InvT-loop
-Inv-loop table out at spots threads list₀ count₀ t₀ list count t = SpotsTurn table threads list count t
+Inv-loop table index out at threads list₀ count₀ t₀ list count t = SpotsTurn table threads list count t
 
 abbrev μ-loop : tie.MeasureT-loop
-μ-loop table out at spots threads list₀ count₀ t₀ list count t = threads - t
+μ-loop table index out at threads list₀ count₀ t₀ list count t = threads - t
 
 word16-requires : tie.Need-word16-requires Inv-loop μ-loop
 word16-requires c κs = search needs
@@ -29,11 +29,11 @@ field4-requires c κs = search needs
 slice-aggregate-insert : tie.Need-slice-aggregate-insert Inv-loop μ-loop
 slice-aggregate-insert c = sym (c .before .before .before .before .loop .inv .eight)
 
-word32-requires : tie.Need-word32-requires Inv-loop μ-loop
-word32-requires c κs = search needs
+node-start-requires : tie.Need-node-start-requires Inv-loop μ-loop
+node-start-requires c κs = search needs
 
 cast-insert : tie.Need-cast-insert Inv-loop μ-loop
-cast-insert c = omega (arith, c .word32 .ensures .small)
+cast-insert c = omega (arith, c .node-start .ensures .small)
 
 insert-requires : tie.Need-insert-requires Inv-loop μ-loop
 insert-requires c κs =
@@ -57,11 +57,11 @@ loop-again c =
     let l = c .before .before .before .before .before .before .before .loop in
     let t = c .before .before .before .before .before .before .before .before .word16 in
     let s = c .before .insert in
-    spots-put (a .table .now) (a .spots .now) (t .result) (l .list) (s .last .0) (l .count) (s .result) (l .t)
+    spots-put (a .table .now) (a .index .now) (t .result) (l .list) (s .last .0) (l .count) (s .result) (l .t)
     (c .before .before .before .before .before .field1 .result) (c .before .before .before .before .field4 .result)
-    (c .before .before .word32 .result) (p .0) (t .ensures .is) (l .inv) (c .before .before .before .before .before .before .loop-test .taken)
+    (c .before .before .node-start .result) (p .0) (t .ensures .is) (l .inv) (c .before .before .before .before .before .before .loop-test .taken)
     (c .before .before .before .before .before .field1 .ensures .is) (c .before .before .before .before .field4 .ensures .is)
-    (c .before .before .word32 .ensures .is) (c .before .before .word32 .ensures .small) (s .ensures) (s .kept .0)
+    (c .before .before .node-start .ensures .is) (c .before .before .node-start .ensures .small) (s .ensures) (s .kept .0)
 
 slice-aggregate-words : tie.Need-slice-aggregate-words Inv-loop μ-loop
 slice-aggregate-words c = sym (c .before .before .before .loop .inv .eight)
@@ -99,7 +99,7 @@ initial-spots-spec =
     field1-requires
     field4-requires
     slice-aggregate-insert
-    word32-requires
+    node-start-requires
     cast-insert
     insert-requires
     add-t

@@ -9,6 +9,7 @@ use Rattle.scheme.specs.Scheme.{scheme}
 use Rattle.places.specs.Inner.Arcs.{numbersOf}
 use Rattle.places.specs.Inner.Plan.{today, Differs}
 use Rattle.builder.specs.Inner.Parts.{Filled}
+use Rattle.places.proofs.Controls.{few-bounds}
 use Rattle.places.proofs.Names.{kind-free, kind-restricted}
 use Rattle.builder.proofs.Filling.{fill-same, fill-rising}
 use Rattle.builder.proofs.Making.{differsBelow, below-length, below-all, below-start, below-with, below-without}
@@ -20,37 +21,49 @@ use Rattle.builder.proofs.layout.differs.Reads as differs-reads
 use Rattle.scheme.proofs.fields.name_kind.Reads as name-kind-reads
 
 abbrev Inv-loop : tie.InvT-loop
-Inv-loop table rows plan list₀ v end count₀ x₀ list count x =
+Inv-loop table index list₀ v publics₁ end count₀ x₀ list count x =
     Filled table list count (differsBelow table v x) × (length list ≡ length list₀) × (publics table ≤ x) × (x ≤ end)
 
 abbrev μ-loop : tie.MeasureT-loop
-μ-loop table rows plan list₀ v end count₀ x₀ list count x = end - x
+μ-loop table index list₀ v publics₁ end count₀ x₀ list count x = end - x
 
 -- [x≠v] of one name
 differs-here : (c : tie.Then1 Inv-loop μ-loop)
-    → let a = c .before .before .before .before .before .before .before .before .args in
+    → let a = c .before .before .before .before .before .before .before .before .before .args in
     Differs (a .table .now) (c .before .before .before .loop .x) (a .v)
 differs-here c =
-    let w = c .before .before .before .before .before .before .before .before .args .table .now in
-    let p = c .before .before .before .before .before .before .before .before .pre in
+    let w = c .before .before .before .before .before .before .before .before .before .args .table .now in
+    let p = c .before .before .before .before .before .before .before .before .before .pre in
     let x = c .before .before .before .loop .x in
     let k = c .before .name-kind in
     let l = c .before .before .before .loop .inv .2 in
-    let u : x < names w = omega (arith, c .before .before .loop-test .taken, p .0 .publics-are, p .0 .bounds-are) in
+    let u : x < names w = omega (
+      arith,
+      c .before .before .loop-test .taken,
+      c .before .before .before .before .before .word16 .ensures .is,
+      c .before
+          .before .before .before .word162 .ensures .is,
+    ) in
     record { low = l; high = u; free = kind-free w x (k .result) l u (k .ensures .is) (c .if1 .taken); private = p .1; value = p .2 }
 
 -- what a turn puts in
 turn : (c : tie.Joined1 Inv-loop μ-loop)
-    → let a = c .before .before .before .before .before .before .before .before .args in
+    → let a = c .before .before .before .before .before .before .before .before .before .args in
     Filled (a .table .now) (c .if1 .list) (c .if1 .count) (differsBelow (a .table .now) (a .v) (c .before .before .before .loop .x + 1))
     × (length (c .if1 .list) ≡ length (a .list .now))
 turn c =
-    let a = c .before .before .before .before .before .before .before .before .args in
-    let p = c .before .before .before .before .before .before .before .before .pre in
+    let a = c .before .before .before .before .before .before .before .before .before .args in
+    let p = c .before .before .before .before .before .before .before .before .before .pre in
     let w = a .table .now in
     let l = c .before .before .before .loop in
     let k = c .before .name-kind in
-    let u : l .x < names w = omega (arith, c .before .before .loop-test .taken, p .0 .publics-are, p .0 .bounds-are) in
+    let u : l .x < names w = omega (
+      arith,
+      c .before .before .loop-test .taken,
+      c .before .before .before .before .before .word16 .ensures .is,
+      c .before
+          .before .before .before .word162 .ensures .is,
+    ) in
     ⊎-elim
     (λ y. rw (y .6, y .7) (
       below-with w (a .v) (l .list) _ (l .count) _ (y .2 .result) (l .x) (differs-here (record { before = c .before; if1 = y .0 })) (y .2 .ensures)
@@ -64,40 +77,40 @@ turn c =
     ))
     (c .if1 .came)
 
+word16-requires : tie.Need-word16-requires Inv-loop μ-loop
+word16-requires c κs = search needs
+
+word16-requires-2 : tie.Need-word16-requires-2 Inv-loop μ-loop
+word16-requires-2 c κs = search needs
+
 add-end : tie.Need-add-end Inv-loop μ-loop
-add-end c = omega (
-  arith,
-  c .before .before .before .before .pre .0 .publics-are,
-  c .before .before .before .before .pre .0 .bounds-are,
-  c .before .before .before .before .pre .0 .few-publics,
-  c .before .before .before .before .pre .0 .few-bounds,
-)
+add-end c = omega (arith, c .before .word16 .ensures .small, c .word162 .ensures .small)
 
 loop-holds : tie.Need-loop-holds Inv-loop μ-loop
 loop-holds c =
-    let a = c .before .before .before .before .args in
-    let e = c .before .before .before .before .pre .0 .publics-are in
-    (below-start (a .table .now) (a .v) (a .list .now) (a .plan .publics) e, refl, omega (arith, e), omega arith)
+    let a = c .before .before .before .before .before .args in
+    let e = c .before .word16 .ensures .is in
+    (below-start (a .table .now) (a .v) (a .list .now) (c .before .word16 .result) e, refl, omega (arith, e), omega arith)
 
 name-kind-requires : tie.Need-name-kind-requires Inv-loop μ-loop
 name-kind-requires c κs = search needs
 
 differs-requires : tie.Need-differs-requires Inv-loop μ-loop
-differs-requires c κs = (c .before .before .before .before .before .before .before .before .before .pre .0, differs-here (c .before))
+differs-requires c κs = (c .before .before .before .before .before .before .before .before .before .before .pre .0, differs-here (c .before))
 
 insert-requires : tie.Need-insert-requires Inv-loop μ-loop
 insert-requires c κs =
-    let a = c .before .before .before .before .before .before .before .before .before .before .args in
-    let p = c .before .before .before .before .before .before .before .before .before .before .pre in
+    let a = c .before .before .before .before .before .before .before .before .before .before .before .args in
+    let p = c .before .before .before .before .before .before .before .before .before .before .before .pre in
     let l = c .before .before .before .before .before .loop in
     fill-rising (a .table .now) (p .0 .accepted) (l .list) (l .count) (differsBelow (a .table .now) (a .v) (l .x))
     (omega (
       arith,
       below-length (a .table .now) (a .v) (l .x),
       c .before .before .before .before .loop-test .taken,
-      p .0 .publics-are,
-      p .0 .bounds-are,
-      p .0 .few-bounds,
+      c .before .before .before .before .before .before .before .word16 .ensures .is,
+      c .before .before .before .before .before .before .word162 .ensures .is,
+      few-bounds (a .table .now) (p .0 .accepted),
       p .3,
       l .inv .1,
       l .inv .2,
@@ -107,10 +120,9 @@ add-x : tie.Need-add-x Inv-loop μ-loop
 add-x c = omega (
   arith,
   c .before .before .loop-test .taken,
-  c .before .before .before .before .before .before .before .before .pre .0 .publics-are,
-  c .before .before .before .before .before .before .before .before .pre .0 .bounds-are,
-  c .before .before .before .before .before .before .before .before .pre .0 .few-publics,
-  c .before .before .before .before .before .before .before .before .pre .0 .few-bounds,
+  c .before .before .before .before .before .word16 .ensures .small,
+  c .before .before .before
+      .before .word162 .ensures .small,
 )
 
 loop-less : tie.Need-loop-less Inv-loop μ-loop
@@ -124,11 +136,17 @@ same-length c = c .before .loop .inv .1
 
 returns : tie.Need-returns Inv-loop μ-loop
 returns c =
-    let a = c .before .before .before .before .before .before .args in
-    let p = c .before .before .before .before .before .before .pre in
+    let a = c .before .before .before .before .before .before .before .args in
     let w = a .table .now in
     let l = c .before .loop in
-    let e = below-all w (a .v) (l .x) (omega (arith, c .loop-test .left, l .inv .3, p .0 .publics-are, p .0 .bounds-are)) in
+    let e = below-all w (a .v) (l .x) (omega (
+      arith,
+      c .loop-test .left,
+      l .inv .3,
+      c .before .before .before .word16 .ensures .is,
+      c .before .before
+          .word162 .ensures .is,
+    )) in
     let f = fill-same w (l .list) (l .count) _ _ (ap (numbersOf (scheme w) (today w)) e) (l .inv .0) in
     (f .holds, f .size)
 
@@ -138,6 +156,8 @@ differences-spec =
     (tie.spec
     Inv-loop
     μ-loop
+    word16-requires
+    word16-requires-2
     add-end
     loop-holds
     name-kind-requires

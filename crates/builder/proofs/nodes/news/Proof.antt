@@ -13,108 +13,117 @@ use Rattle.builder.specs.Inner.Parts.{put, state, ofTable, made}
 use Rattle.builder.proofs.Chains.{state-length}
 use Rattle.builder.proofs.ValueLoops.{map-done, map-inside, map-more}
 use Rattle.builder.proofs.Making.{made-inside}
+use Rattle.places.specs.Plan.{nodesIn}
+use Rattle.places.proofs.Plans.{node-is}
+use Rattle.builder.proofs.Counted.{Counted, counted}
 use borrow.Author.Needs.{needs}
 use Rattle.builder.proofs.nodes.news.Statement.{statement}
 use Rattle.builder.proofs.nodes.news.Tie as tie
-use Rattle.builder.proofs.nodes.make.Reads as make-reads
-use Rattle.lists.proofs.word32.Reads as word32-reads
-use Rattle.scheme.proofs.fields.field3.Reads as field3-reads
 
 abbrev Inv-loop : tie.InvT-loop
-Inv-loop table rows spots plan out₀ n from to q₀ k₀ out q k =
+Inv-loop table index out₀ n publics₁ privates m q₀ k₀ out q k =
     (put table out₀ q₀ (map (made table n) (Lists.from (publics table) (privatesOf table)))
     ≡ put table out q (map (made table n) (drop k (Lists.from (publics table) (privatesOf table)))))
-    × (length out ≡ length out₀) × (k ≤ plan .privates)
+    × (length out ≡ length out₀) × (k ≤ privates)
 
 abbrev μ-loop : tie.MeasureT-loop
-μ-loop table rows spots plan out₀ n from to q₀ k₀ out q k = plan .privates - k
+μ-loop table index out₀ n publics₁ privates m q₀ k₀ out q k = privates - k
 
-word32-requires : tie.Need-word32-requires Inv-loop μ-loop
-word32-requires c κs = search needs
+-- the counts, as they are read
+told : (c : tie.After-privates Inv-loop μ-loop) → Counted (c .before .before .before .before .before .args .table .now) (c .before .word16 .result)
+    (c .privates .result)
+told c = counted (c .before .before .before .before .before .args .table .now) (c .before .before .before .before .before .args .index .now) _ _
+    (c .before .before .before .before .before .pre .0) (c .before .word16 .ensures .is) (c .privates .ensures .is)
 
-cast-from : tie.Need-cast-from Inv-loop μ-loop
-cast-from c = omega (arith, c .word32 .ensures .small)
+word16-requires : tie.Need-word16-requires Inv-loop μ-loop
+word16-requires c κs = search needs
+
+privates-requires : tie.Need-privates-requires Inv-loop μ-loop
+privates-requires c κs = search needs
+
+node-start-requires : tie.Need-node-start-requires Inv-loop μ-loop
+node-start-requires c κs = search needs
+
+cast-t12 : tie.Need-cast-t12 Inv-loop μ-loop
+cast-t12 c = omega (arith, c .node-start .ensures .small)
 
 field3-requires : tie.Need-field3-requires Inv-loop μ-loop
 field3-requires c κs = search needs
 
-word32-requires-2 : tie.Need-word32-requires-2 Inv-loop μ-loop
-word32-requires-2 c κs = search needs
+node-start-requires-2 : tie.Need-node-start-requires-2 Inv-loop μ-loop
+node-start-requires-2 c κs = search needs
 
-cast-to : tie.Need-cast-to Inv-loop μ-loop
-cast-to c = omega (arith, c .word322 .ensures .small)
+cast-t15 : tie.Need-cast-t15 Inv-loop μ-loop
+cast-t15 c = omega (arith, c .node-start2 .ensures .small)
 
 loop-holds : tie.Need-loop-holds Inv-loop μ-loop
 loop-holds c = (refl, refl, omega arith)
 
 add-make : tie.Need-add-make Inv-loop μ-loop
 add-make c =
-    let r = c .before .before .before .before .before .before .before .before .before .before .before .before .pre .0 .rowed in
-    omega (arith, c .before .before .if1 .taken, r .publics-are, r .privates-are, r .few-publics, r .few-privates)
+    let r = told (c .before .before .before .before .before .before) in
+    omega (arith, c .before .loop-test .taken, r .publics-are, r .privates-are, r .few-publics, r .few-privates)
 
 make-requires : tie.Need-make-requires Inv-loop μ-loop
 make-requires c κs =
-    let a = c .before .before .before .before .before .before .before .before .before .before .before .before .args in
-    let p = c .before .before .before .before .before .before .before .before .before .before .before .before .pre in
-    let r = p .0 .rowed in
-    let s = p .0 .spotted in
+    let a = c .before .before .before .before .before .before .before .before .before .before .before .args in
+    let p = c .before .before .before .before .before .before .before .before .before .before .before .pre in
+    let r = told (c .before .before .before .before .before .before) in
     let w = a .table .now in
-    let l = c .before .before .before .before .loop in
+    let x = a .index .now in
+    let l = c .before .before .loop in
     let vs = Lists.from (publics w) (privatesOf w) in
-    let u : l .k < privatesOf w = omega (arith, c .before .before .if1 .taken, r .privates-are) in
-    let e : a .plan .publics + l .k ≡ word vs (l .k) = ap (λ (x : ℕ). x + l .k) (r .publics-are) ∙ sym (from-getD (publics w) (privatesOf w) (l .k) u) in (
-      r,
+    let u : l .k < privatesOf w = omega (arith, c .before .loop-test .taken, r .privates-are) in
+    let e : c .before .before .before .before .before .before .before .word16 .result + l .k ≡ word vs (l .k) = ap (λ (y : ℕ). y + l .k)
+    (r .publics-are) ∙ sym (from-getD (publics w) (privatesOf w) (l .k) u) in (
+      p .0,
       p .1,
       p .2,
-      c .before .before .before .before .before .before .before .word32 .ensures .is ∙ s .spot-is (a .n) (p .1),
-      c .before .before .before .before .before .word322 .ensures .is
-          ∙ ap (word (a .spots .now)) (c .before .before .before .before .before .before .field3 .ensures .is)
-          ∙ s .spot-is (nodeSecond w (a .n)) (made-inside w (r .accepted) (a .n) (p .1) (p .2)),
+      c .before .before .before .before .before .node-start .ensures .is ∙ node-is w x (p .0) (a .n) (omega (arith, p .1)),
+      c .before .before .before .node-start2 .ensures .is ∙ ap (word (nodesIn x)) (c .before .before .before .before .field3 .ensures .is)
+          ∙ node-is w x (p .0) (nodeSecond w (a .n)) (omega (arith, made-inside w (r .accepted) (a .n) (p .1) (p .2))),
       omega (arith, r .publics-are),
       omega (arith, r .publics-are, u),
-      map-inside (ofTable w) _ (state (l .out) (l .q)) vs (l .k) (made w (a .n)) (l .inv .0) (a .plan .publics + l .k)
+      map-inside (ofTable w) _ (state (l .out) (l .q)) vs (l .k) (made w (a .n)) (l .inv .0)
+          (c .before .before .before .before .before .before .before .word16 .result + l .k)
           (omega (arith, from-length (publics w) (privatesOf w), u)) e (p .3),
     )
 
 add-k : tie.Need-add-k Inv-loop μ-loop
 add-k c =
-    omega (
-      arith,
-      c .before .before .before .before .before .if1 .taken,
-      c .before .before .before .before .before .before .before .before .before .before .before .before .before .before .before .pre .0 .rowed .privates-are,
-      c .before .before .before .before .before .before .before .before .before .before .before .before .before .before .before .pre .0 .rowed .few-privates,
-    )
+    let r = told (c .before .before .before .before .before .before .before .before .before) in
+    omega (arith, c .before .before .before .before .loop-test .taken, r .privates-are, r .few-privates)
 
 loop-less : tie.Need-loop-less Inv-loop μ-loop
-loop-less c = omega (arith, c .before .before .before .before .before .if1 .taken)
+loop-less c = omega (arith, c .before .before .before .before .loop-test .taken)
 
 loop-again : tie.Need-loop-again Inv-loop μ-loop
 loop-again c =
-    let a = c .before .before .before .before .before .before .before .before .before .before .before .before .before .before .before .args in
-    let p = c .before .before .before .before .before .before .before .before .before .before .before .before .before .before .before .pre in
-    let r = p .0 .rowed in
+    let a = c .before .before .before .before .before .before .before .before .before .before .before .before .before .before .args in
+    let r = told (c .before .before .before .before .before .before .before .before .before) in
     let w = a .table .now in
-    let l = c .before .before .before .before .before .before .before .loop in
+    let l = c .before .before .before .before .before .loop in
     let vs = Lists.from (publics w) (privatesOf w) in
-    let u : l .k < privatesOf w = omega (arith, c .before .before .before .before .before .if1 .taken, r .privates-are) in
-    let e : a .plan .publics + l .k ≡ word vs (l .k) = ap (λ (x : ℕ). x + l .k) (r .publics-are) ∙ sym (from-getD (publics w) (privatesOf w) (l .k) u) in (
-      map-more (ofTable w) _ (state (l .out) (l .q)) vs (l .k) (made w (a .n)) (l .inv .0) (a .plan .publics + l .k)
+    let u : l .k < privatesOf w = omega (arith, c .before .before .before .before .loop-test .taken, r .privates-are) in
+    let e : c .before .before .before .before .before .before .before .before .before .before .word16 .result + l .k ≡ word vs (l .k) = ap (λ
+    (y : ℕ). y + l .k) (r .publics-are) ∙ sym (from-getD (publics w) (privatesOf w) (l .k) u) in (
+      map-more (ofTable w) _ (state (l .out) (l .q)) vs (l .k) (made w (a .n)) (l .inv .0)
+          (c .before .before .before .before .before .before .before .before .before .before .word16 .result + l .k)
           (omega (arith, from-length (publics w) (privatesOf w), u)) e _ (c .before .before .make .ensures),
       state-length w (l .out) _ (l .q) _ _ (c .before .before .make .ensures) ∙ l .inv .1,
-      omega (arith, c .before .before .before .before .before .if1 .taken),
+      omega (arith, c .before .before .before .before .loop-test .taken),
     )
 
 same-length : tie.Need-same-length Inv-loop μ-loop
-same-length c = c .before .before .loop .inv .1
+same-length c = c .before .loop .inv .1
 
 returns : tie.Need-returns Inv-loop μ-loop
 returns c =
     let a = c .before .before .before .before .before .before .before .before .before .before .args in
-    let r = c .before .before .before .before .before .before .before .before .before .before .pre .0 .rowed in
     let w = a .table .now in
-    let l = c .before .before .loop in
+    let l = c .before .loop in
     map-done (ofTable w) _ (state (l .out) (l .q)) (Lists.from (publics w) (privatesOf w)) (l .k) (made w (a .n)) (l .inv .0)
-    (omega (arith, from-length (publics w) (privatesOf w), c .if1 .left, r .privates-are))
+    (omega (arith, from-length (publics w) (privatesOf w), c .loop-test .left, told (c .before .before .before .before .before) .privates-are))
 
 pub news-spec : {M : Type 1} → statement M
 news-spec =
@@ -122,11 +131,13 @@ news-spec =
     (tie.spec
     Inv-loop
     μ-loop
-    word32-requires
-    cast-from
+    word16-requires
+    privates-requires
+    node-start-requires
+    cast-t12
     field3-requires
-    word32-requires-2
-    cast-to
+    node-start-requires-2
+    cast-t15
     loop-holds
     add-make
     make-requires

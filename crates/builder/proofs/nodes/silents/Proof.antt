@@ -19,21 +19,22 @@ use Rattle.builder.proofs.Chains.{put-as, inside-as, state-length}
 use Rattle.builder.proofs.ChainLoops.{part-inside, part-more}
 use Rattle.places.proofs.ByWords.{few-branches}
 use Rattle.builder.proofs.NodeArrows.{silentsAt, going-arrow, silent-none, silent-one, silent-inside}
+use Rattle.places.specs.Plan.{nodesIn}
+use Rattle.places.proofs.Plans.{node-is}
 use borrow.Author.Needs.{needs}
 use Rattle.builder.proofs.nodes.silents.Statement.{statement}
 use Rattle.builder.proofs.nodes.silents.Tie as tie
 use Rattle.builder.proofs.write.go.Reads as go-reads
-use Rattle.lists.proofs.word32.Reads as word32-reads
 use Rattle.scheme.proofs.fields.field4.Reads as field4-reads
 
 abbrev Inv-loop : tie.InvT-loop
-Inv-loop table spots out₀ n first end from q₀ b₀ out q b =
+Inv-loop table index out₀ n first end from q₀ b₀ out q b =
     (put table out₀ q₀ (flat (λ b. silents (scheme table) (today table) n b (scheme table .branch b)) (Lists.from b₀ (end - b₀)))
     ≡ put table out q (flat (λ b. silents (scheme table) (today table) n b (scheme table .branch b)) (Lists.from b (end - b))))
     × (length out ≡ length out₀)
 
 abbrev μ-loop : tie.MeasureT-loop
-μ-loop table spots out₀ n first end from q₀ b₀ out q b = end - b
+μ-loop table index out₀ n first end from q₀ b₀ out q b = end - b
 
 -- what a turn writes
 turn : (c : tie.Joined1 Inv-loop μ-loop)
@@ -54,18 +55,19 @@ turn c =
     let e = sym (k .ensures .is) ∙ x .0 .taken in
     let i = silent-inside w (p .0 .accepted) (l .b) u e in
     rw (x .7, x .8) (x .4 .ensures ∙ sym (ap (put w (l .out) (l .q)) (silent-one w (p .0 .accepted) (l .b) u e (a .n))
-    ∙ put-as w (l .out) (l .q) _ _ (going-arrow w (a .n) (l .b) (next w (l .b)) (c .before .before .before .before .word32 .result) (x .3 .result) (p .1) i
-    (c .before .before .before .before .word32 .ensures .is ∙ p .0 .spot-is (a .n) (p .1))
-    (x .3 .ensures .is ∙ ap (Lists.word (a .spots .now)) (x .2 .ensures .is) ∙ p .0 .spot-is (next w (l .b)) i)))))
+    ∙ put-as w (l .out) (l .q) _ _ (going-arrow w (a .n) (l .b) (next w (l .b)) (c .before .before .before .before .node-start .result) (x .3 .result) (p .1) i
+    (c .before .before .before .before .node-start .ensures .is ∙ node-is w (a .index .now) (p .0) (a .n) (omega (arith, p .1)))
+    (x .3 .ensures .is ∙ ap (Lists.word (nodesIn (a .index .now))) (x .2 .ensures .is) ∙ node-is w (a .index .now) (p .0) (next w (l .b)) (omega
+    (arith, i)))))))
     (λ x. rw (x .1, x .2)
     (sym (ap (put w (l .out) (l .q)) (silent-none w (a .n) (l .b) (λ e. x .0 .left (k .ensures .is ∙ e))) ∙ put-none (ofTable w) (state (l .out) (l .q)))))
     (c .if1 .came)
 
-word32-requires : tie.Need-word32-requires Inv-loop μ-loop
-word32-requires c κs = search needs
+node-start-requires : tie.Need-node-start-requires Inv-loop μ-loop
+node-start-requires c κs = search needs
 
 cast-from : tie.Need-cast-from Inv-loop μ-loop
-cast-from c = omega (arith, c .word32 .ensures .small)
+cast-from c = omega (arith, c .node-start .ensures .small)
 
 loop-holds : tie.Need-loop-holds Inv-loop μ-loop
 loop-holds c = (refl, refl)
@@ -76,11 +78,11 @@ field4-requires c κs = search needs
 field4-requires-2 : tie.Need-field4-requires-2 Inv-loop μ-loop
 field4-requires-2 c κs = search needs
 
-word32-requires-2 : tie.Need-word32-requires-2 Inv-loop μ-loop
-word32-requires-2 c κs = search needs
+node-start-requires-2 : tie.Need-node-start-requires-2 Inv-loop μ-loop
+node-start-requires-2 c κs = search needs
 
 cast-go : tie.Need-cast-go Inv-loop μ-loop
-cast-go c = omega (arith, c .word322 .ensures .small)
+cast-go c = omega (arith, c .node-start2 .ensures .small)
 
 go-requires : tie.Need-go-requires Inv-loop μ-loop
 go-requires c κs =
@@ -98,9 +100,11 @@ go-requires c κs =
     (part-inside (ofTable w) _ (state (l .out) (l .q)) _ _ (l .inv .0 ∙ ap (put w (l .out) (l .q)) (flat-more g (l .b) (a .end) t)) (p .3)) in (
       omega (arith, few-branches w (p .0 .accepted), u),
       inside-as w (l .out) (l .q) _ _
-          (going-arrow w (a .n) (l .b) (next w (l .b)) (c .before .before .before .before .before .before .before .word32 .result) (c .word322 .result) (p .1) i
-          (c .before .before .before .before .before .before .before .word32 .ensures .is ∙ p .0 .spot-is (a .n) (p .1))
-          (c .word322 .ensures .is ∙ ap (Lists.word (a .spots .now)) (c .before .field42 .ensures .is) ∙ p .0 .spot-is (next w (l .b)) i)) d,
+          (going-arrow w (a .n) (l .b) (next w (l .b)) (c .before .before .before .before .before .before .before .node-start .result)
+          (c .node-start2 .result) (p .1) i
+          (c .before .before .before .before .before .before .before .node-start .ensures .is ∙ node-is w (a .index .now) (p .0) (a .n) (omega (arith, p .1)))
+          (c .node-start2 .ensures .is ∙ ap (Lists.word (nodesIn (a .index .now))) (c .before .field42 .ensures .is) ∙ node-is w (a .index .now) (p .0)
+          (next w (l .b)) (omega (arith, i)))) d,
     )
 
 add-b : tie.Need-add-b Inv-loop μ-loop
@@ -144,12 +148,12 @@ silents-spec =
     (tie.spec
     Inv-loop
     μ-loop
-    word32-requires
+    node-start-requires
     cast-from
     loop-holds
     field4-requires
     field4-requires-2
-    word32-requires-2
+    node-start-requires-2
     cast-go
     go-requires
     add-b

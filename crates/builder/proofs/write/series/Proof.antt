@@ -16,13 +16,13 @@ use Rattle.builder.proofs.write.series.Statement.{statement}
 use Rattle.builder.proofs.write.series.Tie as tie
 
 abbrev Inv-loop : tie.InvT-loop
-Inv-loop out₀ kind x y arcs a b c count list middle size masks place₀ arc₀ t₀ out place arc t =
-    (putAll (risen kind x y arcs (a ∷ b ∷ c ∷ [])) (heads out₀ place₀ arc₀) (range count)
-    ≡ putAll (risen kind x y arcs (a ∷ b ∷ c ∷ [])) (heads out place arc) (from t (count - t)))
+Inv-loop out₀ label arcs count list middle size a b c masks place₀ arc₀ t₀ out place arc t =
+    (putAll (risen (label .kind) (label .a) (label .b) arcs (a ∷ b ∷ c ∷ [])) (heads out₀ place₀ arc₀) (range count)
+    ≡ putAll (risen (label .kind) (label .a) (label .b) arcs (a ∷ b ∷ c ∷ [])) (heads out place arc) (from t (count - t)))
     × (length out ≡ length out₀)
 
 abbrev μ-loop : tie.MeasureT-loop
-μ-loop out₀ kind x y arcs a b c count list middle size masks place₀ arc₀ t₀ out place arc t = count - t
+μ-loop out₀ label arcs count list middle size a b c masks place₀ arc₀ t₀ out place arc t = count - t
 
 -- ---- what is known where the loop starts, and in a turn
 
@@ -39,7 +39,7 @@ abbrev zeros : List ℕ
 zeros = 0 ∷ 0 ∷ 0 ∷ 0 ∷ 0 ∷ 0 ∷ 0 ∷ 0 ∷ 0 ∷ 0 ∷ 0 ∷ 0 ∷ 0 ∷ 0 ∷ 0 ∷ 0 ∷ []
 
 abbrev moving : Begun → List ℕ
-moving c = start c .args .a ∷ start c .args .b ∷ start c .args .c ∷ []
+moving c = start c .args .rise .a ∷ start c .args .rise .b ∷ start c .args .rise .c ∷ []
 
 abbrev list : Begun → List ℕ
 list c = c .before .before .before .words2 .last .0
@@ -55,7 +55,7 @@ merged c =
     (w .ensures .0) (v .ensures .1) (v .ensures .0) (c .masks-of .ensures)
 
 abbrev each : Begun → ℕ → Transition
-each c = risen (start c .args .kind) (start c .args .x) (start c .args .y) (start c .args .arcs) (moving c)
+each c = risen (start c .args .label .kind) (start c .args .label .a) (start c .args .label .b) (start c .args .arcs) (moving c)
 
 abbrev whole : Begun → Writing.Heads
 whole c = putAll (each c) (state (start c .args .out .now) (start c .args .h)) (range (start c .args .count))
@@ -67,7 +67,8 @@ inside : (c : Turn) → Inside (putOne (here c) (each (c .before .before) (c .be
 inside c =
     let b = c .before .before in
     let a = start b .args in
-    series-inside (a .arcs) (moving b) (list b) (b .masks-of .result) (size b) (merged b) (a .kind) (a .x) (a .y) (whole b) (here c) (c .before .loop .t)
+    series-inside (a .arcs) (moving b) (list b) (b .masks-of .result) (size b) (merged b) (a .label .kind) (a .label .a) (a .label .b) (whole b) (here c)
+    (c .before .loop .t)
     (a .count) (c .before .loop .inv .0) (c .loop-test .taken) (start b .pre .4)
 
 room : (c : Turn) → (c .before .loop .place + 6 ≤ length (c .before .loop .out))
@@ -75,7 +76,8 @@ room : (c : Turn) → (c .before .loop .place + 6 ≤ length (c .before .loop .o
 room c =
     let b = c .before .before in
     let a = start b .args in
-    series-room (a .arcs) (moving b) (list b) (b .masks-of .result) (size b) (merged b) (a .kind) (a .x) (a .y) (whole b) (here c) (c .before .loop .t)
+    series-room (a .arcs) (moving b) (list b) (b .masks-of .result) (size b) (merged b) (a .label .kind) (a .label .a) (a .label .b) (whole b) (here c)
+    (c .before .loop .t)
     (a .count) (c .before .loop .inv .0) (c .loop-test .taken) (start b .pre .4)
 
 few : (c : Turn) → c .before .loop .t < 65535
@@ -146,7 +148,8 @@ loop-again c =
     let a = start b .args in
     let d = c .before .before .before .before .before .before .before .before .put-record in
     let r = c .before .before .raised in (
-      series-more (a .arcs) (moving b) (list b) (b .masks-of .result) (size b) (merged b) (a .kind) (a .x) (a .y) (whole b) (here i) (i .before .loop .t)
+      series-more (a .arcs) (moving b) (list b) (b .masks-of .result) (size b) (merged b) (a .label .kind) (a .label .a) (a .label .b) (whole b) (here i)
+          (i .before .loop .t)
           (a .count) (i .before .loop .inv .0) (i .loop-test .taken) (d .last .0) (r .last .0) (r .result) (d .ensures) (r .ensures .1) (r .ensures .0)
           (omega (arith, few i)),
       r .kept .0 ∙ d .kept .0 ∙ i .before .loop .inv .1,
@@ -160,7 +163,7 @@ returns c =
     let b = c .before .before in
     let a = start b .args in
     let l = c .before .loop in
-    series-done (a .arcs) (moving b) (list b) (b .masks-of .result) (size b) (merged b) (a .kind) (a .x) (a .y) (whole b)
+    series-done (a .arcs) (moving b) (list b) (b .masks-of .result) (size b) (merged b) (a .label .kind) (a .label .a) (a .label .b) (whole b)
     (heads (l .out) (l .place) (l .arc)) (l .t) (a .count) (l .inv .0) (c .loop-test .left)
 
 pub series-spec : {M : Type 1} → statement M

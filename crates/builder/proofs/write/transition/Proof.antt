@@ -12,7 +12,8 @@ put-record-requires : tie.Need-put-record-requires
 put-record-requires c κs =
     let a = c .before .before .before .before .args in
     let p = c .before .before .before .before .pre in
-    let r = one-room (state (a .out .now) (a .h)) (arrow (a .kind) (a .a) (a .b) (take (a .inputs) (a .ins .now)) (take (a .outputs) (a .outs .now)))
+    let r = one-room (state (a .out .now) (a .h)) (arrow (a .label .kind) (a .label .a) (a .label .b) (take (a .inputs) (a .ins .now)) (take (a .outputs)
+    (a .outs .now)))
     (p .4) in
     let s = arcs-size (a .ins .now) (a .outs .now) (a .inputs) (a .outputs) (p .2) (p .3) in
     let m = p .4 .arc-small in
@@ -28,8 +29,8 @@ words-requires-2 c κs =
     let s = arcs-size (a .ins .now) (a .outs .now) (a .inputs) (a .outputs) (p .2) (p .3) in
     (p .3, omega (arith, p .4 .arc-small, s, c .before .before .before .words .ensures .0))
 
-add-t21 : tie.Need-add-t21
-add-t21 c = search needs
+add-t19 : tie.Need-add-t19
+add-t19 c = search needs
 
 same-length : tie.Need-same-length
 same-length c = search needs
@@ -40,11 +41,11 @@ returns c =
     let p = c .before .before .before .before .before .before .before .before .before .before .before .before .before .before .before .pre in
     let w = c .before .before .before .before .before .before .words in
     let v = c .before .before .words2 in
-    put-arrow (a .out .now) (a .ins .now) (a .outs .now) _ _ _ (a .h .place) (a .h .arc) (a .kind) (a .a) (a .b) (a .inputs) (a .outputs)
+    put-arrow (a .out .now) (a .ins .now) (a .outs .now) _ _ _ (a .h .place) (a .h .arc) (a .label .kind) (a .label .a) (a .label .b) (a .inputs) (a .outputs)
     (w .result) (v .result) (p .2) (p .3) (c .before .before .before .before .before .before .before .before .before .before .put-record .ensures)
     (w .ensures .1) (w .ensures .0) (v .ensures .1) (v .ensures .0)
 
 pub transition-spec : {M : Type 1} → statement M
 transition-spec =
     tie.close
-    (tie.spec put-record-requires words-requires words-requires-2 add-t21 same-length returns)
+    (tie.spec put-record-requires words-requires words-requires-2 add-t19 same-length returns)

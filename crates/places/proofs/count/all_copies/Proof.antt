@@ -6,20 +6,19 @@ use native.Mathlib.Omega.{arith}
 use borrow.Author.Needs.{needs}
 use Rattle.lists.specs.Lists.{from}
 use Rattle.scheme.specs.Words.{argument}
-use Rattle.places.specs.Inner.Counting.{sumsOf, over, copySums}
-use Rattle.places.proofs.Adding.{copy-grows, map-few, map-on, map-done, mapped-member}
+use Rattle.places.specs.Answers.{sumsOf}
+use Rattle.places.specs.Inner.Counting.{over, copySums}
+use Rattle.places.proofs.Adding.{copy-grows, map-few, map-on, map-done}
 use Rattle.places.proofs.count.all_copies.Statement.{statement}
 use Rattle.places.proofs.count.all_copies.Tie as tie
-use Rattle.places.proofs.count.copies.Reads as copies-reads
-use Rattle.scheme.proofs.fields.field1.Reads as field1-reads
 
 abbrev Inv-loop : tie.InvT-loop
-Inv-loop table plan first end r₀ i₀ r i =
+Inv-loop table index first end r₀ i₀ r i =
     (over (copySums table) (sumsOf r₀) (map (argument table) (from first (end - first)))
     ≡ over (copySums table) (sumsOf r) (map (argument table) (from i (end - i)))) × (first ≤ i)
 
 abbrev μ-loop : tie.MeasureT-loop
-μ-loop table plan first end r₀ i₀ r i = end - i
+μ-loop table index first end r₀ i₀ r i = end - i
 
 loop-holds : tie.Need-loop-holds Inv-loop μ-loop
 loop-holds c = (refl, omega arith)
@@ -30,16 +29,14 @@ field1-requires c κs = search needs
 copies-requires : tie.Need-copies-requires Inv-loop μ-loop
 copies-requires c κs =
     let c2 = c .before .before in
-    let s = c2 .before .before in
+    let s = c2 .before .before .before in
     let a = s .args in
     let w = a .table .now in
     let l = c2 .loop in
-    let x = c .field1 in
-    let inside = s .pre .1 (argument w (l .i)) (mapped-member (argument w) (a .first) (l .i) (a .end) (l .inv .1) (c .before .loop-test .taken)) in (
+    let x = c .field1 in (
       s .pre .0,
-      omega (arith, inside, x .ensures .is),
       map-few (copySums w) (copy-grows w) (argument w) (over (copySums w) (sumsOf (a .t)) (map (argument w) (from (a .first) (a .end - a .first))))
-          (sumsOf (l .r)) (l .i) (a .end) (x .result) (l .inv .0) (c .before .loop-test .taken) (x .ensures .is) (s .pre .2),
+          (sumsOf (l .r)) (l .i) (a .end) (x .result) (l .inv .0) (c .before .loop-test .taken) (x .ensures .is) (s .pre .1),
     )
 
 add-i : tie.Need-add-i Inv-loop μ-loop
@@ -52,7 +49,7 @@ loop-again : tie.Need-loop-again Inv-loop μ-loop
 loop-again c =
     let c2 = c .before .before in
     let c3 = c2 .before in
-    let a = c3 .before .before .args in
+    let a = c3 .before .before .before .args in
     let w = a .table .now in
     let l = c3 .loop in
     let x = c .before .field1 in
@@ -64,7 +61,7 @@ loop-again c =
 
 returns : tie.Need-returns Inv-loop μ-loop
 returns c =
-    let a = c .before .before .before .args in
+    let a = c .before .before .before .before .args in
     let w = a .table .now in
     let l = c .before .loop in
     sym (l .inv .0 ∙ map-done (copySums w) (argument w) (sumsOf (l .r)) (l .i) (a .end) (c .loop-test .left))

@@ -5,20 +5,18 @@ use native.Mathlib.Omega.{arith}
 use borrow.Author.Needs.{needs}
 use lib.ListN.{take}
 use lib.Seq.{slice}
-use Rattle.lists.specs.Lists.{word}
-use Rattle.places.specs.Inner.Counting.{sumsOf, over, releaseSums}
-use Rattle.places.proofs.Adding.{release-grows, part-few, part-on, part-done, taken-member}
+use Rattle.places.specs.Answers.{sumsOf}
+use Rattle.places.specs.Inner.Counting.{over, releaseSums}
+use Rattle.places.proofs.Adding.{release-grows, part-few, part-on, part-done}
 use Rattle.places.proofs.count.all_releases.Statement.{statement}
 use Rattle.places.proofs.count.all_releases.Tie as tie
-use Rattle.places.proofs.count.releases.Reads as releases-reads
-use Rattle.lists.proofs.word32.Reads as word32-reads
 
 abbrev Inv-loop : tie.InvT-loop
-Inv-loop table plan names count r₀ i₀ r i =
+Inv-loop table index names count r₀ i₀ r i =
     (over (releaseSums table) (sumsOf r₀) (take count names) ≡ over (releaseSums table) (sumsOf r) (slice i count names)) × (i ≤ count)
 
 abbrev μ-loop : tie.MeasureT-loop
-μ-loop table plan names count r₀ i₀ r i = count - i
+μ-loop table index names count r₀ i₀ r i = count - i
 
 loop-holds : tie.Need-loop-holds Inv-loop μ-loop
 loop-holds c = (refl, omega arith)
@@ -28,17 +26,15 @@ word32-requires c κs = search needs
 
 releases-requires : tie.Need-releases-requires Inv-loop μ-loop
 releases-requires c κs =
-    let s = c .before .before .before .before .before in
+    let s = c .before .before .before .before .before .before in
     let a = s .args in
     let w = a .table .now in
     let xs = a .names .now in
     let l = c .before .before .loop in
-    let x = c .word32 in
-    let inside = s .pre .2 (word xs (l .i)) (taken-member xs (l .i) (a .count) (c .before .loop-test .taken) (s .pre .1)) in (
+    let x = c .word32 in (
       s .pre .0,
-      omega (arith, inside, x .ensures .is),
       part-few (releaseSums w) (release-grows w) (over (releaseSums w) (sumsOf (a .t)) (take (a .count) xs)) (sumsOf (l .r)) xs (l .i) (a .count) (x .result)
-          (l .inv .0) (c .before .loop-test .taken) (s .pre .1) (x .ensures .is) (s .pre .3),
+          (l .inv .0) (c .before .loop-test .taken) (s .pre .1) (x .ensures .is) (s .pre .2),
     )
 
 add-i : tie.Need-add-i Inv-loop μ-loop
@@ -49,7 +45,7 @@ loop-less c = omega arith
 
 loop-again : tie.Need-loop-again Inv-loop μ-loop
 loop-again c =
-    let s = c .before .before .before .before .before .before in
+    let s = c .before .before .before .before .before .before .before in
     let a = s .args in
     let w = a .table .now in
     let xs = a .names .now in
@@ -63,7 +59,7 @@ loop-again c =
 
 returns : tie.Need-returns Inv-loop μ-loop
 returns c =
-    let a = c .before .before .before .before .args in
+    let a = c .before .before .before .before .before .args in
     let l = c .before .loop in
     sym (l .inv .0 ∙ part-done (releaseSums (a .table .now)) (sumsOf (l .r)) (a .names .now) (l .i) (a .count) (c .loop-test .left))
 

@@ -1,6 +1,6 @@
 -- `places::count::common` meets its contract.
 use borrow.Author.Needs.{needs}
-use Rattle.places.proofs.Reaches.{in-both}
+use Rattle.places.proofs.Reaches.{common-is}
 use Rattle.places.proofs.count.common.Statement.{statement}
 use Rattle.places.proofs.count.common.Tie as tie
 use Rattle.places.proofs.count.both.Reads as both-reads
@@ -22,7 +22,7 @@ both-requires c κs = search needs
 returns : tie.Need-returns
 returns c =
     let a = c .before .before .before .before .args in
-    in-both (a .a) (a .b) (c .before .before .before .larger .result) (c .before .before .smaller .result) (c .before .larger2 .result) (c .both .result)
+    common-is (a .a) (a .b) (c .before .before .before .larger .result) (c .before .before .smaller .result) (c .before .larger2 .result) (c .both .result)
     (c .before .before .before .larger .ensures) (c .before .before .smaller .ensures) (c .before .larger2 .ensures) (c .both .ensures)
 
 pub common-spec : {M : Type 1} → statement M

@@ -2,22 +2,24 @@
 use mathlib.Core.Logic.{⊎-elim}
 use mathlib.Core.Path.{_≡_, sym, subst, _∙_}
 use mathlib.Core.List.{List}
-use Prim.Native.Nat.{ℕ, _+_, _-_}
+use Prim.Native.Nat.{ℕ, _+_, _-_, _≤_}
 use native.Mathlib.Omega.{arith}
 use borrow.Author.Needs.{needs}
 use Rattle.lists.specs.Lists.{from}
 use Rattle.scheme.specs.Words.{nodeKind, argumentsOf}
 use Rattle.scheme.specs.Owners.{held}
-use Rattle.places.specs.Inner.Plan.{Named}
-use Rattle.places.specs.Inner.Counting.{Few, Sums, sumsOf, addTimes, over, releaseSums, copySums, silentSums, nodeSums}
-use Rattle.places.proofs.Controls.{few-nodes}
-use Rattle.places.proofs.NodeCounts.{names-asks, names-gives, stopped, chosen, made, other-kind, call-sums, copied-few, called-few, arguments-named}
-use Rattle.places.proofs.NodeCounts.{arguments-are, free-few}
+use Rattle.places.specs.Answers.{Sums, sumsOf}
+use Rattle.places.specs.Inner.Counting.{Few, addTimes, over, releaseSums, copySums, silentSums, nodeSums}
+use Rattle.places.proofs.Controls.{few-nodes, few-bounds}
+use Rattle.places.proofs.Tokens.{free-few}
+use Rattle.places.proofs.Plans.{known, privates-are}
+use Rattle.places.proofs.NodeCounts.{names-asks, names-gives, stopped, chosen, made, other-kind, call-sums, copied-few, called-few}
+use Rattle.places.proofs.NodeCounts.{arguments-are}
 use Rattle.places.proofs.count.node.Statement.{statement}
 use Rattle.places.proofs.count.node.Tie as tie
 
 abbrev start : tie.After-field33 → tie.Start
-start c = c .before .before .before .before .before .before
+start c = c .before .before .before .before .before
 
 abbrev table : tie.Start → List ℕ
 table s = s .args .table .now
@@ -41,18 +43,17 @@ of-choice c =
     let b = c .before in
     let s = start b in
     let k = b .before .before .field3 in
-    chosen (table s) (s .pre .0 .accepted) (s .args .n) (s .pre .3) (sums s) (k .result) (k .ensures .is) (b .before .field32 .result) (b .field33 .result)
+    chosen (table s) (s .pre .0 .accepted) (s .args .n) (s .pre .2) (sums s) (k .result) (k .ensures .is) (b .before .field32 .result) (b .field33 .result)
     (b .before .field32 .ensures .is) (b .field33 .ensures .is) (c .if1 .taken)
 
-of-new : (c : tie.Then2)
-    → let s = start (c .before .before) in
-    all s ≡ addTimes (sums s) (s .args .plan .privates) (s .args .free + 2) (s .args .free + 2)
+of-new : (c : tie.After-privates)
+    → let s = start (c .before .before .before) in
+    all s ≡ addTimes (sums s) (c .privates .result) (s .args .free + 2) (s .args .free + 2)
 of-new c =
-    let b = c .before .before in
-    let s = start b in
-    let k = b .before .before .field3 in
-    made (table s) (s .pre .0 .accepted) (s .args .n) (s .pre .3) (sums s) (k .result) (k .ensures .is) (s .args .plan .privates) (s .args .free)
-    (s .pre .1 .privates-are) (s .pre .2) (c .if2 .taken)
+    let s = start (c .before .before .before) in
+    let k = c .before .before .before .before .before .field3 in
+    made (table s) (s .pre .0 .accepted) (s .args .n) (s .pre .2) (sums s) (k .result) (k .ensures .is) (c .privates .result) (s .args .free)
+    (c .privates .ensures .is ∙ privates-are (table s) (s .args .index .now) (s .pre .0)) (s .pre .1) (c .before .if2 .taken)
 
 abbrev start2 : tie.After-held-names → tie.Start
 start2 c = start (c .before .before .before .before)
@@ -61,7 +62,7 @@ other : (c : tie.After-held-names) (i : ℕ) → (c .before .before .before .bef
 other c =
     let s = start2 c in
     let k = c .before .before .before .before .before .before .field3 in
-    other-kind (table s) (s .pre .0 .accepted) (s .args .n) (s .pre .3) (sums s) (k .result) (k .ensures .is)
+    other-kind (table s) (s .pre .0 .accepted) (s .args .n) (s .pre .2) (sums s) (k .result) (k .ensures .is)
 
 not-one : (c : tie.After-held-names) → kind (start2 c) ≡ 1 → ⊥
 not-one c = other c 1 (c .before .before .before .if1 .left)
@@ -88,8 +89,8 @@ met c =
     (x .1 .ensures .is) in
     let copied : sumsOf (c .if3 .r) ≡ over (copySums w) (addTimes (sums s) 1 1 1) (argumentsOf w (a .n)) =
     rw (x .4) (x .3 .ensures ∙ rw (as′, x .2 .ensures)) in
-    rw copied (call-sums w h (a .n) (s .pre .3) (sums s) (other b 0 (x .0 .taken)) (not-one b) (not-two b)))
-    (λ x. rw (x .1) (stopped w h (a .n) (s .pre .3) (sums s) (k .result) (k .ensures .is) (x .0 .left)))
+    rw copied (call-sums w h (a .n) (s .pre .2) (sums s) (other b 0 (x .0 .taken)) (not-one b) (not-two b)))
+    (λ x. rw (x .1) (stopped w h (a .n) (s .pre .2) (sums s) (k .result) (k .ensures .is) (x .0 .left)))
     (c .if3 .came)
 
 -- ---- what the calls ask
@@ -108,25 +109,33 @@ add-silents c = search needs
 
 silents-requires : tie.Need-silents-requires
 silents-requires c κs =
-    (omega (arith, c .before .before .field32 .ensures .small, c .before .field33 .ensures .small), subst Few (of-choice c) (start (c .before) .pre .4))
+    (omega (arith, c .before .before .field32 .ensures .small, c .before .field33 .ensures .small), subst Few (of-choice c) (start (c .before) .pre .3))
 
 returns : tie.Need-returns
 returns c = c .silents .ensures ∙ sym (of-choice (c .before))
 
+privates-requires : tie.Need-privates-requires
+privates-requires c κs = search needs
+
+few : (c : tie.After-field33) → start c .args .free + 2 ≤ 34
+few c =
+    let s = start c in
+    omega (arith, s .pre .1, free-few (table s) (s .pre .0 .accepted), few-bounds (table s) (s .pre .0 .accepted))
+
 add-more : tie.Need-add-more
-add-more c = let s = start (c .before .before) in omega (arith, s .pre .2, free-few (table s) (s .pre .1 .few-bounds))
+add-more c = omega (arith, few (c .before .before .before))
 
 add-more-2 : tie.Need-add-more-2
-add-more-2 c = let s = start (c .before .before) in omega (arith, s .pre .2, free-few (table s) (s .pre .1 .few-bounds))
+add-more-2 c = omega (arith, few (c .before .before .before))
 
 more-requires : tie.Need-more-requires
-more-requires c κs = subst Few (of-new c) (start (c .before .before) .pre .4)
+more-requires c κs = subst Few (of-new c) (start (c .before .before .before) .pre .3)
 
 returns-2 : tie.Need-returns-2
 returns-2 c = c .more .ensures ∙ sym (of-new (c .before))
 
 cast-held-names : tie.Need-cast-held-names
-cast-held-names c = let s = start (c .before .before) in omega (arith, s .pre .3, few-nodes (table s) (s .pre .0 .accepted))
+cast-held-names c = let s = start (c .before .before) in omega (arith, s .pre .2, few-nodes (table s) (s .pre .0 .accepted))
 
 slice-aggregate-held-names : tie.Need-slice-aggregate-held-names
 slice-aggregate-held-names c = search needs
@@ -145,7 +154,7 @@ more-requires-2 c κs =
     let t = c .before in
     let b = t .before .before in
     let s = start2 b in
-    called-few (table s) (s .pre .0 .accepted) (s .args .n) (s .pre .3) (sums s) (other b 0 (t .if3 .taken)) (not-one b) (not-two b) (s .pre .4)
+    called-few (table s) (s .pre .0 .accepted) (s .args .n) (s .pre .2) (sums s) (other b 0 (t .if3 .taken)) (not-one b) (not-two b) (s .pre .3)
 
 all-copies-requires : tie.Need-all-copies-requires
 all-copies-requires c κs =
@@ -160,9 +169,8 @@ all-copies-requires c κs =
     let as′ =
     arguments-are w (a .n) (d .before .field32 .result) (d .field33 .result) (f .result) (d .before .field32 .ensures .is) (d .field33 .ensures .is)
     (f .ensures .is) in (
-      s .pre .1,
-      subst (Named w) (sym as′) (arguments-named w h (a .n) (s .pre .3) (sums s) (other b 0 (t .if3 .taken)) (not-one b) (not-two b)),
-      rw (as′, c .more2 .ensures) (copied-few w h (a .n) (s .pre .3) (sums s) (other b 0 (t .if3 .taken)) (not-one b) (not-two b) (s .pre .4)),
+      s .pre .0,
+      rw (as′, c .more2 .ensures) (copied-few w h (a .n) (s .pre .2) (sums s) (other b 0 (t .if3 .taken)) (not-one b) (not-two b) (s .pre .3)),
     )
 
 slice-aggregate-all-releases : tie.Need-slice-aggregate-all-releases
@@ -176,18 +184,21 @@ all-releases-requires c κs =
     let a = s .args in
     let n = b .held-names in
     let q =
-    names-asks (table s) (a .owners .now) (a .homes .now) (s .pre .0) (a .n) (s .pre .3) _ (n .result) (n .last .1 .1 .1 .1 .0) (n .ensures) (omega arith)
-    (sumsOf (j .if3 .r)) (subst Few (met j) (s .pre .4)) in
-    (s .pre .1, q .0, q .1, q .2)
+    names-asks (table s) (a .index .now) (known (table s) (a .index .now) (s .pre .0)) (a .n) (s .pre .2) _ (n .result) (n .last .1 .1 .1 .0) (n .ensures)
+    (omega arith)
+    (sumsOf (j .if3 .r)) (subst Few (met j) (s .pre .3)) in
+    (s .pre .0, q .0, q .1)
 
 returns-3 : tie.Need-returns-3
 returns-3 c =
-    let j = c .before .before in
+    let c2 = c .before .before in
+    let j = c2 in
     let b = j .before .before in
     let s = start2 b in
     let a = s .args in
     let n = b .held-names in
-    names-gives (table s) (a .owners .now) (a .homes .now) (s .pre .0) (a .n) (s .pre .3) _ (n .result) (n .last .1 .1 .1 .1 .0) (n .ensures) (omega arith)
+    names-gives (table s) (a .index .now) (known (table s) (a .index .now) (s .pre .0)) (a .n) (s .pre .2) _ (n .result) (n .last .1 .1 .1 .0) (n .ensures)
+    (omega arith)
     (sumsOf (j .if3 .r)) (sumsOf (c .all-releases .result)) (c .all-releases .ensures)
     ∙ sym (met j)
 
@@ -201,6 +212,7 @@ node-spec =
     add-silents
     silents-requires
     returns
+    privates-requires
     add-more
     add-more-2
     more-requires

@@ -5,20 +5,18 @@ use native.Mathlib.Omega.{arith}
 use borrow.Author.Needs.{needs}
 use Rattle.lists.specs.Lists.{from, range}
 use Rattle.scheme.specs.Words.{nodes}
-use Rattle.places.specs.Inner.Counting.{sumsOf, over, nodeSums}
+use Rattle.places.specs.Answers.{sumsOf}
+use Rattle.places.specs.Inner.Counting.{over, nodeSums}
 use Rattle.places.proofs.Adding.{node-grows, range-whole, range-few, range-on, range-done}
 use Rattle.places.proofs.count.of_nodes.Statement.{statement}
 use Rattle.places.proofs.count.of_nodes.Tie as tie
-use Rattle.places.proofs.count.node.Reads as node-reads
-use Rattle.places.proofs.layout.free_names.Reads as free-names-reads
-use Rattle.lists.proofs.word16.Reads as word16-reads
 
 abbrev Inv-loop : tie.InvT-loop
-Inv-loop table owners homes plan count free q₀ n₀ q n =
+Inv-loop table index count free q₀ n₀ q n =
     over (nodeSums table) (sumsOf q₀) (range (nodes table)) ≡ over (nodeSums table) (sumsOf q) (from n (nodes table - n))
 
 abbrev μ-loop : tie.MeasureT-loop
-μ-loop table owners homes plan count free q₀ n₀ q n = count - n
+μ-loop table index count free q₀ n₀ q n = count - n
 
 word16-requires : tie.Need-word16-requires Inv-loop μ-loop
 word16-requires c κs = search needs
@@ -27,20 +25,19 @@ free-names-requires : tie.Need-free-names-requires Inv-loop μ-loop
 free-names-requires c κs = search needs
 
 loop-holds : tie.Need-loop-holds Inv-loop μ-loop
-loop-holds c = let a = c .before .before .before .before .before .args in range-whole (nodeSums (a .table .now)) (sumsOf (a .t)) (nodes (a .table .now))
+loop-holds c = let a = c .before .before .before .before .args in range-whole (nodeSums (a .table .now)) (sumsOf (a .t)) (nodes (a .table .now))
 
 node-requires : tie.Need-node-requires Inv-loop μ-loop
 node-requires c κs =
-    let s = c .before .before .before .before .before .before .before in
+    let s = c .before .before .before .before .before .before in
     let a = s .args in
     let w = a .table .now in
     let l = c .before .loop in
     let u : l .n < nodes w = omega (arith, c .before .before .before .word16 .ensures .is, c .loop-test .taken) in (
       s .pre .0,
-      s .pre .1,
       c .before .before .free-names .ensures .0,
       u,
-      range-few (nodeSums w) (node-grows w) (over (nodeSums w) (sumsOf (a .t)) (range (nodes w))) (sumsOf (l .q)) (l .n) (nodes w) (l .inv) u (s .pre .2),
+      range-few (nodeSums w) (node-grows w) (over (nodeSums w) (sumsOf (a .t)) (range (nodes w))) (sumsOf (l .q)) (l .n) (nodes w) (l .inv) u (s .pre .1),
     )
 
 add-n : tie.Need-add-n Inv-loop μ-loop
@@ -51,7 +48,7 @@ loop-less c = omega arith
 
 loop-again : tie.Need-loop-again Inv-loop μ-loop
 loop-again c =
-    let a = c .before .before .before .before .before .before .before .before .args in
+    let a = c .before .before .before .before .before .before .before .args in
     let w = a .table .now in
     let l = c .before .before .loop in
     let u : l .n < nodes w = omega (arith, c .before .before .before .before .word16 .ensures .is, c .before .loop-test .taken) in
@@ -60,7 +57,7 @@ loop-again c =
 
 returns : tie.Need-returns Inv-loop μ-loop
 returns c =
-    let a = c .before .before .before .before .before .before .before .args in
+    let a = c .before .before .before .before .before .before .args in
     let w = a .table .now in
     let l = c .before .loop in
     sym (l .inv ∙ range-done (nodeSums w) (sumsOf (l .q)) (l .n) (nodes w) (omega (arith, c .before .before .before .word16 .ensures .is, c .loop-test .left)))

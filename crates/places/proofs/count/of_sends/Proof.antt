@@ -5,29 +5,26 @@ use Prim.Native.Nat.{_-_, _<_}
 use native.Mathlib.Omega.{arith}
 use borrow.Author.Needs.{needs}
 use Rattle.lists.specs.Lists.{from, range}
-use Rattle.lists.proofs.Tests.{same-yes}
-use Rattle.scheme.specs.Words.{branches, branchKind}
-use Rattle.places.specs.Inner.Counting.{Few, sumsOf, over, sendSums}
+use Rattle.scheme.specs.Words.{branches}
+use Rattle.places.specs.Answers.{sumsOf}
+use Rattle.places.specs.Inner.Counting.{Few, over, sendSums}
 use Rattle.places.proofs.Adding.{send-grows, range-whole, range-few, range-on, range-done}
 use Rattle.places.proofs.NodeCounts.{send-yes, send-no}
 use Rattle.places.proofs.count.of_sends.Statement.{statement}
 use Rattle.places.proofs.count.of_sends.Tie as tie
-use Rattle.places.proofs.count.partners.Reads as partners-reads
-use Rattle.lists.proofs.word16.Reads as word16-reads
-use Rattle.scheme.proofs.fields.field4.Reads as field4-reads
 
 abbrev Inv-loop : tie.InvT-loop
-Inv-loop table homes definitions plan count q₀ s₀ q s =
+Inv-loop table index count q₀ s₀ q s =
     over (sendSums table) (sumsOf q₀) (range (branches table)) ≡ over (sendSums table) (sumsOf q) (from s (branches table - s))
 
 abbrev μ-loop : tie.MeasureT-loop
-μ-loop table homes definitions plan count q₀ s₀ q s = count - s
+μ-loop table index count q₀ s₀ q s = count - s
 
 word16-requires : tie.Need-word16-requires Inv-loop μ-loop
 word16-requires c κs = search needs
 
 loop-holds : tie.Need-loop-holds Inv-loop μ-loop
-loop-holds c = let a = c .before .before .before .before .args in range-whole (sendSums (a .table .now)) (sumsOf (a .t)) (branches (a .table .now))
+loop-holds c = let a = c .before .before .before .args in range-whole (sendSums (a .table .now)) (sumsOf (a .t)) (branches (a .table .now))
 
 field4-requires : tie.Need-field4-requires Inv-loop μ-loop
 field4-requires c κs = search needs
@@ -37,19 +34,16 @@ partners-requires c κs =
     let c2 = c .before .before in
     let c3 = c2 .before in
     let c4 = c3 .before in
-    let b = c4 .before .before .before .before in
+    let b = c4 .before .before .before in
     let a = b .args in
     let w = a .table .now in
     let l = c3 .loop in
     let u : l .s < branches w = omega (arith, c4 .word16 .ensures .is, c2 .loop-test .taken) in
     let e = sym (c .before .field4 .ensures .is) ∙ c .if1 .taken in (
       b .pre .0,
-      b .pre .1,
-      u,
-      same-yes (branchKind w (l .s)) 1 e,
       subst Few (send-yes w (sumsOf (l .q)) (l .s) e)
           (range-few (sendSums w) (send-grows w) (over (sendSums w) (sumsOf (a .t)) (range (branches w))) (sumsOf (l .q)) (l .s) (branches w) (l .inv) u
-          (b .pre .2)),
+          (b .pre .1)),
     )
 
 add-s : tie.Need-add-s Inv-loop μ-loop
@@ -60,7 +54,7 @@ loop-less c = omega arith
 
 loop-again : tie.Need-loop-again Inv-loop μ-loop
 loop-again c =
-    let a = c .before .before .before .before .before .before .before .before .args in
+    let a = c .before .before .before .before .before .before .before .args in
     let w = a .table .now in
     let l = c .before .before .before .loop in
     let u : l .s < branches w = omega (arith, c .before .before .before .before .word16 .ensures .is, c .before .before .loop-test .taken) in
@@ -73,7 +67,7 @@ loop-again c =
 
 returns : tie.Need-returns Inv-loop μ-loop
 returns c =
-    let a = c .before .before .before .before .before .before .args in
+    let a = c .before .before .before .before .before .args in
     let w = a .table .now in
     let l = c .before .loop in
     sym (l .inv ∙ range-done (sendSums w) (sumsOf (l .q)) (l .s) (branches w) (omega (arith, c .before .before .word16 .ensures .is, c .loop-test .left)))

@@ -1,27 +1,23 @@
 -- `places::count::pair` meets its contract.
-use mathlib.Core.Path.{sym, ap, _∙_}
-use mathlib.Core.Bool.{not}
+use mathlib.Core.Path.{_≡_, sym, ap}
 use mathlib.Core.List.{List}
 use Prim.Native.Nat.{ℕ, _+_, _-_, _*_, _≤_}
 use native.Mathlib.Omega.{arith}
-use lib.Dec.{ltb}
 use borrow.Author.Needs.{needs}
-use Rattle.lists.specs.Lists.{pick, bit}
+use Rattle.lists.specs.Lists.{pick, word}
 use Rattle.scheme.specs.Words.{publics}
-use Rattle.places.specs.Inner.Plan.{privatesOf, values}
-use Rattle.places.specs.Inner.Counting.{Sums, Few, sumsOf, pairSums}
-use Rattle.places.specs.declared.layout.Layout.{Layout}
+use Rattle.places.specs.Plan.{privatesAt}
+use Rattle.places.specs.Inner.Plan.{privatesOf}
+use Rattle.places.specs.Answers.{Sums, sumsOf}
+use Rattle.places.specs.Inner.Counting.{Few, pairSums}
 use Rattle.places.specs.declared.layout.Reach.{Reach}
 use Rattle.places.proofs.NodeCounts.{Twice, Read, reads, publics-few, privates-few, self-sums, other-sums, bound-few}
+use Rattle.places.proofs.Names.{reach-lists}
+use Rattle.places.proofs.Reaches.{common-lists}
+use Rattle.places.proofs.Plans.{privates-are}
 use Rattle.places.proofs.NodeCounts.{first-few, second-few, both-added}
 use Rattle.places.proofs.count.pair.Statement.{statement}
 use Rattle.places.proofs.count.pair.Tie as tie
-use Rattle.places.proofs.count.bound.Reads as bound-reads
-use Rattle.places.proofs.count.common.Reads as common-reads
-use Rattle.places.proofs.count.more.Reads as more-reads
-use Rattle.places.proofs.count.private_count.Reads as private-count-reads
-use Rattle.places.proofs.layout.reach_of.Reads as reach-of-reads
-use Rattle.scheme.proofs.fields.field4.Reads as field4-reads
 
 -- ---- what is read of the send and the receive
 
@@ -29,25 +25,31 @@ abbrev Place : Type 0
 Place = tie.After-private-count
 
 abbrev table : Place → List ℕ
-table c = c .before .before .before .before .before .before .before .before .before .before .before .args .table .now
+table c = c .before .before .before .before .before .before .before .before .before .before .before .before .args .table .now
 
-abbrev plan : Place → Layout
-plan c = c .before .before .before .before .before .before .before .before .before .before .before .args .plan
+-- N, as a word of the plan
+abbrev private-word : Place → ℕ
+private-word c = word (c .before .before .before .before .before .before .before .before .before .before .before .before .args .index .now) privatesAt
+
+found : (c : Place) → private-word c ≡ privatesOf (table c)
+found c =
+    let c12 = c .before .before .before .before .before .before .before .before .before .before .before .before in
+    privates-are (table c) (c12 .args .index .now) (c12 .pre .0)
 
 abbrev send : Place → ℕ
-send c = c .before .before .before .before .before .before .before .before .before .before .before .args .send
+send c = c .before .before .before .before .before .before .before .before .before .before .before .before .args .send
 
 abbrev receive : Place → ℕ
-receive c = c .before .before .before .before .before .before .before .before .before .before .before .args .receive
+receive c = c .before .before .before .before .before .before .before .before .before .before .before .before .args .receive
 
 abbrev so-far : Place → Sums
-so-far c = sumsOf (c .before .before .before .before .before .before .before .before .before .before .before .args .t)
+so-far c = sumsOf (c .before .before .before .before .before .before .before .before .before .before .before .before .args .t)
 
 abbrev whole : Place → Sums
 whole c = pairSums (table c) (send c) (so-far c) (receive c)
 
 fits : (c : Place) → Few (whole c)
-fits c = c .before .before .before .before .before .before .before .before .before .before .before .pre .4
+fits c = c .before .before .before .before .before .before .before .before .before .before .before .before .pre .1
 
 -- the send's channel and name, the receive's channel
 abbrev a : Place → ℕ
@@ -78,26 +80,23 @@ be c = c .before .before .bound2 .result
 
 read : (c : Place) → Read (table c) (send c) (receive c) (a c) (z c) (e c) (shared c) (ba c) (be c) (private c)
 read c =
-    let c2 = c .before .before in
-    let c3 = c2 .before in
-    let c4 = c3 .before in
-    let c5 = c4 .before in
-    let c6 = c5 .before in
+    let c6 = c .before .before .before .before .before .before in
     let c7 = c6 .before in
     let c8 = c7 .before in
     let c9 = c8 .before in
-    let s = c9 .before .before in
-    reads (table c) (plan c) (send c) (receive c) (a c) (z c) (e c) (c6 .reach-of .result) (c5 .reach-of2 .result) (shared c) (ba c) (be c) (private c)
-    (s .pre .0) (c9 .field4 .ensures .is) (c8 .field42 .ensures .is) (c7 .field43 .ensures .is) (c6 .reach-of .ensures (omega (arith, c9 .field4 .ensures .is, s .pre .1)))
-    (c5 .reach-of2 .ensures (omega (arith, c7 .field43 .ensures .is, s .pre .3)))
-    (c4 .common .ensures) (c3 .bound .ensures) (c2 .bound2 .ensures) (c .private-count .ensures)
+    let c5 = c .before .before .before .before .before in
+    reads (table c) (private-word c) (send c) (receive c) (a c) (z c) (e c) (c6 .reach-of .result) (c5 .reach-of2 .result) (shared c) (ba c) (be c) (private c)
+    (c .before .before .before .before .before .before .before .before .before .before .before .before .pre .0 .accepted) (found c)
+    (c9 .field4 .ensures .is) (c8 .field42 .ensures .is) (c7 .field43 .ensures .is) (c6 .reach-of .ensures) (c5 .reach-of2 .ensures)
+    (c .before .before .before .before .common .ensures) (c .before .before .before .bound .ensures) (c .before .before .bound2 .ensures)
+    (c .private-count .ensures)
 
 channels-few : (c : tie.After-bound2) → c .before .bound .result + c .bound2 .result ≤ 2
 channels-few c =
     let c1 = c .before in
     let c5 = c1 .before .before .before .before in
     let c7 = c5 .before .before in
-    let p = c7 .before .before .args .plan .publics in
+    let p = publics (c7 .before .before .before .args .table .now) in
     omega (
       arith,
       bound-few (c1 .bound .result) (c7 .field4 .result) p (c1 .bound .ensures),
@@ -130,24 +129,21 @@ self c =
 three-few : (c : tie.After-bound3) → ba (c .before .before) + be (c .before .before) + c .bound3 .result ≤ 3
 three-few c =
     let q = c .before .before in
-    omega (arith, few q, bound-few (c .bound3 .result) (z q) (plan q .publics) (c .bound3 .ensures))
+    omega (arith, few q, bound-few (c .bound3 .result) (z q) (publics (table q)) (c .bound3 .ensures))
 
 abbrev Other : Place → ℕ → Reach → Type 0
 Other c bz y =
     Twice (so-far c) (whole c) ((public c + private c) * (y .high - y .low)) (ba c + be c + bz + 2) (ba c + be c + bz + 3)
-    ((public c + private c) * pick (y .privates) (plan c .privates) 0) (ba c + be c + bz + 3) (ba c + be c + bz + 3)
+    ((public c + private c) * pick (y .privates) (private-word c) 0) (ba c + be c + bz + 3) (ba c + be c + bz + 3)
 
 other : (c : tie.After-reach-of3) → Other (c .before .before .before) (c .before .bound3 .result) (c .reach-of3 .result)
 other c =
     let q = c .before .before .before in
     let y = c .reach-of3 in
     let b = c .before .bound3 in
-    let s = c .before .before .before .before .before .before .before .before .before .before .before .before .before .before in
     other-sums (table q) (send q) (receive q) (a q) (z q) (e q) (shared q) (ba q) (be q) (private q) (read q) (so-far q) (y .result) (b .result)
-    (pick (y .result .privates) (plan q .privates) 0) (c .before .before .if1 .left)
-    (y .ensures (omega (arith, q .before .before .before .before .before .before .before .before .field42 .ensures .is, s .pre .2)))
-    (b .ensures ∙ ap (λ (p : ℕ). bit (not (ltb (z q) p))) (s .pre .0 .publics-are))
-    (ap (λ (n : ℕ). pick (y .result .privates) n 0) (s .pre .0 .privates-are))
+    (pick (y .result .privates) (private-word q) 0) (c .before .before .if1 .left) (rw (y .ensures) (reach-lists (table q) (z q))) (b .ensures)
+    (ap (λ (n : ℕ). pick (y .result .privates) n 0) (found q))
 
 -- ---- the needs
 
@@ -182,12 +178,12 @@ sub-publics : tie.Need-sub-publics
 sub-publics c =
     let c3 = c .before .before .before in
     let c4 = c3 .before in
-    let c6 = c4 .before .before in
+    let c5 = c4 .before in
+    let c6 = c5 .before in
     let c8 = c6 .before .before in
-    let w = c8 .before .before .args .table .now in
-    let r = c3 .common .ensures (publics w) (privatesOf w) (values w (c8 .field4 .result)) (values w (c6 .field43 .result)) in
-    let s = c8 .before .before in
-    r (c4 .before .reach-of .ensures (omega (arith, c8 .field4 .ensures .is, s .pre .1))) (c4 .reach-of2 .ensures (omega (arith, c6 .field43 .ensures .is, s .pre .3))) .order
+    let c11 = c8 .before .before .before in
+    let w = c11 .args .table .now in
+    rw (c3 .common .ensures, c4 .reach-of2 .ensures, c5 .reach-of .ensures) (common-lists w (c8 .field4 .result) (c6 .field43 .result) .order)
 
 private-count-requires : tie.Need-private-count-requires
 private-count-requires c κs = search needs
@@ -229,10 +225,9 @@ add-all c = omega (arith, all-few (c .before .before .before))
 
 sub-more : tie.Need-sub-more
 sub-more c =
-    let q = c .before .before .before .before in
-    let s = q .before .before .before .before .before .before .before .before .before .before .before in
-    let z-is = q .before .before .before .before .before .before .before .before .field42 .ensures .is in
-    c .before .reach-of3 .ensures (omega (arith, z-is, s .pre .2)) .order
+    let c12 = c .before .before .before .before .before .before .before .before .before .before .before .before in
+    let c16 = c12 .before .before .before .before in
+    rw (c .before .reach-of3 .ensures) (reach-lists (c16 .args .table .now) (c12 .field42 .result) .order)
 
 mul-more : tie.Need-mul-more
 mul-more c =

@@ -5,7 +5,8 @@ use Prim.Native.Nat.{_-_}
 use native.Mathlib.Omega.{arith}
 use borrow.Author.Needs.{needs}
 use Rattle.lists.specs.Lists.{from}
-use Rattle.places.specs.Inner.Counting.{Few, sumsOf, over, silentSums}
+use Rattle.places.specs.Answers.{sumsOf}
+use Rattle.places.specs.Inner.Counting.{Few, over, silentSums}
 use Rattle.places.proofs.Adding.{silent-grows, silent-yes, silent-no, range-few, range-on, range-done}
 use Rattle.places.proofs.count.silents.Statement.{statement}
 use Rattle.places.proofs.count.silents.Tie as tie

@@ -1,23 +1,21 @@
 -- `places::count::totals_of` meets its contract.
-use Rattle.places.specs.Inner.Counting.{sumsOf}
+use Rattle.places.specs.Answers.{sumsOf}
 use Rattle.places.proofs.NodeCounts.{nodes-few, sends-few, all-added}
 use Rattle.places.proofs.count.totals_of.Statement.{statement}
 use Rattle.places.proofs.count.totals_of.Tie as tie
-use Rattle.places.proofs.count.of_nodes.Reads as of-nodes-reads
-use Rattle.places.proofs.count.of_sends.Reads as of-sends-reads
 
 of-nodes-requires : tie.Need-of-nodes-requires
-of-nodes-requires c κs = let s = c .before .before .before .before in (s .pre .0, s .pre .2, nodes-few (s .args .table .now) (s .pre .3))
+of-nodes-requires c κs = let s = c .before .before in (s .pre .0, nodes-few (s .args .table .now) (s .pre .1))
 
 of-sends-requires : tie.Need-of-sends-requires
 of-sends-requires c κs =
-    let s = c .before .before .before .before .before in
-    (s .pre .1, s .pre .2, sends-few (s .args .table .now) (sumsOf (c .of-nodes .result)) (c .of-nodes .ensures) (s .pre .3))
+    let s = c .before .before .before in
+    (s .pre .0, sends-few (s .args .table .now) (sumsOf (c .of-nodes .result)) (c .of-nodes .ensures) (s .pre .1))
 
 returns : tie.Need-returns
 returns c =
     let n = c .before .of-nodes in
-    let s = c .before .before .before .before .before .before in
+    let s = c .before .before .before .before in
     all-added (s .args .table .now) (sumsOf (n .result)) (sumsOf (c .of-sends .result)) (n .ensures) (c .of-sends .ensures)
 
 pub totals-of-spec : {M : Type 1} → statement M

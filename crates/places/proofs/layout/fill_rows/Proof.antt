@@ -1,24 +1,31 @@
--- `places::layout::fill_rows` meets its contract. Loop: the rows below x stand. Measure: names left.
-use mathlib.Core.Path.{_≡_, refl, sym, ap, subst, _∙_}
-use Prim.Native.Nat.{_+_, _-_, _*_, _≤_}
+-- `places::layout::fill_rows` meets its contract. Loop: the starts of the rows below x are stored. Measure: names left.
+use mathlib.Core.Path.{_≡_, refl, sym, _∙_}
+use mathlib.Core.List.{map}
+use Prim.Native.Nat.{_+_, _-_, _≤_}
 use native.Mathlib.Omega.{arith}
 use borrow.Author.Needs.{needs}
 use lib.ListN.{length, length-set}
-use Rattle.scheme.specs.Words.{names}
-use Rattle.places.specs.Inner.Plan.{rowOf, RowsBelow}
-use Rattle.places.proofs.Names.{row-begins, row-goes-on, rows-end, rows-more}
+use lib.Seq.{sets}
+use Rattle.lists.specs.Lists.{from, range}
+use Rattle.lists.proofs.Stores.{store-more}
+use Rattle.places.specs.Plan.{rowsAt, rowWord, rowWords}
+use Rattle.places.proofs.Controls.{few-privates}
+use Rattle.places.proofs.Plans.{rows-begin, rows-over, row-small, few-names, rest-same}
 use Rattle.places.proofs.layout.fill_rows.Statement.{statement}
 use Rattle.places.proofs.layout.fill_rows.Tie as tie
-use Rattle.places.proofs.layout.row_length.Reads as row-length-reads
-use Rattle.lists.proofs.store32.Reads as store32-reads
-use Rattle.lists.proofs.word16.Reads as word16-reads
 
 abbrev Inv-loop : tie.InvT-loop
-Inv-loop table privates rows₀ publics end at₀ x₀ rows at x =
-    (at ≡ rowOf table x) × (at + 96 * publics ≤ 96 * x) × RowsBelow table rows x × (length rows ≡ length rows₀) × (publics ≤ x) × (x ≤ end)
+Inv-loop table privates index₀ end at₀ x₀ index at x =
+    (at ≡ rowWord table x) × (index ≡ sets index₀ rowsAt (map (rowWord table) (range x))) × (x ≤ end) × (length index ≡ length index₀)
 
 abbrev μ-loop : tie.MeasureT-loop
-μ-loop table privates rows₀ publics end at₀ x₀ rows at x = end - x
+μ-loop table privates index₀ end at₀ x₀ index at x = end - x
+
+-- there are words for all names
+names-few : (c : tie.At-loop Inv-loop μ-loop) → c .before .before .word16 .result + c .before .word162 .result ≤ 64
+names-few c =
+    let s = c .before .before .before .before .before in
+    omega (arith, c .before .before .word16 .ensures .is, c .before .word162 .ensures .is, few-names (s .args .table .now) (s .pre .0 .accepted))
 
 word16-requires : tie.Need-word16-requires Inv-loop μ-loop
 word16-requires c κs = search needs
@@ -30,64 +37,106 @@ add-end : tie.Need-add-end Inv-loop μ-loop
 add-end c = search needs
 
 loop-holds : tie.Need-loop-holds Inv-loop μ-loop
-loop-holds c =
-    let w = c .before .before .before .before .args .table .now in
-    let p = c .before .word16 in
-    (sym (ap (rowOf w) (p .ensures .is) ∙ row-begins w), omega arith, λ k l h. absurd (omega (arith, p .ensures .is)), refl, omega arith, omega arith)
+unfolding from
+loop-holds c = (sym (rows-begin (c .before .before .before .before .args .table .now)), refl, omega arith, refl)
+
+add-store32 : tie.Need-add-store32 Inv-loop μ-loop
+add-store32 c = omega (arith, names-few (c .before .before))
 
 cast-store32 : tie.Need-cast-store32 Inv-loop μ-loop
-cast-store32 c = omega (arith, c .before .before .before .before .before .before .before .pre, c .before .before .before .before .word16 .ensures .is, c .before .before .before .word162 .ensures .is, c .before .before .loop .inv .1)
+cast-store32 c =
+    let c2 = c .before .before in
+    let c7 = c2 .before .before .before .before .before in
+    let l = c2 .loop in omega (arith, l .inv .0, row-small (c7 .args .table .now) (c7 .pre .0 .accepted) (l .x))
 
 store32-requires : tie.Need-store32-requires Inv-loop μ-loop
 store32-requires c κs = search needs
 
 row-length-requires : tie.Need-row-length-requires Inv-loop μ-loop
 row-length-requires c κs =
-    let s = c .before .before .before .before .before .before .before .before .before .before in
-    let e = c .before .before .before .before .before .before .before .word16 .ensures .is in
-    let n = c .before .before .before .before .before .before .word162 .ensures .is in
-    let h = c .before .before .before .before .before .loop .inv in
-    (omega (arith, e, h .4), omega (arith, e, n), s .pre .3, s .pre .4)
+    let c4 = c .before .before .before .before in
+    let s = c4 .before .before .before .before .before .before in (
+      s .pre .1,
+      omega (arith, s .pre .1, few-privates (s .args .table .now) (s .pre .0 .accepted)),
+      omega (arith, c4 .loop-test .taken, names-few (c4 .before)),
+    )
 
 add-at : tie.Need-add-at Inv-loop μ-loop
-add-at c = omega (arith, c .before .before .before .before .before .before .before .before .before .before .before .pre, c .before .before .before .before .before .before .before .before .word16 .ensures .is, c .before .before .before .before .before .before .before .word162 .ensures .is, c .before .before .before .before .before .before .loop .inv .1, c .row-length .ensures .1)
+add-at c =
+    let c6 = c .before .before .before .before .before .before in
+    let c11 = c6 .before .before .before .before .before in
+    let l = c6 .loop in
+    omega (arith, l .inv .0, c .row-length .ensures, row-small (c11 .args .table .now) (c11 .pre .0 .accepted) (l .x + 1))
 
 add-x : tie.Need-add-x Inv-loop μ-loop
-add-x c = omega (arith, c .before .before .before .before .before .before .before .before .before .before .before .pre, c .before .before .before .before .before .before .before .before .word16 .ensures .is, c .before .before .before .before .before .before .before .word162 .ensures .is)
+add-x c = search needs
 
 loop-less : tie.Need-loop-less Inv-loop μ-loop
 loop-less c = omega arith
 
 loop-again : tie.Need-loop-again Inv-loop μ-loop
 loop-again c =
-    let a = c .before .before .before .before .before .before .before .before .before .before .before .args in
-    let w = a .table .now in
-    let p = c .before .before .before .before .before .before .before .before .before .before .before .pre in
-    let l = c .before .before .before .before .before .before .loop in
-    let h = l .inv in
-    let s = c .before .before .before .store32 in
-    let e = c .before .before .before .before .before .before .before .before .word16 .ensures .is in
-    let n = c .before .before .before .before .before .before .before .word162 .ensures .is in
-    let r = c .row-length .ensures in (
-      omega (arith, h .0, r .0, row-goes-on w (l .x) (omega (arith, e, h .4))),
-      omega (arith, h .1, r .1, p, e, n),
-      rw (s .ensures) (rows-more w (l .rows) (l .x) (l .at) (omega (arith, p, e, n, h .3)) (h .0) (h .2)),
-      rw (s .ensures) (length-set (l .rows) (l .x) (l .at) ∙ h .3),
-      omega (arith, h .4),
-      omega arith,
+    let c3 = c .before .before .before in
+    let c5 = c3 .before .before in
+    let c6 = c5 .before in
+    let c11 = c6 .before .before .before .before .before in
+    let w = c11 .args .table .now in
+    let l = c6 .loop in
+    let u = c3 .store32 .ensures in (
+      omega (arith, l .inv .0, c .row-length .ensures),
+      u ∙ store-more (rowWord w) (c11 .args .index .now) 832 (l .x) (l .index) (l .inv .1) (l .at) (l .inv .0),
+      omega (arith, c5 .loop-test .taken),
+      rw u (simp length-set (l .inv .3)),
     )
 
+add-repeat : tie.Need-add-repeat Inv-loop μ-loop
+add-repeat c = search needs
+
+mul-repeat : tie.Need-mul-repeat Inv-loop μ-loop
+mul-repeat c = search needs
+
+sub-repeat : tie.Need-sub-repeat Inv-loop μ-loop
+sub-repeat c = omega (arith, names-few (c .before))
+
+part-repeat-start : tie.Need-part-repeat-start Inv-loop μ-loop
+part-repeat-start c = omega (arith, names-few (c .before))
+
+part-repeat-end : tie.Need-part-repeat-end Inv-loop μ-loop
+part-repeat-end c =
+    let l = c .before .loop in
+    omega (arith, l .inv .3, c .before .before .before .before .before .before .pre .2)
+
+cast-repeat : tie.Need-cast-repeat Inv-loop μ-loop
+cast-repeat c =
+    let c2 = c .before .before in
+    let s = c2 .before .before .before .before .before in
+    let l = c2 .loop in omega (arith, l .inv .0, row-small (s .args .table .now) (s .pre .0 .accepted) (l .x))
+
+repeat-requires : tie.Need-repeat-requires Inv-loop μ-loop
+repeat-requires c κs = search needs
+
 same-length : tie.Need-same-length Inv-loop μ-loop
-same-length c = c .before .loop .inv .3
+same-length c = search needs
 
 returns : tie.Need-returns Inv-loop μ-loop
+unfolding rowWords
 returns c =
-    let w = c .before .before .before .before .before .before .args .table .now in
-    let h = c .before .loop .inv in
-    let e = c .before .before .before .word16 .ensures .is in
-    let n = c .before .before .word162 .ensures .is in
-    let q : c .before .loop .x ≡ names w = omega (arith, h .5, e, n, c .loop-test .left) in
-    (h .0 ∙ ap (rowOf w) q ∙ sym (rows-end w), omega (arith, h .1, h .5, c .before .before .before .before .before .before .pre, e, n), subst (RowsBelow w (c .before .loop .rows)) q (h .2))
+    let c5 = c .before .before .before .before .before in
+    let s = c5 .before .before .before .before .before in
+    let w = s .args .table .now in
+    let h = s .pre .0 .accepted in
+    let l = c5 .loop in
+    let n = c5 .before .before .word16 .result + c5 .before .word162 .result in
+    let i = c5 .before .before .word16 .ensures .is in
+    let j = c5 .before .word162 .ensures .is in
+    let few = names-few c5 in
+    let e : l .x ≡ n = omega (arith, l .inv .2, c .before .before .before .before .loop-test .left) in
+    let q : n + (896 - (832 + n)) ≡ 64 = omega (arith, few) in
+    let o = l .inv .0 ∙ rows-over w h (l .x) (omega (arith, i, j, e)) in (
+      o,
+      rest-same (rowWord w) (s .args .index .now) 832 n (896 - (832 + n)) (l .at) (λ y u. rows-over w h y (omega (arith, i, j)) ∙ sym o)
+          (omega (arith, few, s .pre .2)) (l .index) _ (rw (← e) (l .inv .1)) (c .before .before .repeat .ensures) ∙ rw q,
+    )
 
 pub fill-rows-spec : {M : Type 1} → statement M
 fill-rows-spec =
@@ -99,6 +148,7 @@ fill-rows-spec =
     word16-requires-2
     add-end
     loop-holds
+    add-store32
     cast-store32
     store32-requires
     row-length-requires
@@ -106,5 +156,12 @@ fill-rows-spec =
     add-x
     loop-less
     loop-again
+    add-repeat
+    mul-repeat
+    sub-repeat
+    part-repeat-start
+    part-repeat-end
+    cast-repeat
+    repeat-requires
     same-length
     returns)

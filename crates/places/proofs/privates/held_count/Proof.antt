@@ -36,9 +36,9 @@ add-result-2 c = search needs
 
 returns : tie.Need-returns
 returns c =
-    let s = c .before .before .before .before .before .before .before .before .before .before .before in
+    let s = c .before .before .before .before .before .before .before .before .before .before in
     let a = s .args in
-    receive-holds (a .table .now) (a .owners .now) (a .homes .now) (s .pre .0) (a .node) (s .pre .1) _
+    receive-holds (a .table .now) (a .index .now) (s .pre .0) (a .node) (s .pre .1) _
     (c .before .before .before .before .before .before .step-up .ensures) (a .below .now) (s .pre .2)
     _ _ _ _ (c .before .before .before .before .b .given .1) (c .before .field42 .ensures .is) (c .if1 .taken) (c .before .before .word322 .ensures .is)
 
@@ -47,31 +47,31 @@ enum-told c = search needs
 
 returns-2 : tie.Need-returns-2
 returns-2 c =
-    let s = c .before .before .before .before .before .before .before .before .before in
+    let s = c .before .before .before .before .before .before .before .before in
     let a = s .args in
-    root-holds (a .table .now) (a .owners .now) (a .homes .now) (s .pre .0) (a .node) (s .pre .1) _
+    root-holds (a .table .now) (a .index .now) (s .pre .0) (a .node) (s .pre .1) _
     (c .before .before .before .before .step-up .ensures) (a .below .now) (s .pre .2) _ _ (c .before .before .d .given .1) (c .field4 .ensures .is)
 
 returns-3 : tie.Need-returns-3
 returns-3 c =
-    let s = c .before .before .before .before .before .before .before .before .before in
+    let s = c .before .before .before .before .before .before .before .before in
     let a = s .args in
-    new-holds (a .table .now) (a .owners .now) (a .homes .now) (s .pre .0) (a .node) (s .pre .1) _
+    new-holds (a .table .now) (a .index .now) (s .pre .0) (a .node) (s .pre .1) _
     (c .before .before .before .before .step-up .ensures) (a .below .now) (s .pre .2) _ _ (c .before .before .m .given .1) (c .word32 .ensures .is)
 
 returns-4 : tie.Need-returns-4
 returns-4 c =
-    let s = c .before .before .before .before .before .before .before .before .before .before .before in
+    let s = c .before .before .before .before .before .before .before .before .before .before in
     let a = s .args in
-    branch-holds (a .table .now) (a .owners .now) (a .homes .now) (s .pre .0) (a .node) (s .pre .1) _
+    branch-holds (a .table .now) (a .index .now) (s .pre .0) (a .node) (s .pre .1) _
     (c .before .before .before .before .before .before .step-up .ensures) (a .below .now) (s .pre .2)
     _ _ _ _ (c .before .before .before .before .b .given .1) (c .before .field42 .ensures .is) (c .if1 .left) (c .before .before .word322 .ensures .is)
 
 returns-5 : tie.Need-returns-5
 returns-5 c =
-    let s = c .before .before .before .before .before .before .before in
+    let s = c .before .before .before .before .before .before in
     let a = s .args in
-    nobody-holds (a .table .now) (a .owners .now) (a .homes .now) (s .pre .0) (a .node) (s .pre .1) _
+    nobody-holds (a .table .now) (a .index .now) (s .pre .0) (a .node) (s .pre .1) _
     (c .before .before .step-up .ensures) (a .below .now) (s .pre .2) (c .enum-told .given .1)
 
 pub held-count-spec : {M : Type 1} → statement M

@@ -4,10 +4,6 @@ use borrow.Author.Needs.{needs}
 use Rattle.places.proofs.Holding.{privates-small, none-restricted, some-restricted, accepted-threads}
 use Rattle.places.proofs.privates.private_values.Statement.{statement}
 use Rattle.places.proofs.privates.private_values.Tie as tie
-use Rattle.lists.proofs.word16.Reads as word16-reads
-use Rattle.places.proofs.layout.free_names.Reads as free-names-reads
-use Rattle.places.proofs.privates.raise_all.Reads as raise-all-reads
-use Rattle.places.proofs.privates.sum.Reads as sum-reads
 
 free-names-requires : tie.Need-free-names-requires
 free-names-requires c κs = search needs
@@ -18,9 +14,9 @@ word16-requires c κs = search needs
 returns : tie.Need-returns
 returns c =
     let f = c .before .before .free-names in
-    let s = c .before .before .before .before .before .before .before in
+    let s = c .before .before .before .before .before in
     let w = s .args .table .now in
-    let h = s .pre .0 .accepted in
+    let h = s .pre .accepted in
     privates-small w h 0 (none-restricted w h (f .result) (c .before .word16 .result) (f .ensures .0) (c .before .word16 .ensures .is) (c .if1 .taken))
 
 slice-aggregate-raise-all : tie.Need-slice-aggregate-raise-all
@@ -40,19 +36,19 @@ word16-requires-2 c κs = search needs
 
 sum-requires : tie.Need-sum-requires
 sum-requires c κs =
-    let s = c .before .before .before .before .before .before .before .before .before .before .before .before .before .before in
-    omega (arith, accepted-threads (s .args .table .now) (s .pre .0 .accepted), c .word162 .ensures .is)
+    let s = c .before .before .before .before .before .before .before .before .before .before .before .before in
+    omega (arith, accepted-threads (s .args .table .now) (s .pre .accepted), c .word162 .ensures .is)
 
 returns-2 : tie.Need-returns-2
 returns-2 c =
     let c5 = c .before .before .before .before .before in
     let c9 = c5 .before .before .before .before in
     let f = c9 .before .free-names in
-    let s = c9 .before .before .before .before .before .before in
+    let s = c9 .before .before .before .before in
     let w = s .args .table .now in
-    let h = s .pre .0 .accepted in
+    let h = s .pre .accepted in
     privates-small w h (c .sum .result)
-    (some-restricted w h (f .result) (c9 .word16 .result) (c .before .word162 .result) (c .sum .result) (c5 .raise-all .last .1 .1 .1 .1 .1 .0)
+    (some-restricted w h (f .result) (c9 .word16 .result) (c .before .word162 .result) (c .sum .result) (c5 .raise-all .last .1 .1 .1 .0)
     (f .ensures .0) (c9 .word16 .ensures .is)
     (c5 .before .before .before .if1 .left) (c .before .word162 .ensures .is) (c5 .raise-all .ensures) (c .sum .ensures))
 

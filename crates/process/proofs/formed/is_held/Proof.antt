@@ -8,8 +8,8 @@ use Rattle.process.proofs.formed.is_held.Tie as tie
 
 name-thread-requires : tie.Need-name-thread-requires
 name-thread-requires c κs =
-    let c6 = c .before .before .before .before .before .before in
-    c6 .pre .bound
+    let c3 = c .before .before .before in
+    c3 .pre
 
 word16-requires : tie.Need-word16-requires
 word16-requires c κs = search needs

@@ -1,8 +1,6 @@
 -- `process::formed::name_right` meets its contract.
 -- `cN` is the place N steps before `c`.
-use mathlib.Core.Path.{_≡_, refl, sym, ap, _∙_}
-use native.Mathlib.Omega.{arith}
-use borrow.Author.Tests.{lt-ltb, le-ltb, lt-leb, le-leb, eq-eqb, ne-eqb, not-true, not-false}
+use borrow.Author.Tests.{not-true, not-false}
 use Rattle.process.specs.StateWords.{stateOf}
 use Rattle.scheme.specs.Scheme.{scheme}
 use Rattle.process.proofs.Forming.{name-missing, name-strange, name-there}
@@ -20,8 +18,8 @@ returns : tie.Need-returns
 returns c =
     let c1 = c .before in
     let c2 = c1 .before in
-    let c9 = c2 .before .before .before .before .before .before .before in
-    name-missing (scheme (c9 .args .table .now)) (stateOf (scheme (c9 .args .table .now)) (c9 .args .state .now)) (c9 .args .name)
+    let c6 = c2 .before .before .before .before in
+    name-missing (scheme (c6 .args .table .now)) (stateOf (scheme (c6 .args .table .now)) (c6 .args .state .now)) (c6 .args .name)
     (c2 .value-of .result) (c1 .is-held .result) (c2 .value-of .ensures .is) (c1 .is-held .ensures) (c .if1 .taken)
 
 returns-2 : tie.Need-returns-2
@@ -29,8 +27,8 @@ returns-2 c =
     let c1 = c .before in
     let c2 = c1 .before in
     let c3 = c2 .before in
-    let c10 = c3 .before .before .before .before .before .before .before in
-    name-strange (scheme (c10 .args .table .now)) (stateOf (scheme (c10 .args .table .now)) (c10 .args .state .now)) (c10 .args .name)
+    let c7 = c3 .before .before .before .before in
+    name-strange (scheme (c7 .args .table .now)) (stateOf (scheme (c7 .args .table .now)) (c7 .args .state .now)) (c7 .args .name)
     (c3 .value-of .result) (c2 .is-held .result) (c3 .value-of .ensures .is) (c2 .is-held .ensures) (c1 .if1 .left) (not-true _ (c .if2 .taken))
 
 word16-requires : tie.Need-word16-requires
@@ -50,9 +48,9 @@ returns-3 c =
     let c3 = c2 .before in
     let c4 = c3 .before in
     let c5 = c4 .before in
-    let c12 = c5 .before .before .before .before .before .before .before in
+    let c9 = c5 .before .before .before .before in
     rw (c1 .word16 .ensures .is, c .word162 .ensures .is)
-    (name-there (scheme (c12 .args .table .now)) (stateOf (scheme (c12 .args .table .now)) (c12 .args .state .now)) (c12 .args .name)
+    (name-there (scheme (c9 .args .table .now)) (stateOf (scheme (c9 .args .table .now)) (c9 .args .state .now)) (c9 .args .name)
     (c5 .value-of .result) (c4 .is-held .result) (c5 .value-of .ensures .is) (c4 .is-held .ensures) (c3 .if1 .left) (not-false _ (c2 .if2 .left)))
 
 pub name-right-spec : {M : Type 1} → statement M

@@ -1,27 +1,26 @@
 -- `process::formed::names_right` meets its contract. Loop: what is left decides. Measure: what is left.
 -- `cN` is the place N steps before `c`.
-use mathlib.Core.Path.{_≡_, refl, sym, ap, _∙_}
-use Prim.Native.Nat.{ℕ, suc, _+_, _-_, _*_, _≤_, _<_}
+use mathlib.Core.Path.{_≡_, sym, _∙_}
+use Prim.Native.Nat.{_-_}
 use native.Mathlib.Omega.{arith}
-use borrow.Author.Tests.{lt-ltb, le-ltb, lt-leb, le-leb, eq-eqb, ne-eqb, not-true, not-false}
-use Rattle.lists.specs.Lists.{same, from, range, every}
+use borrow.Author.Tests.{not-true, not-false}
+use Rattle.lists.specs.Lists.{from, every}
 use Rattle.lists.proofs.Ranges.{every-more, every-stop, every-done}
 use Rattle.table.proofs.Parts.{from-to}
-use native.Mathlib.Nat.{sub-zero}
 use Rattle.scheme.specs.Scheme.{scheme}
-use Rattle.scheme.specs.Words.{publics, bounds, threads as threadCount}
+use Rattle.scheme.specs.Words.{publics, bounds}
 use Rattle.process.specs.StateWords.{stateOf, nameRight}
 use borrow.Author.Needs.{needs}
 use Rattle.process.proofs.formed.names_right.Statement.{statement}
 use Rattle.process.proofs.formed.names_right.Tie as tie
 
 abbrev Inv-loop : tie.InvT-loop
-Inv-loop table owners homes definitions binders state first end x₀ x =
+Inv-loop table index state first end x₀ x =
     every (nameRight (scheme table) (stateOf (scheme table) state)) (from (publics table) (bounds table))
     ≡ every (nameRight (scheme table) (stateOf (scheme table) state)) (from x (end - x))
 
 abbrev μ-loop : tie.MeasureT-loop
-μ-loop table owners homes definitions binders state first end x₀ x = end - x
+μ-loop table index state first end x₀ x = end - x
 
 word16-requires : tie.Need-word16-requires Inv-loop μ-loop
 word16-requires c κs = search needs

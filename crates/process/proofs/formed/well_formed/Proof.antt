@@ -1,8 +1,7 @@
 -- `process::formed::well_formed` meets its contract: the first test that fails decides.
 -- `cN` is the place N steps before `c`.
-use mathlib.Core.Path.{_≡_, refl, sym, ap, _∙_}
-use native.Mathlib.Omega.{arith}
-use borrow.Author.Tests.{lt-ltb, le-ltb, lt-leb, le-leb, eq-eqb, ne-eqb, not-true, not-false}
+use mathlib.Core.Path.{sym, _∙_}
+use borrow.Author.Tests.{not-true, not-false}
 use lib.ListN.{length}
 use Prim.Native.Nat.{_+_}
 use Rattle.lists.specs.Lists.{word}
@@ -28,12 +27,12 @@ unfolding wellFormed scheme
 returns c =
     let c1 = c .before in
     let c2 = c1 .before in
-    let c9 = c2 .before .before .before .before .before .before .before in
-    rw (same-no (length (c9 .args .state .now)) (word (c9 .args .table .now) 3 + word (c9 .args .table .now) 1)
+    let c6 = c2 .before .before .before .before in
+    rw (same-no (length (c6 .args .state .now)) (word (c6 .args .table .now) 3 + word (c6 .args .table .now) 1)
     (λ e. c .if1 .taken (e ∙ rw (c2 .word16 .ensures .is, c1 .word162 .ensures .is))))
 
 nodes-right-requires : tie.Need-nodes-right-requires
-nodes-right-requires c κs = c .before .before .before .before .before .before .before .before .before .pre .bound .indexed
+nodes-right-requires c κs = c .before .before .before .before .before .before .pre
 
 returns-2 : tie.Need-returns-2
 unfolding wellFormed scheme
@@ -42,9 +41,9 @@ returns-2 c =
     let c2 = c1 .before in
     let c3 = c2 .before in
     let c4 = c3 .before in
-    let c11 = c4 .before .before .before .before .before .before .before in
+    let c8 = c4 .before .before .before .before in
     rw (
-      same-yes (length (c11 .args .state .now)) (word (c11 .args .table .now) 3 + word (c11 .args .table .now) 1)
+      same-yes (length (c8 .args .state .now)) (word (c8 .args .table .now) 3 + word (c8 .args .table .now) 1)
           (c2 .if1 .left ∙ rw (c4 .word16 .ensures .is, c3 .word162 .ensures .is)),
       sym (c1 .nodes-right .ensures) ∙ not-true _ (c .if2 .taken),
     )
@@ -61,9 +60,9 @@ returns-3 c =
     let c4 = c3 .before in
     let c5 = c4 .before in
     let c6 = c5 .before in
-    let c13 = c6 .before .before .before .before .before .before .before in
+    let c10 = c6 .before .before .before .before in
     rw (
-      same-yes (length (c13 .args .state .now)) (word (c13 .args .table .now) 3 + word (c13 .args .table .now) 1)
+      same-yes (length (c10 .args .state .now)) (word (c10 .args .table .now) 3 + word (c10 .args .table .now) 1)
           (c4 .if1 .left ∙ rw (c6 .word16 .ensures .is, c5 .word162 .ensures .is)),
       sym (c3 .nodes-right .ensures) ∙ not-false _ (c2 .if2 .left),
       sym (c1 .names-right .ensures) ∙ not-true _ (c .if3 .taken),
@@ -75,11 +74,11 @@ is-numbered-requires c κs =
     let c4 = c .before .before .before .before in
     let c5 = c4 .before in
     let c6 = c5 .before in
-    let c13 = c6 .before .before .before .before .before .before .before in
+    let c10 = c6 .before .before .before .before in
     record {
       size = c4 .if1 .left ∙ rw (c6 .word16 .ensures .is, c5 .word162 .ensures .is);
-      few-publics = accepted _ (c13 .pre .bound .indexed .ok) .few-publics;
-      few-bounds = accepted _ (c13 .pre .bound .indexed .ok) .few-bounds;
+      few-publics = accepted _ (c10 .pre .accepted) .few-publics;
+      few-bounds = accepted _ (c10 .pre .accepted) .few-bounds;
     }
 
 returns-4 : tie.Need-returns-4
@@ -93,9 +92,9 @@ returns-4 c =
     let c6 = c5 .before in
     let c7 = c6 .before in
     let c8 = c7 .before in
-    let c15 = c8 .before .before .before .before .before .before .before in
+    let c12 = c8 .before .before .before .before in
     rw (
-      same-yes (length (c15 .args .state .now)) (word (c15 .args .table .now) 3 + word (c15 .args .table .now) 1)
+      same-yes (length (c12 .args .state .now)) (word (c12 .args .table .now) 3 + word (c12 .args .table .now) 1)
           (c6 .if1 .left ∙ rw (c8 .word16 .ensures .is, c7 .word162 .ensures .is)),
       sym (c5 .nodes-right .ensures) ∙ not-false _ (c4 .if2 .left),
       sym (c3 .names-right .ensures) ∙ not-false _ (c2 .if3 .left),
@@ -117,9 +116,9 @@ returns-5 c =
     let c7 = c6 .before in
     let c8 = c7 .before in
     let c9 = c8 .before in
-    let c16 = c9 .before .before .before .before .before .before .before in
+    let c13 = c9 .before .before .before .before in
     rw (
-      same-yes (length (c16 .args .state .now)) (word (c16 .args .table .now) 3 + word (c16 .args .table .now) 1)
+      same-yes (length (c13 .args .state .now)) (word (c13 .args .table .now) 3 + word (c13 .args .table .now) 1)
           (c7 .if1 .left ∙ rw (c9 .word16 .ensures .is, c8 .word162 .ensures .is)),
       sym (c6 .nodes-right .ensures) ∙ not-false _ (c5 .if2 .left),
       sym (c4 .names-right .ensures) ∙ not-false _ (c3 .if3 .left),

@@ -14,8 +14,8 @@ branch-is-requires c κs = search needs
 returns : tie.Need-returns
 returns c =
     let c1 = c .before in
-    let c5 = c1 .before .before .before .before in
-    let a = c5 .args in
+    let c4 = c1 .before .before .before in
+    let a = c4 .args in
     rw (send-there (a .table .now) (a .send) ∙ sym (c1 .branch-is .ensures) ∙ not-true _ (c .if1 .taken))
 
 branch-is-requires-2 : tie.Need-branch-is-requires-2
@@ -26,8 +26,8 @@ returns-2 c =
     let c1 = c .before in
     let c2 = c1 .before in
     let c3 = c2 .before in
-    let c7 = c3 .before .before .before .before in
-    let a = c7 .args in
+    let c6 = c3 .before .before .before in
+    let a = c6 .args in
     rw (
       send-there (a .table .now) (a .send) ∙ sym (c3 .branch-is .ensures) ∙ not-false _ (c2 .if1 .left),
       receive-there (a .table .now) (a .receive) ∙ sym (c1 .branch-is2 .ensures) ∙ not-true _ (c .if2 .taken),
@@ -47,8 +47,8 @@ returns-3 c =
     let c3 = c2 .before in
     let c4 = c3 .before in
     let c5 = c4 .before in
-    let c9 = c5 .before .before .before .before in
-    let a = c9 .args in
+    let c8 = c5 .before .before .before in
+    let a = c8 .args in
     rw (
       send-there (a .table .now) (a .send) ∙ sym (c5 .branch-is .ensures) ∙ not-false _ (c4 .if1 .left),
       receive-there (a .table .now) (a .receive) ∙ sym (c3 .branch-is2 .ensures) ∙ not-false _ (c2 .if2 .left),

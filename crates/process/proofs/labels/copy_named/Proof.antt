@@ -55,8 +55,7 @@ returns-3 c =
 returns-4 : tie.Need-returns-4
 returns-4 c =
     let c1 = c .before in
-    let c2 = c1 .before in
-    let c3 = c2 .before in
+    let c3 = c1 .before .before in
     let c4 = c3 .before in
     let c5 = c4 .before in
     let c6 = c5 .before in

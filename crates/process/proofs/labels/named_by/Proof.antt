@@ -52,8 +52,8 @@ returns-6 c = rw (c .before .match .keys6) (c .call-named .ensures)
 returns-7 : tie.Need-returns-7
 unfolding meaningOf stepOf
 returns-7 c =
-    let c5 = c .before .before .before .before .before in
-    let k = c5 .args .kind in
+    let c3 = c .before .before .before in
+    let k = c3 .args .kind in
     rw (
       same-no k 0 (λ e. omega arith),
       same-no k 1 (λ e. omega arith),

@@ -12,8 +12,8 @@ node-is-requires c κs = search needs
 returns : tie.Need-returns
 returns c =
     let c1 = c .before in
-    let c5 = c1 .before .before .before .before in
-    no-release-choice (c5 .args .table .now) _ _ (sym (c1 .node-is .ensures) ∙ c .if1 .taken)
+    let c4 = c1 .before .before .before in
+    no-release-choice (c4 .args .table .now) _ _ (sym (c1 .node-is .ensures) ∙ c .if1 .taken)
 
 node-is-requires-2 : tie.Need-node-is-requires-2
 node-is-requires-2 c κs = search needs
@@ -21,8 +21,8 @@ node-is-requires-2 c κs = search needs
 returns-2 : tie.Need-returns-2
 returns-2 c =
     let c1 = c .before in
-    let c7 = c1 .before .before .before .before .before .before in
-    no-release-new (c7 .args .table .now) _ _ (sym (c1 .node-is2 .ensures) ∙ c .if2 .taken)
+    let c6 = c1 .before .before .before .before .before in
+    no-release-new (c6 .args .table .now) _ _ (sym (c1 .node-is2 .ensures) ∙ c .if2 .taken)
 
 holds-requires : tie.Need-holds-requires
 holds-requires c κs = search needs
@@ -34,8 +34,8 @@ returns-3 c =
     let c3 = c2 .before in
     let c4 = c3 .before in
     let c5 = c4 .before in
-    let c9 = c5 .before .before .before .before in
-    let a = c9 .args in
+    let c8 = c5 .before .before .before in
+    let a = c8 .args in
     rw (
       ← release-held (a .table .now) (a .node) (a .name) (sym (c5 .node-is .ensures) ∙ c4 .if1 .left) (sym (c3 .node-is2 .ensures) ∙ c2 .if2 .left),
       sym (c1 .holds .ensures) ∙ c .if3 .taken,
@@ -48,8 +48,8 @@ returns-4 c =
     let c3 = c2 .before in
     let c4 = c3 .before in
     let c5 = c4 .before in
-    let c9 = c5 .before .before .before .before in
-    let a = c9 .args in
+    let c8 = c5 .before .before .before in
+    let a = c8 .args in
     rw (
       ← release-held (a .table .now) (a .node) (a .name) (sym (c5 .node-is .ensures) ∙ c4 .if1 .left) (sym (c3 .node-is2 .ensures) ∙ c2 .if2 .left),
       sym (c1 .holds .ensures) ∙ c .if3 .left,

@@ -4,7 +4,6 @@ use mathlib.Core.Path.{sym, _∙_}
 use borrow.Author.Tests.{not-true, not-false}
 use Rattle.scheme.specs.Scheme.{scheme}
 use Rattle.process.specs.StateWords.{stateOf}
-use Rattle.process.proofs.Decoding.{home-same}
 use Rattle.process.proofs.Labelling.{stand-there}
 use Rattle.process.proofs.Listed.{none-listed, one-listed, standing-other, standing-away, standing-there}
 use borrow.Author.Needs.{needs}
@@ -17,15 +16,15 @@ branch-is-requires c κs = search needs
 returns : tie.Need-returns
 returns c =
     let c1 = c .before in
-    let c7 = c1 .before .before .before .before .before .before in
-    let a = c7 .args in
+    let c6 = c1 .before .before .before .before .before in
+    let a = c6 .args in
     let w = a .table .now in
     let s = stateOf (scheme w) (a .state .now) in
     rw (standing-other w s (a .kind) (a .branch) (sym (c1 .branch-is .ensures) ∙ not-true _ (c .if1 .taken)))
     (none-listed _ _ _)
 
-word32-requires : tie.Need-word32-requires
-word32-requires c κs = search needs
+home-requires : tie.Need-home-requires
+home-requires c κs = search needs
 
 stands-requires : tie.Need-stands-requires
 stands-requires c κs = search needs
@@ -34,11 +33,11 @@ returns-2 : tie.Need-returns-2
 returns-2 c =
     let c1 = c .before in
     let c2 = c1 .before in
-    let c10 = c2 .before .before .before .before .before .before .before .before in
-    let a = c10 .args in
+    let c9 = c2 .before .before .before .before .before .before .before in
+    let a = c9 .args in
     let w = a .table .now in
     let s = stateOf (scheme w) (a .state .now) in
-    let h = stand-there (scheme w) s _ _ _ (c2 .word32 .ensures .is ∙ home-same _ _ _ (c10 .pre .0) (a .branch)) (c1 .stands .ensures) in
+    let h = stand-there (scheme w) s _ _ _ (c2 .home .ensures) (c1 .stands .ensures) in
     rw (standing-away w s (a .kind) (a .branch) (sym h ∙ not-true _ (c .if2 .taken)))
     (none-listed _ _ _)
 
@@ -62,11 +61,11 @@ returns-3 c =
     let c6 = c5 .before in
     let c7 = c6 .before in
     let c8 = c7 .before in
-    let c14 = c8 .before .before .before .before .before .before in
-    let a = c14 .args in
+    let c13 = c8 .before .before .before .before .before in
+    let a = c13 .args in
     let w = a .table .now in
     let s = stateOf (scheme w) (a .state .now) in
-    let h = stand-there (scheme w) s _ _ _ (c6 .word32 .ensures .is ∙ home-same _ _ _ (c14 .pre .0) (a .branch)) (c5 .stands .ensures) in
+    let h = stand-there (scheme w) s _ _ _ (c6 .home .ensures) (c5 .stands .ensures) in
     rw (standing-there w s (a .kind) (a .branch) (sym (c8 .branch-is .ensures) ∙ not-false _ (c7 .if1 .left))
     (sym h ∙ not-false _ (c4 .if2 .left)))
     (one-listed _ _ _ _ (c2 .store32 .ensures))
@@ -77,7 +76,7 @@ gather-branch-spec =
     (tie.spec
     branch-is-requires
     returns
-    word32-requires
+    home-requires
     stands-requires
     returns-2
     cast-store32

@@ -22,8 +22,8 @@ returns c =
     let c2 = c .before .before in
     let c4 = c2 .before .before in
     let c5 = c4 .before in
-    let c11 = c5 .before .before .before .before .before .before in
-    let a = c11 .args in
+    let c10 = c5 .before .before .before .before .before in
+    let a = c10 .args in
     let w = a .table .now in
     let s = stateOf (scheme w) (a .state .now) in
     rw (node-yes (scheme w) s (a .node) (sym (c5 .stands .ensures) ∙ c4 .if1 .taken))
@@ -32,8 +32,8 @@ returns c =
 returns-2 : tie.Need-returns-2
 returns-2 c =
     let c1 = c .before in
-    let c7 = c1 .before .before .before .before .before .before in
-    let a = c7 .args in
+    let c6 = c1 .before .before .before .before .before in
+    let a = c6 .args in
     let w = a .table .now in
     let s = stateOf (scheme w) (a .state .now) in
     rw (node-no (scheme w) s (a .node) (sym (c1 .stands .ensures) ∙ c .if1 .left))

@@ -15,13 +15,13 @@ use Rattle.process.proofs.listing.list_nodes.Statement.{statement}
 use Rattle.process.proofs.listing.list_nodes.Tie as tie
 
 abbrev Inv-loop : tie.InvT-loop
-Inv-loop table homes definitions state out₀ nodes n₀ next₀ out n next =
+Inv-loop table index state out₀ nodes n₀ next₀ out n next =
     Left (flat (nodeWords (scheme table) (stateOf (scheme table) state)) (range (nodeCount table))) out₀ 0
     (flat (nodeWords (scheme table) (stateOf (scheme table) state)) (from n (nodes - n))) out next ×
     (next ≤ 196608 * n) × (n ≤ nodes)
 
 abbrev μ-loop : tie.MeasureT-loop
-μ-loop table homes definitions state out₀ nodes n₀ next₀ out n next = nodes - n
+μ-loop table index state out₀ nodes n₀ next₀ out n next = nodes - n
 
 word16-requires : tie.Need-word16-requires Inv-loop μ-loop
 word16-requires c κs = search needs
@@ -34,9 +34,9 @@ list-node-requires c κs =
     let c1 = c .before in
     let c2 = c1 .before in
     let c3 = c2 .before in
-    let c9 = c3 .before .before .before .before .before .before in
+    let c8 = c3 .before .before .before .before .before in
     let u = c3 .word16 .ensures .small in
-    (c9 .pre, omega (arith, u, c1 .loop-test .taken), omega (arith, u, c2 .loop .inv .1, c2 .loop .inv .2))
+    (c8 .pre, omega (arith, u, c1 .loop-test .taken), omega (arith, u, c2 .loop .inv .1, c2 .loop .inv .2))
 
 add-n : tie.Need-add-n Inv-loop μ-loop
 add-n c = omega arith
@@ -49,9 +49,9 @@ loop-again c =
     let c2 = c .before .before in
     let c4 = c2 .before .before in
     let c5 = c4 .before in
-    let c12 = c5 .before .before .before .before .before .before .before in
+    let c11 = c5 .before .before .before .before .before .before in
     let l = c5 .loop in
-    let a = c12 .args in
+    let a = c11 .args in
     let w = a .table .now in
     let s = stateOf (scheme w) (a .state .now) in
     let r = c2 .list-node in (
@@ -68,9 +68,9 @@ returns : tie.Need-returns Inv-loop μ-loop
 returns c =
     let c1 = c .before in
     let c2 = c1 .before in
-    let c8 = c2 .before .before .before .before .before .before in
+    let c7 = c2 .before .before .before .before .before in
     let l = c1 .loop in
-    let a = c8 .args in
+    let a = c7 .args in
     let w = a .table .now in
     let s = stateOf (scheme w) (a .state .now) in
     left-end _ _ _ _ _ _ (l .inv .0) _

@@ -1,6 +1,5 @@
 -- `process::next::node_after` meets its contract.
-use mathlib.Core.Path.{_≡_, refl, sym, ap, _∙_}
-use native.Mathlib.Omega.{arith}
+-- `cN` is the place N steps before `c`.
 use Rattle.process.proofs.Taking.{new-goes, silent-goes, meeting-goes, call-goes}
 use borrow.Author.Needs.{needs}
 use Rattle.process.proofs.next.node_after.Statement.{statement}
@@ -70,16 +69,49 @@ node-if-requires-5 : tie.Need-node-if-requires-5
 node-if-requires-5 c κs = search needs
 
 returns : tie.Need-returns
-returns c = rw (c .before .before .before .before .step .given .1) (new-goes _ _ _ _ _ _ _ _ _ _ (c .before .before .node-thread .ensures .is) (c .before .before .before .before .before .before .word16 .ensures .is) (rw (c .before .before .before .before .step .given .1) at (c .before .before .before .before .before .before .before .before .before .before .before .pre)) (c .before .field3 .ensures .is) (c .node-if .ensures))
+returns c =
+    let c1 = c .before in
+    let c2 = c1 .before in
+    let c4 = c2 .before .before in
+    let c6 = c4 .before .before in
+    let c10 = c6 .before .before .before .before in
+    rw (c4 .step .given .1) (new-goes _ _ _ _ _ _ _ _ _ (c2 .node-thread .ensures .is) (c6 .word16 .ensures .is)
+    (rw (c4 .step .given .1) at (c10 .pre)) (c1 .field3 .ensures .is) (c .node-if .ensures))
 
 returns-2 : tie.Need-returns-2
-returns-2 c = rw (c .before .before .before .before .step2 .given .1) (silent-goes _ _ _ _ _ _ _ _ _ _ (c .before .before .branch-thread .ensures .is) (c .before .before .before .before .before .before .word16 .ensures .is) (rw (c .before .before .before .before .step2 .given .1) at (c .before .before .before .before .before .before .before .before .before .before .before .pre)) (c .before .field4 .ensures .is) (c .node-if2 .ensures))
+returns-2 c =
+    let c1 = c .before in
+    let c2 = c1 .before in
+    let c4 = c2 .before .before in
+    let c6 = c4 .before .before in
+    let c10 = c6 .before .before .before .before in
+    rw (c4 .step2 .given .1) (silent-goes _ _ _ _ _ _ _ _ _ (c2 .branch-thread .ensures .is) (c6 .word16 .ensures .is)
+    (rw (c4 .step2 .given .1) at (c10 .pre)) (c1 .field4 .ensures .is) (c .node-if2 .ensures))
 
 returns-3 : tie.Need-returns-3
-returns-3 c = rw (c .before .before .before .before .before .before .before .step3 .given .1) (meeting-goes _ _ _ _ _ _ _ _ _ _ _ _ _ _ (c .before .before .before .before .before .branch-thread2 .ensures .is) (c .before .before .branch-thread3 .ensures .is) (c .before .before .before .before .before .before .before .before .before .word16 .ensures .is) (rw (c .before .before .before .before .before .before .before .step3 .given .1) at (c .before .before .before .before .before .before .before .before .before .before .before .before .before .before .pre)) (c .before .before .before .before .field42 .ensures .is) (c .before .field43 .ensures .is) (c .before .before .before .node-if3 .ensures) (c .node-if4 .ensures))
+returns-3 c =
+    let c1 = c .before in
+    let c2 = c1 .before in
+    let c3 = c2 .before in
+    let c4 = c3 .before in
+    let c5 = c4 .before in
+    let c7 = c5 .before .before in
+    let c9 = c7 .before .before in
+    let c13 = c9 .before .before .before .before in
+    rw (c7 .step3 .given .1)
+    (meeting-goes _ _ _ _ _ _ _ _ _ _ _ _ _ (c5 .branch-thread2 .ensures .is) (c2 .branch-thread3 .ensures .is) (c9 .word16 .ensures .is)
+    (rw (c7 .step3 .given .1) at (c13 .pre)) (c4 .field42 .ensures .is) (c1 .field43 .ensures .is) (c3 .node-if3 .ensures) (c .node-if4 .ensures))
 
 returns-4 : tie.Need-returns-4
-returns-4 c = rw (c .before .before .before .before .before .step4 .given .1) (call-goes _ _ _ _ _ _ _ _ _ _ (c .before .before .node-thread2 .ensures .is) (c .before .before .before .before .before .before .before .word16 .ensures .is) _ (rw (c .before .before .before .before .before .step4 .given .1) at (c .before .before .before .before .before .before .before .before .before .before .before .before .pre)) (c .before .before .before .field32 .ensures .is) (c .before .field44 .ensures .is) (c .node-if5 .ensures))
+returns-4 c =
+    let c1 = c .before in
+    let c2 = c1 .before in
+    let c3 = c2 .before in
+    let c5 = c3 .before .before in
+    let c7 = c5 .before .before in
+    let c11 = c7 .before .before .before .before in
+    rw (c5 .step4 .given .1) (call-goes _ _ _ _ _ _ _ _ _ (c2 .node-thread2 .ensures .is) (c7 .word16 .ensures .is) _
+    (rw (c5 .step4 .given .1) at (c11 .pre)) (c3 .field32 .ensures .is) (c1 .field44 .ensures .is) (c .node-if5 .ensures))
 
 pub node-after-spec : {M : Type 1} → statement M
 node-after-spec =

@@ -1,7 +1,6 @@
 -- `process::next::value_after_meeting` meets its contract.
 -- `cN` is the place N steps before `c`.
-use mathlib.Core.Path.{_≡_, refl, sym, ap, _∙_}
-use native.Mathlib.Omega.{arith}
+use mathlib.Core.Path.{refl, sym, _∙_}
 use Rattle.process.proofs.Taking.{met-sender-ends, met-receiver-ends, met-takes, met-keeps}
 use borrow.Author.Needs.{needs}
 use Rattle.process.proofs.next.value_after_meeting.Statement.{statement}
@@ -25,8 +24,8 @@ returns c =
     let c2 = c1 .before in
     let c3 = c2 .before in
     let c4 = c3 .before in
-    let c10 = c4 .before .before .before .before .before .before in
-    met-sender-ends _ _ _ _ _ _ _ _ _ _ _ (c10 .pre .going) (c4 .branch-thread .ensures .is) (c2 .field4 .ensures .is)
+    let c8 = c4 .before .before .before .before in
+    met-sender-ends _ _ _ _ _ _ _ _ _ _ (c8 .pre) (c4 .branch-thread .ensures .is) (c2 .field4 .ensures .is)
     (c3 .branch-thread2 .ensures .is) refl (sym (c1 .ends .ensures) ∙ c .if1 .taken)
 
 field4-requires-2 : tie.Need-field4-requires-2
@@ -44,8 +43,8 @@ returns-2 c =
     let c5 = c4 .before in
     let c6 = c5 .before in
     let c7 = c6 .before in
-    let c13 = c7 .before .before .before .before .before .before in
-    met-receiver-ends _ _ _ _ _ _ _ _ _ _ _ (c13 .pre .going) (c7 .branch-thread .ensures .is) (c5 .field4 .ensures .is)
+    let c11 = c7 .before .before .before .before in
+    met-receiver-ends _ _ _ _ _ _ _ _ _ _ (c11 .pre) (c7 .branch-thread .ensures .is) (c5 .field4 .ensures .is)
     (c6 .branch-thread2 .ensures .is) (c2 .field42 .ensures .is) (sym (c4 .ends .ensures) ∙ c3 .if1 .left) (sym (c1 .ends2 .ensures) ∙ c .if2 .taken)
 
 field4-requires-3 : tie.Need-field4-requires-3
@@ -70,8 +69,8 @@ returns-3 c =
     let c9 = c8 .before in
     let c10 = c9 .before in
     let c11 = c10 .before in
-    let c17 = c11 .before .before .before .before .before .before in
-    met-takes _ _ _ _ _ _ _ _ _ _ _ (c17 .pre .going) (c11 .branch-thread .ensures .is) (c9 .field4 .ensures .is) (c10 .branch-thread2 .ensures .is)
+    let c15 = c11 .before .before .before .before in
+    met-takes _ _ _ _ _ _ _ _ _ _ (c15 .pre) (c11 .branch-thread .ensures .is) (c9 .field4 .ensures .is) (c10 .branch-thread2 .ensures .is)
     (c6 .field42 .ensures .is) _ _ _ (sym (c8 .ends .ensures) ∙ c7 .if1 .left) (sym (c5 .ends2 .ensures) ∙ c4 .if2 .left) (c3 .field43 .ensures .is)
     (c2 .if3 .taken) (c1 .field44 .ensures .is) (c .value-of .ensures)
 
@@ -90,8 +89,8 @@ returns-4 c =
     let c8 = c7 .before in
     let c9 = c8 .before in
     let c10 = c9 .before in
-    let c16 = c10 .before .before .before .before .before .before in
-    met-keeps _ _ _ _ _ _ _ _ _ _ _ (c16 .pre .going) (c10 .branch-thread .ensures .is) (c8 .field4 .ensures .is) (c9 .branch-thread2 .ensures .is)
+    let c14 = c10 .before .before .before .before in
+    met-keeps _ _ _ _ _ _ _ _ _ _ (c14 .pre) (c10 .branch-thread .ensures .is) (c8 .field4 .ensures .is) (c9 .branch-thread2 .ensures .is)
     (c5 .field42 .ensures .is) _ _ (sym (c7 .ends .ensures) ∙ c6 .if1 .left) (sym (c4 .ends2 .ensures) ∙ c3 .if2 .left) (c2 .field43 .ensures .is)
     (c1 .if3 .left) (c .value-of2 .ensures)
 

@@ -1,17 +1,14 @@
--- `process::threads::branch_thread` meets its contract: the thread of the branch's node.
-use Rattle.process.proofs.Decoding.{home-thread}
+-- `process::threads::branch_thread` meets its contract: what the index tells is the table's own.
+use Rattle.process.proofs.Decoding.{branch-thread-same}
 use borrow.Author.Needs.{needs}
 use Rattle.process.proofs.threads.branch_thread.Statement.{statement}
 use Rattle.process.proofs.threads.branch_thread.Tie as tie
 
-word32-requires : tie.Need-word32-requires
-word32-requires c κs = search needs
-
-node-thread-requires : tie.Need-node-thread-requires
-node-thread-requires c κs = search needs
+branch-thread-requires : tie.Need-branch-thread-requires
+branch-thread-requires c κs = search needs
 
 returns : tie.Need-returns
-returns c = home-thread _ _ _ (c .before .before .before .before .before .pre) _ _ _ (c .before .word32 .ensures .is) (c .node-thread .ensures)
+returns c = branch-thread-same _ _ (c .before .before .before .pre) _ _ (c .branch-thread .ensures)
 
 pub branch-thread-spec : {M : Type 1} → statement M
-branch-thread-spec = tie.close (tie.spec word32-requires node-thread-requires returns)
+branch-thread-spec = tie.close (tie.spec branch-thread-requires returns)

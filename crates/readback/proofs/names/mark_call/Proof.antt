@@ -1,6 +1,4 @@
 -- `readback::names::mark_call` meets its contract.
-use mathlib.Core.Path.{_≡_, refl, sym, ap, _∙_}
-use Prim.Native.Nat.{ℕ, _+_, _-_, _≤_, _<_}
 use native.Mathlib.Omega.{arith}
 use Rattle.readback.proofs.Marking.{smaller-few, call-marked}
 use borrow.Author.Needs.{needs}
@@ -54,7 +52,7 @@ returns c =
     let at-field4 = at-field42 .before in
     let at-field3 = at-field4 .before in
     let s = at-field3 .before .before .before .before in
-    call-marked (s .args .table .now) (s .args .names .now) (s .args .held .now) _ _ (s .args .node) (s .args .index) (s .args .count)
+    call-marked (s .args .table .now) (s .args .names .now) (s .args .held .now) _ _ (s .args .node) (s .args .k) (s .args .count)
     (at-field3 .field3 .result) (at-field4 .field4 .result) (at-field42 .field42 .result) (at-less .less .result) (at-smaller .smaller .result)
     (at-less2 .less2 .result)
     (at-field3 .field3 .ensures .is) (at-field4 .field4 .ensures .is) (at-field42 .field42 .ensures .is) (at-less .less .ensures)

@@ -1,8 +1,6 @@
 -- `readback::names::mark_held` meets its contract.
-use mathlib.Core.Path.{_≡_, refl, sym, ap, _∙_}
-use Prim.Native.Nat.{ℕ, _+_, _-_, _≤_, _<_}
+use mathlib.Core.Path.{sym, ap, _∙_}
 use native.Mathlib.Omega.{arith}
-use lib.ListN.{length}
 use Rattle.net.specs.Firing.{put}
 use Rattle.places.proofs.Controls.{few-nodes}
 use Rattle.readback.proofs.Holding.{all-fit, held-stop, held-call, held-other}
@@ -12,7 +10,7 @@ use Rattle.readback.proofs.names.mark_held.Tie as tie
 
 cast-held-names : tie.Need-cast-held-names
 cast-held-names c =
-    let s = c .before .before .before .before in
+    let s = c .before .before .before in
     omega (arith, s .pre .1, few-nodes (s .args .table .now) (s .pre .0 .accepted))
 
 slice-aggregate-held-names : tie.Need-slice-aggregate-held-names
@@ -30,8 +28,8 @@ slice-aggregate-mark-names c = search needs
 mark-names-requires : tie.Need-mark-names-requires
 mark-names-requires c κs =
     let at-held-names = c .before .before .before .before .before in
-    let s = at-held-names .before .before .before .before .before .before in
-    all-fit (s .args .table .now) (s .args .owners .now) (s .args .homes .now) (s .pre .0) (s .args .node) (s .pre .1) (s .args .index) _
+    let s = at-held-names .before .before .before .before .before in
+    all-fit (s .args .table .now) (s .args .index .now) (s .pre .0) (s .args .node) (s .pre .1) (s .args .k) _
     (at-held-names .held-names .result) _
     (at-held-names .held-names .ensures) (omega arith)
 
@@ -40,13 +38,12 @@ same-length c = search needs
 
 returns : tie.Need-returns
 returns c =
-    let at-mark-names = c .before .before in
-    let at-if1 = at-mark-names .before .before .before in
+    let at-if1 = c .before .before .before .before .before in
     let at-field3 = at-if1 .before in
     let at-held-names = at-field3 .before .before in
-    let s = at-held-names .before .before .before .before .before .before in
-    at-mark-names .mark-names .ensures ∙ ap (put 1 (s .args .held .now)) (held-stop (s .args .table .now) (s .args .owners .now)
-    (s .args .homes .now) (s .pre .0) (s .args .node) (s .pre .1) (s .args .index) _ (at-held-names .held-names .result) _
+    let s = at-held-names .before .before .before .before .before in
+    c .before .before .mark-names .ensures ∙ ap (put 1 (s .args .held .now))
+    (held-stop (s .args .table .now) (s .args .index .now) (s .pre .0) (s .args .node) (s .pre .1) (s .args .k) _ (at-held-names .held-names .result) _
     (at-held-names .held-names .ensures) (omega arith)
     (sym (at-field3 .field3 .ensures .is) ∙ at-if1 .if1 .taken))
 
@@ -56,8 +53,8 @@ slice-aggregate-mark-call c = search needs
 mark-call-requires : tie.Need-mark-call-requires
 mark-call-requires c κs =
     let at-held-names = c .before .before .before .before .before .before in
-    let s = at-held-names .before .before .before .before .before .before in
-    all-fit (s .args .table .now) (s .args .owners .now) (s .args .homes .now) (s .pre .0) (s .args .node) (s .pre .1) (s .args .index) _
+    let s = at-held-names .before .before .before .before .before in
+    all-fit (s .args .table .now) (s .args .index .now) (s .pre .0) (s .args .node) (s .pre .1) (s .args .k) _
     (at-held-names .held-names .result) _
     (at-held-names .held-names .ensures) (omega arith)
 
@@ -66,13 +63,12 @@ same-length-2 c = search needs
 
 returns-2 : tie.Need-returns-2
 returns-2 c =
-    let at-mark-call = c .before .before in
-    let at-if2 = at-mark-call .before .before .before in
+    let at-if2 = c .before .before .before .before .before in
     let at-field3 = at-if2 .before .before in
     let at-held-names = at-field3 .before .before in
-    let s = at-held-names .before .before .before .before .before .before in
-    at-mark-call .mark-call .ensures ∙ ap (put 1 (s .args .held .now)) (held-call (s .args .table .now) (s .args .owners .now) (s .args .homes .now)
-    (s .pre .0) (s .args .node) (s .pre .1) (s .args .index) _ (at-held-names .held-names .result) _
+    let s = at-held-names .before .before .before .before .before in
+    c .before .before .mark-call .ensures ∙ ap (put 1 (s .args .held .now)) (held-call (s .args .table .now) (s .args .index .now)
+    (s .pre .0) (s .args .node) (s .pre .1) (s .args .k) _ (at-held-names .held-names .result) _
     (at-held-names .held-names .ensures) (omega arith)
     (sym (at-field3 .field3 .ensures .is) ∙ at-if2 .if2 .taken))
 
@@ -82,8 +78,8 @@ slice-aggregate-mark-names-2 c = search needs
 mark-names-requires-2 : tie.Need-mark-names-requires-2
 mark-names-requires-2 c κs =
     let at-held-names = c .before .before .before .before .before .before in
-    let s = at-held-names .before .before .before .before .before .before in
-    all-fit (s .args .table .now) (s .args .owners .now) (s .args .homes .now) (s .pre .0) (s .args .node) (s .pre .1) (s .args .index) _
+    let s = at-held-names .before .before .before .before .before in
+    all-fit (s .args .table .now) (s .args .index .now) (s .pre .0) (s .args .node) (s .pre .1) (s .args .k) _
     (at-held-names .held-names .result) _
     (at-held-names .held-names .ensures) (omega arith)
 
@@ -92,14 +88,13 @@ same-length-3 c = search needs
 
 returns-3 : tie.Need-returns-3
 returns-3 c =
-    let at-mark-names2 = c .before .before in
-    let at-if2 = at-mark-names2 .before .before .before in
+    let at-if2 = c .before .before .before .before .before in
     let at-if1 = at-if2 .before in
     let at-field3 = at-if1 .before in
     let at-held-names = at-field3 .before .before in
-    let s = at-held-names .before .before .before .before .before .before in
-    at-mark-names2 .mark-names2 .ensures ∙ ap (put 1 (s .args .held .now)) (held-other (s .args .table .now) (s .args .owners .now)
-    (s .args .homes .now) (s .pre .0) (s .args .node) (s .pre .1) (s .args .index) _ (at-held-names .held-names .result) _
+    let s = at-held-names .before .before .before .before .before in
+    c .before .before .mark-names2 .ensures ∙ ap (put 1 (s .args .held .now))
+    (held-other (s .args .table .now) (s .args .index .now) (s .pre .0) (s .args .node) (s .pre .1) (s .args .k) _ (at-held-names .held-names .result) _
     (at-held-names .held-names .ensures) (omega arith)
     (λ e. at-if1 .if1 .left (at-field3 .field3 .ensures .is ∙ e)) (λ e. at-if2 .if2 .left (at-field3 .field3 .ensures .is ∙ e)))
 

@@ -15,25 +15,27 @@ word32-requires-2 c κs = search needs
 
 name-shown-requires : tie.Need-name-shown-requires
 name-shown-requires c κs =
-    stands _ _ _ _ _ (c .before .before .before .before .before .before .before .before .before .before .args .indexes .now) _
-    (c .before .before .before .before .before .before .before .before .before .before .pre .0)
-    (c .before .before .before .before .before .before .before .before .before .before .pre .1 .0)
-    (c .before .before .before .before .before .before .before .before .before .before .pre .1 .1) _ (c .before .before .name-thread .ensures) _
-    (c .before .word32 .ensures .is)
+    let s = c .before .before .before .before .before .before .before .before in
+    let a = s .args in
+    stands (a .table .now) (a .index .now) (a .nodes .now) (a .indexes .now) (a .name) (s .pre .0) (s .pre .1) (s .pre .2 .0) (s .pre .2 .1) _
+    (c .before .before .name-thread .ensures .is) _ (c .before .word32 .ensures .is)
 
 value-of-requires : tie.Need-value-of-requires
 value-of-requires c κs = search needs
 
 returns : tie.Need-returns
 returns c =
-    let a = c .before .before .before .before .before .before .before .before .before .before .before .before .args in
-    name-valued (a .table .now) (a .homes .now) (a .definitions .now) (a .binders .now) (a .nodes .now) (a .indexes .now) (a .name)
-    (c .before .before .before .before .before .before .before .before .before .before .before .before .pre .0)
-    (c .before .before .before .before .before .before .before .before .before .before .before .before .pre .1 .0)
-    (c .before .before .before .before .before .before .before .before .before .before .before .before .pre .1 .1)
-    (c .before .before .before .before .name-thread .result) (c .before .before .before .before .name-thread .ensures) (a .values .now)
-    (c .before .before .before .word32 .result) (c .before .before .word322 .result) (c .before .name-shown .result) (c .value-of .result)
-    (c .before .before .before .word32 .ensures .is) (c .before .before .word322 .ensures .is) (c .before .name-shown .ensures) (c .value-of .ensures)
+    let at-name-shown = c .before in
+    let at-word322 = at-name-shown .before in
+    let at-word32 = at-word322 .before in
+    let at-name-thread = at-word32 .before in
+    let s = at-name-thread .before .before .before .before .before .before in
+    let a = s .args in
+    name-valued (a .table .now) (a .index .now) (a .nodes .now) (a .indexes .now) (a .name)
+    (s .pre .0) (s .pre .1) (s .pre .2 .0) (s .pre .2 .1)
+    (at-name-thread .name-thread .result) (at-name-thread .name-thread .ensures .is) (a .values .now)
+    (at-word32 .word32 .result) (at-word322 .word322 .result) (at-name-shown .name-shown .result) (c .value-of .result)
+    (at-word32 .word32 .ensures .is) (at-word322 .word322 .ensures .is) (at-name-shown .name-shown .ensures) (c .value-of .ensures)
 
 pub name-value-spec : {M : Type 1} → statement M
 name-value-spec =

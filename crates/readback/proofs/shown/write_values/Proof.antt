@@ -1,7 +1,9 @@
 -- `readback::shown::write_values` meets its contract: the values are filled in, then numbered.
 use mathlib.Core.Path.{_∙_}
 use native.Mathlib.Omega.{arith}
-use Rattle.readback.proofs.Showing.{bindings, few-publics, few-bounds}
+use lib.ListN.{length}
+use borrow.Author.Tests.{le-leb}
+use Rattle.places.proofs.Controls.{few-publics, few-bounds}
 use borrow.Author.Needs.{needs}
 use Rattle.readback.proofs.shown.write_values.Statement.{statement}
 use Rattle.readback.proofs.shown.write_values.Tie as tie
@@ -15,52 +17,55 @@ word16-requires-2 c κs = search needs
 word16-requires-3 : tie.Need-word16-requires-3
 word16-requires-3 c κs = search needs
 
-slice-aggregate-binders : tie.Need-slice-aggregate-binders
-slice-aggregate-binders c = search needs
-
-binders-requires : tie.Need-binders-requires
-binders-requires c κs = search needs
-
 slice-aggregate-fill-values : tie.Need-slice-aggregate-fill-values
 slice-aggregate-fill-values c = search needs
 
-slice-aggregate-fill-values-2 : tie.Need-slice-aggregate-fill-values-2
-slice-aggregate-fill-values-2 c = search needs
-
 fill-values-requires : tie.Need-fill-values-requires
-fill-values-requires c κs = (
-  bindings _ _ _ _ _ (c .before .before .before .before .before .before .before .before .before .before .before .before .before .before .before .pre .0)
-      (c .before .before .before .before .before .before .before .before .before .before .before .before .before .before .before .pre .1)
-      (c .before .before .before .binders2 .ensures),
-  omega arith,
-)
+fill-values-requires c κs =
+    let s = c .before .before .before .before .before .before .before .before .before .before in
+    (s .pre .0, s .pre .1, omega arith)
 
-cast-number-values : tie.Need-cast-number-values
-cast-number-values c = search needs
+cast-write-numbered : tie.Need-cast-write-numbered
+cast-write-numbered c = search needs
 
-slice-aggregate-number-values : tie.Need-slice-aggregate-number-values
-slice-aggregate-number-values c = search needs
+slice-aggregate-write-numbered : tie.Need-slice-aggregate-write-numbered
+slice-aggregate-write-numbered c = search needs
 
-cast-number-values-2 : tie.Need-cast-number-values-2
-cast-number-values-2 c = search needs
+cast-write-numbered-2 : tie.Need-cast-write-numbered-2
+cast-write-numbered-2 c = search needs
 
-cast-number-values-3 : tie.Need-cast-number-values-3
-cast-number-values-3 c = search needs
+cast-write-numbered-3 : tie.Need-cast-write-numbered-3
+cast-write-numbered-3 c = search needs
 
-number-values-requires : tie.Need-number-values-requires
-number-values-requires c κs = search needs
+write-numbered-requires : tie.Need-write-numbered-requires
+write-numbered-requires c κs = search needs
 
 same-length : tie.Need-same-length
 same-length c = search needs
 
 returns : tie.Need-returns
 returns c =
-    let ok = c .before .before .before .before .before .before .before .before .before .before .before .before .before .before .before .before .before .before .before .before .before .before .pre .0 .accepted in
-    let p = c .before .before .before .before .before .before .before .before .before .before .before .before .before .before .word16 .ensures .is in
-    let b = c .before .before .before .before .before .before .before .before .before .before .before .before .before .word162 .ensures .is in
-    let t = c .before .before .before .before .before .before .before .before .before .before .before .before .word163 .ensures .is in
-    c .before .before .number-values .ensures (omega (arith, p, few-publics _ ok)) (omega (arith, b, few-bounds _ ok)) (omega (arith, b, few-bounds _ ok))
-    ∙ rw (p, b, t, c .before .before .before .before .before .before .fill-values .ensures)
+    let at-list2 = c .before .before .before .before .before in
+    let at-fill-values = at-list2 .before in
+    let at-word163 = at-fill-values .before .before in
+    let at-word162 = at-word163 .before in
+    let at-word16 = at-word162 .before in
+    let s = at-word16 .before .before .before .before .before .before .before in
+    let ok = s .pre .0 .accepted in
+    let p = at-word16 .word16 .ensures .is in
+    let b = at-word162 .word162 .ensures .is in
+    let t = at-word163 .word163 .ensures .is in
+    c .before .before .write-numbered .ensures .words ∙
+    rw (
+      le-leb (at-word16 .word16 .result) 32 (omega (arith, p, few-publics _ ok)),
+      le-leb (at-word162 .word162 .result) 32 (omega (arith, b, few-bounds _ ok)),
+      le-leb (at-word162 .word162 .result) (length (at-fill-values .fill-values .last .1 .1 .1 .1 .1 .0))
+          (omega (arith, b, few-bounds _ ok, at-list2 .list2 .given)),
+      p,
+      b,
+      t,
+      at-fill-values .fill-values .ensures,
+    )
 
 pub write-values-spec : {M : Type 1} → statement M
 write-values-spec =
@@ -69,15 +74,12 @@ write-values-spec =
     word16-requires
     word16-requires-2
     word16-requires-3
-    slice-aggregate-binders
-    binders-requires
     slice-aggregate-fill-values
-    slice-aggregate-fill-values-2
     fill-values-requires
-    cast-number-values
-    slice-aggregate-number-values
-    cast-number-values-2
-    cast-number-values-3
-    number-values-requires
+    cast-write-numbered
+    slice-aggregate-write-numbered
+    cast-write-numbered-2
+    cast-write-numbered-3
+    write-numbered-requires
     same-length
     returns)

@@ -29,7 +29,7 @@ same-length-2 c = search needs
 returns : tie.Need-returns
 returns c =
     let at-note-all = c .before .before .before .before .before .before .before .before in
-    let s = at-note-all .before .before .before .before .before .before .before .before .before .before in
+    let s = at-note-all .before .before .before .before .before .before .before .before .before in
     let r = all-noted _ (s .args .marking .now) _ _ _ _ (at-note-all .note-all .ensures) (c .before .word16 .ensures .is) in
     (c .one-each .ensures ∙ r .0, r .1)
 

@@ -1,38 +1,40 @@
 -- `readback::spots::note_all` meets its contract. Loop: the nodes below n are noted. Measure: nodes left.
-use mathlib.Core.Path.{_≡_, refl, sym, ap, subst, _∙_}
-use Prim.Native.Nat.{_+_, _-_, _≤_, _<_}
+use mathlib.Core.Path.{_≡_, refl, _∙_}
+use Prim.Native.Nat.{_-_, _≤_}
 use native.Mathlib.Omega.{arith}
 use borrow.Author.Needs.{needs}
 use lib.ListN.{length}
-use Rattle.readback.specs.Inner.Noting.{Room, NotedAll}
+use Rattle.readback.specs.Inner.Noting.{NotedAll}
 use Rattle.readback.proofs.Noting.{noted-none, same-room}
 use Rattle.readback.proofs.spots.note_all.Statement.{statement}
 use Rattle.readback.proofs.spots.note_all.Tie as tie
 
 abbrev Inv-loop : tie.InvT-loop
-Inv-loop table definitions spots plan marking counts₀ places₀ indexes₀ count n₀ counts places indexes n =
+Inv-loop table index marking counts₀ places₀ indexes₀ count n₀ counts places indexes n =
     NotedAll table marking n counts places indexes ×
     (length counts ≡ length counts₀) × (length places ≡ length places₀) × (length indexes ≡ length indexes₀) × (n ≤ count)
 
 abbrev μ-loop : tie.MeasureT-loop
-μ-loop table definitions spots plan marking counts₀ places₀ indexes₀ count n₀ counts places indexes n = count - n
+μ-loop table index marking counts₀ places₀ indexes₀ count n₀ counts places indexes n = count - n
 
 word16-requires : tie.Need-word16-requires Inv-loop μ-loop
 word16-requires c κs = search needs
 
 loop-holds : tie.Need-loop-holds Inv-loop μ-loop
 loop-holds c =
-    let s = c .before .before .before .before .before .before .before .before in
-    (noted-none _ (s .args .marking .now) _ _ _ _ _ _ (s .pre), refl, refl, refl, omega arith)
+    let s = c .before .before .before .before .before .before .before in
+    (noted-none _ _ (s .args .marking .now) _ _ _ (s .pre), refl, refl, refl, omega arith)
 
 note-requires : tie.Need-note-requires Inv-loop μ-loop
 note-requires c κs =
-    let s = c .before .before .before .before .before .before .before .before .before .before .before .before .before in
-    let l = c .before .before .before .before .loop in
+    let at-loop-test = c .before .before .before in
+    let at-loop = at-loop-test .before in
+    let at-word16 = at-loop .before in
+    let s = at-word16 .before .before .before .before .before .before .before in
+    let l = at-loop .loop in
     record {
-      placed = s .pre .placed;
-      definition-in = s .pre .definition-in;
-      inside = omega (arith, c .before .before .before .loop-test .taken, c .before .before .before .before .before .word16 .ensures .is);
+      laid = s .pre .laid;
+      inside = omega (arith, at-loop-test .loop-test .taken, at-word16 .word16 .ensures .is);
       room = same-room _ _ _ _ _ _ (l .inv .1) (l .inv .2) (l .inv .3) (s .pre .room);
       noted = l .inv .0;
     }
@@ -67,10 +69,10 @@ same-length-3 c = c .before .loop .inv .3
 
 returns : tie.Need-returns Inv-loop μ-loop
 returns c =
+    let at-word16 = c .before .before in
     let l = c .before .loop in
-    let s = c .before .before .before .before .before .before .before .before .before .before in
-    let e : l .n ≡ c .before .before .word16 .result = omega (arith, l .inv .4, c .loop-test .left) in
-    rw (← (e ∙ c .before .before .word16 .ensures .is)) (l .inv .0)
+    let e : l .n ≡ at-word16 .word16 .result = omega (arith, l .inv .4, c .loop-test .left) in
+    rw (← (e ∙ at-word16 .word16 .ensures .is)) (l .inv .0)
 
 pub note-all-spec : {M : Type 1} → statement M
 note-all-spec =

@@ -5,7 +5,7 @@ use Prim.Native.Nat.{ℕ, _+_, _-_, _*_, _≤_, _<_}
 use native.Mathlib.Omega.{arith}
 use lib.Seq.{slice}
 use Rattle.lists.specs.Lists.{word, flat}
-use Rattle.scheme.specs.Inner.Spans.{spanOf}
+use Rattle.scheme.specs.Spans.{spanOf}
 use Rattle.process.proofs.Listed.{Left, left-start, left-more, left-end}
 use Rattle.rewriting.proofs.Laws.Stored.{listed-low, row-more, row-done}
 use borrow.Author.Needs.{needs}

@@ -7,11 +7,11 @@ use Rattle.rewriting.proofs.copies.mark_caller.Tie as tie
 calls-itself-requires : tie.Need-calls-itself-requires
 calls-itself-requires c κs = search needs
 
-word16-requires : tie.Need-word16-requires
-word16-requires c κs = search needs
+definition-requires : tie.Need-definition-requires
+definition-requires c κs = search needs
 
-store16-requires : tie.Need-store16-requires
-store16-requires c κs = search needs
+store32-requires : tie.Need-store32-requires
+store32-requires c κs = search needs
 
 same-length : tie.Need-same-length
 same-length c = search needs
@@ -19,8 +19,10 @@ same-length c = search needs
 returns : tie.Need-returns
 returns c =
     let c2 = c .before .before in
-    let c5 = c2 .before .before .before in
-    rw (sym (c5 .before .calls-itself .ensures) ∙ c5 .if1 .taken, ← c2 .before .word16 .ensures .is) (c2 .store16 .ensures)
+    let c3 = c2 .before in
+    let c5 = c3 .before .before in
+    let c6 = c5 .before in
+    rw (sym (c6 .calls-itself .ensures) ∙ c5 .if1 .taken, ← c3 .definition .ensures .is) (c2 .store32 .ensures)
 
 returns-2 : tie.Need-returns-2
 returns-2 c = rw (sym (c .before .calls-itself .ensures) ∙ c .if1 .left)
@@ -28,4 +30,4 @@ returns-2 c = rw (sym (c .before .calls-itself .ensures) ∙ c .if1 .left)
 pub mark-caller-spec : {M : Type 1} → statement M
 mark-caller-spec =
     tie.close
-    (tie.spec calls-itself-requires word16-requires store16-requires same-length returns returns-2)
+    (tie.spec calls-itself-requires definition-requires store32-requires same-length returns returns-2)

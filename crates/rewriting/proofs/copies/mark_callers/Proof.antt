@@ -5,6 +5,7 @@ use native.Mathlib.Omega.{arith}
 use lib.ListN.{length}
 use Rattle.lists.specs.Lists.{pick, word, from, range, some}
 use Rattle.scheme.specs.Words.{nodes as nodeCount}
+use Rattle.scheme.specs.Index.{definitionsIn}
 use Rattle.rewriting.specs.Inner.Copying.{calledByItself}
 use Rattle.rewriting.proofs.Laws.Marks.{mark-next, mark-length}
 use borrow.Author.Needs.{needs}
@@ -12,12 +13,12 @@ use Rattle.rewriting.proofs.copies.mark_callers.Statement.{statement}
 use Rattle.rewriting.proofs.copies.mark_callers.Tie as tie
 
 abbrev Inv-loop : tie.InvT-loop
-Inv-loop table definitions marks₀ nodes n₀ marks n =
+Inv-loop table index marks₀ nodes n₀ marks n =
     (nodes ≡ nodeCount table) × (length marks ≡ length marks₀) × (n ≤ nodes) ×
-    ((d : ℕ) → d < length marks₀ → word marks d ≡ pick (calledByItself table definitions (range n) d) 1 (word marks₀ d))
+    ((d : ℕ) → d < length marks₀ → word marks d ≡ pick (calledByItself table (definitionsIn index) (range n) d) 1 (word marks₀ d))
 
 abbrev μ-loop : tie.MeasureT-loop
-μ-loop table definitions marks₀ nodes n₀ marks n = nodes - n
+μ-loop table index marks₀ nodes n₀ marks n = nodes - n
 
 word16-requires : tie.Need-word16-requires Inv-loop μ-loop
 word16-requires c κs = search needs
@@ -40,13 +41,14 @@ loop-again c =
     let c2 = c .before .before in
     let c4 = c2 .before .before in
     let c5 = c4 .before in
-    let a = c5 .before .before .before .before .before .args in
+    let c10 = c5 .before .before .before .before .before in
+    let a = c10 .args in
     let l = c5 .loop in
     let e = c2 .mark-caller .ensures in (
       l .inv .0,
-      mark-length (a .table .now) (a .definitions .now) (l .n) 0 (l .marks) _ e ∙ l .inv .1,
+      mark-length (a .table .now) (definitionsIn (a .index .now)) (l .n) 0 (l .marks) _ e ∙ l .inv .1,
       omega (arith, c4 .loop-test .taken),
-      λ d u. mark-next (a .table .now) (a .definitions .now) (l .n) d (l .marks) _ _ (rw (l .inv .1) u) e (l .inv .3 d u),
+      λ d u. mark-next (a .table .now) (definitionsIn (a .index .now)) (l .n) d (l .marks) _ _ (rw (l .inv .1) u) e (l .inv .3 d u),
     )
 
 same-length : tie.Need-same-length Inv-loop μ-loop

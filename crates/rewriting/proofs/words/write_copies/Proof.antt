@@ -12,13 +12,13 @@ use Rattle.rewriting.proofs.words.write_copies.Statement.{statement}
 use Rattle.rewriting.proofs.words.write_copies.Tie as tie
 
 abbrev Inv-loop : tie.InvT-loop
-Inv-loop table part list first count definitions places at out₀ k₀ next₀ out k next =
+Inv-loop table list index places at out₀ part first count k₀ next₀ out k next =
     Left (flat (copyWords table part) (slice first (first + count) list)) out₀ at
     (flat (copyWords table part) (slice (first + k) (first + count) list)) out next ×
     (next ≤ at + 4 * k) × (k ≤ count)
 
 abbrev μ-loop : tie.MeasureT-loop
-μ-loop table part list first count definitions places at out₀ k₀ next₀ out k next = count - k
+μ-loop table list index places at out₀ part first count k₀ next₀ out k next = count - k
 
 loop-holds : tie.Need-loop-holds Inv-loop μ-loop
 loop-holds c = (left-start _ _ _ _ (rw add-zero), omega arith, omega arith)
@@ -52,7 +52,7 @@ loop-again c =
     let l = c6 .loop in
     let r = c2 .write-copy in (
       left-more _ _ _ _ _ _ (l .inv .0) _ _ _ _ _
-          (row-more (copyWords (a .table .now) (a .part)) (a .list .now) (a .first) (a .count) (l .k)
+          (row-more (copyWords (a .table .now) (a .row .part)) (a .list .now) (a .row .first) (a .row .count) (l .k)
           (c4 .word32 .result) (c4 .word32 .ensures .is) (c5 .loop-test .taken) (c12 .pre .1)) (r .ensures),
       omega (arith, l .inv .1, r .ensures .few),
       omega (arith, c5 .loop-test .taken),
@@ -67,7 +67,8 @@ returns c =
     let c7 = c1 .before .before .before .before .before .before in
     let a = c7 .args in
     let l = c1 .loop in
-    left-end _ _ _ _ _ _ (l .inv .0) _ (row-done (copyWords (a .table .now) (a .part)) (a .list .now) (a .first) (a .count) (l .k) (c .loop-test .left))
+    left-end _ _ _ _ _ _ (l .inv .0) _
+    (row-done (copyWords (a .table .now) (a .row .part)) (a .list .now) (a .row .first) (a .row .count) (l .k) (c .loop-test .left))
     (omega (arith, l .inv .1, l .inv .2, c7 .pre .2))
 
 pub write-copies-spec : {M : Type 1} → statement M

@@ -1,6 +1,8 @@
 -- `rewriting::words::write_node` meets its contract.
 use Rattle.rewriting.specs.Rewriting.{nodeWords}
 use Rattle.rewriting.specs.Inner.Writing.{targetIn}
+use Rattle.scheme.specs.Index.{definitionsIn}
+use Rattle.rewriting.proofs.Laws.Belongs.{bodies}
 use Rattle.rewriting.proofs.Laws.Marks.{self-call}
 use borrow.Author.Needs.{needs}
 use Rattle.rewriting.proofs.words.write_node.Statement.{statement}
@@ -25,13 +27,15 @@ returns : tie.Need-returns
 unfolding nodeWords targetIn
 returns c =
     let c2 = c .before .before in
-    let c5 = c2 .before .before .before in
-    let s = c5 .before .before .before .before .before .before in
+    let c3 = c2 .before in
+    let c5 = c3 .before .before in
+    let c6 = c5 .before in
+    let c11 = c6 .before .before .before .before .before in
     rw (
-      ← self-call (s .args .table .now) (s .args .definitions .now) (s .pre .0 .bodies) (s .args .node) (s .pre .1),
+      ← self-call (c11 .args .table .now) (definitionsIn (c11 .args .index .now)) (bodies _ _ (c11 .pre .0 .spared)) (c11 .args .node) (c11 .pre .1),
       ← c5 .target-of .ensures .is,
-      ← c5 .before .field3 .ensures .is,
-      ← c2 .before .field32 .ensures .is,
+      ← c6 .field3 .ensures .is,
+      ← c3 .field32 .ensures .is,
     ) (c2 .write3 .ensures)
 
 pub write-node-spec : {M : Type 1} → statement M

@@ -12,12 +12,12 @@ use Rattle.rewriting.proofs.words.write_nodes.Statement.{statement}
 use Rattle.rewriting.proofs.words.write_nodes.Tie as tie
 
 abbrev Inv-loop : tie.InvT-loop
-Inv-loop table definitions places at out₀ nodes n₀ next₀ out n next =
+Inv-loop table index places at out₀ nodes n₀ next₀ out n next =
     Left (flat (nodeWords table) (range (nodeCount table))) out₀ at (flat (nodeWords table) (from n (nodes - n))) out next ×
     (next ≤ at + 4 * n) × (n ≤ nodes)
 
 abbrev μ-loop : tie.MeasureT-loop
-μ-loop table definitions places at out₀ nodes n₀ next₀ out n next = nodes - n
+μ-loop table index places at out₀ nodes n₀ next₀ out n next = nodes - n
 
 word16-requires : tie.Need-word16-requires Inv-loop μ-loop
 word16-requires c κs = search needs

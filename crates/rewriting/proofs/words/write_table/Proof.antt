@@ -13,10 +13,13 @@ start c = c .before .before .before .before .before .before
 
 back : (c : tie.After-number-copies)
     → let a = start c .args in
-    Back (a .table .now) (a .definitions .now) (a .list .now) (a .copies) (c .number-copies .last .1 .1 .0)
+    Back (a .table .now) (a .index .now) (a .list .now) (a .copies) (c .number-copies .last .1 .1 .0)
 back c =
     let p = start c .pre in
-    record { rows = p .1 .rows; writable = record { bodies = p .0; placing = placing _ _ _ _ (p .1 .rows) (c .number-copies .ensures) } }
+    record {
+      rows = p .1 .rows;
+      writable = record { spared = record { ok = p .1 .rows .ok; right = p .0 }; placing = placing _ _ _ _ (p .1 .rows) (c .number-copies .ensures) };
+    }
 
 slice-aggregate-number-copies : tie.Need-slice-aggregate-number-copies
 slice-aggregate-number-copies c = search needs

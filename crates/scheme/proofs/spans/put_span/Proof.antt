@@ -4,7 +4,7 @@ use Prim.Native.Nat.{_-_}
 use native.Mathlib.Omega.{arith}
 use lib.ListN.{length, length-set}
 use Rattle.lists.specs.Lists.{from}
-use Rattle.scheme.specs.Inner.Spans.{putAll}
+use Rattle.scheme.specs.Inner.Scatter.{putAll}
 use Rattle.scheme.proofs.Scatter.{put-more, put-done}
 use borrow.Author.Needs.{needs}
 use Rattle.scheme.proofs.spans.put_span.Statement.{statement}

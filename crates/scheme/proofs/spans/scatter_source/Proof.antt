@@ -4,7 +4,8 @@ use Prim.Native.Nat.{_+_, _-_, _≤_}
 use native.Mathlib.Omega.{arith}
 use lib.ListN.{length}
 use borrow.Author.Needs.{needs}
-use Rattle.scheme.specs.Inner.Spans.{spanOf, scatter}
+use Rattle.scheme.specs.Spans.{spanOf}
+use Rattle.scheme.specs.Inner.Scatter.{scatter}
 use Rattle.scheme.proofs.Scatter.{scatter-more, scatter-done}
 use Rattle.scheme.proofs.spans.scatter_source.Statement.{statement}
 use Rattle.scheme.proofs.spans.scatter_source.Tie as tie

@@ -1,8 +1,7 @@
 -- `scheme::spans::tally` meets its contract.
-use mathlib.Core.Path.{_≡_, _∙_}
 use borrow.Author.Tests.{eq-eqb, ne-eqb}
 use Rattle.lists.specs.Lists.{same}
-use Rattle.scheme.specs.Inner.Spans.{tallied}
+use Rattle.scheme.specs.Spans.{tallied}
 use borrow.Author.Needs.{needs}
 use Rattle.scheme.proofs.spans.tally.Statement.{statement}
 use Rattle.scheme.proofs.spans.tally.Tie as tie

@@ -1,11 +1,11 @@
 -- `scheme::spans::tally_source` meets its contract. Loop: the spans left are still to be tallied. Measure: entries left.
 use mathlib.Core.Path.{_≡_, refl, sym, ap, _∙_}
-use Prim.Native.Nat.{ℕ, _+_, _-_, _*_, _≤_, _<_}
+use Prim.Native.Nat.{_-_}
 use native.Mathlib.Omega.{arith}
 use lib.ListN.{length}
 use Rattle.lists.specs.Lists.{from, range, flat}
 use Rattle.lists.proofs.Ranges.{flat-start}
-use Rattle.scheme.specs.Inner.Spans.{spanOf, tallyAll}
+use Rattle.scheme.specs.Spans.{spanOf, tallyAll}
 use Rattle.scheme.proofs.Tally.{tally-flat-more, tally-flat-done}
 use Rattle.scheme.proofs.SpanLists.{span-is}
 use borrow.Author.Needs.{needs}

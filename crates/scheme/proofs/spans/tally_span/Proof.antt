@@ -1,10 +1,10 @@
 -- `scheme::spans::tally_span` meets its contract. Loop: the numbers left are still to be tallied. Measure: numbers left.
-use mathlib.Core.Path.{_≡_, refl, sym, ap, _∙_}
-use Prim.Native.Nat.{ℕ, _+_, _-_, _*_, _≤_, _<_}
+use mathlib.Core.Path.{_≡_, refl, sym, _∙_}
+use Prim.Native.Nat.{_-_}
 use native.Mathlib.Omega.{arith}
 use lib.ListN.{length}
 use Rattle.lists.specs.Lists.{from}
-use Rattle.scheme.specs.Inner.Spans.{tallyAll}
+use Rattle.scheme.specs.Spans.{tallyAll}
 use Rattle.scheme.proofs.Tally.{tally-more, tally-done}
 use borrow.Author.Needs.{needs}
 use Rattle.scheme.proofs.spans.tally_span.Statement.{statement}

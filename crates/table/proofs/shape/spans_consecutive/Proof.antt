@@ -1,12 +1,12 @@
 -- `table::shape::spans_consecutive` meets its contract. Loop: the nodes left are still to be checked, from a on. Measure: nodes left.
-use mathlib.Core.Path.{_≡_, refl, sym, ap, _∙_}
-use Prim.Native.Nat.{ℕ, _+_, _-_, _*_, _≤_, _<_}
+use mathlib.Core.Path.{_≡_, sym, ap, _∙_}
+use Prim.Native.Nat.{_-_, _*_, _≤_}
 use native.Mathlib.Omega.{arith}
 use Rattle.lists.specs.Lists.{same, from, range}
 use Rattle.lists.proofs.Ranges.{from-whole}
 use Rattle.scheme.specs.Words.{nodes}
 use Rattle.table.specs.Causes.{consecutive}
-use Rattle.scheme.specs.Inner.Spans.{spanFirst, spanCount}
+use Rattle.scheme.specs.Spans.{spanFirst, spanCount}
 use Rattle.table.proofs.SpanLists.{skip-empty, take-range, break-range, end-ranges}
 use borrow.Author.Needs.{needs}
 use Rattle.table.proofs.shape.spans_consecutive.Statement.{statement}

@@ -1,0 +1,69 @@
+// What the plan of a table tells: where a name's row, a node's control places and [*≠n] start, N, and how many places
+// and initial tokens the net has. Exact on any words: what the plan has no word for reads 0.
+ghost use Rattle.lists.specs.Lists.{Word};
+ghost use Rattle.places.specs.Plan.{rowsIn, nodesIn, privatesAt, freeAt, placesAt, tokensAt};
+use lists::word32;
+
+// Where the starts of rows, the starts of control places and each count stand in a plan, and its size; the index of the
+// table stands at 0.
+pub const ROWS: usize = 832;
+
+pub const NODES: usize = 896;
+
+pub const PRIVATES: usize = 1153;
+
+pub const FREE: usize = 1154;
+
+pub const PLACES: usize = 1155;
+
+pub const TOKENS: usize = 1156;
+
+pub const SIZE: usize = 1157;
+
+// Where the row of a name starts; 0 for a public name, past the names where the last row ends.
+pub fn row_start(index: &[u32], name: usize) -> usize
+    ensures { λ r. ⌜ Word 4294967296 (rowsIn (now (index .entry))) name r ⌝ }
+{
+    if name < NODES - ROWS {
+        return word32(index, ROWS + name);
+    }
+    0
+}
+
+// Where the control places of a node start; past the nodes where they end.
+pub fn node_start(index: &[u32], node: usize) -> usize
+    ensures { λ r. ⌜ Word 4294967296 (nodesIn (now (index .entry))) node r ⌝ }
+{
+    if node < PRIVATES - NODES {
+        return word32(index, NODES + node);
+    }
+    0
+}
+
+// N: how many private values there are.
+pub fn privates(index: &[u32]) -> usize
+    ensures { λ r. ⌜ Word 4294967296 (now (index .entry)) privatesAt r ⌝ }
+{
+    word32(index, PRIVATES)
+}
+
+// Where [*≠n] starts.
+pub fn free_start(index: &[u32]) -> usize
+    ensures { λ r. ⌜ Word 4294967296 (now (index .entry)) freeAt r ⌝ }
+{
+    word32(index, FREE)
+}
+
+// How many places the net has.
+pub fn place_count(index: &[u32]) -> usize
+    ensures { λ r. ⌜ Word 4294967296 (now (index .entry)) placesAt r ⌝ }
+{
+    word32(index, PLACES)
+}
+
+// How many tokens there are at first.
+pub fn token_count(index: &[u32]) -> usize
+    ensures { λ r. ⌜ Word 4294967296 (now (index .entry)) tokensAt r ⌝ }
+{
+    word32(index, TOKENS)
+}
