@@ -28,6 +28,7 @@ pub fn inputs() -> Vec<Input> {
         ),
         input("large, public channels", public_channels(), 2_000),
         input("large, private channels", private_channels(), 2_000),
+        input("large, every value arrives", every_value(), 2_000),
     ]
 }
 
@@ -158,6 +159,40 @@ fn private_channels() -> Vec<u16> {
             (receive(desk(keeper), n), handed(n)),
         ];
         scheme.define(Some(g), Body::Choice(choices));
+    }
+    scheme.table()
+}
+
+/// A giver gives out every public name at a desk, so that each may be any channel and any report.
+/// Three tellers take a channel and a report, and send it eight times; three keepers take a channel,
+/// and hear one report on it.
+///
+///     GIVE = desk⟨c⟩. PAUSE, for each public c                     PAUSE = τ. GIVE
+///     TELL = desk(x). desk(y). 8 sends of y on x. PAUSE            PAUSE = τ. TELL
+///     KEEP = desk(u). (u(v). PAUSE + u(w). PAUSE)                  PAUSE = τ. KEEP
+fn every_value() -> Vec<u16> {
+    let (publics, desk) = (16, 0);
+    let mut scheme = Scheme::new(publics);
+    let first = scheme.next_definition();
+    scheme.thread();
+    let choices = (0..publics).map(|name| (send(desk, name), call(first + 1, &[])));
+    scheme.define(None, Body::Choice(choices.collect()));
+    scheme.define(None, then(Action::Silent, call(first, &[])));
+    for _ in 0..3 {
+        let [x, y] = [INPUT, INPUT].map(|kind| scheme.name(kind));
+        go_round(&mut scheme, |pause| {
+            let reports = in_a_row((0..8).map(|_| send(x, y)), pause);
+            then(receive(desk, x), then(receive(desk, y), reports))
+        });
+    }
+    for _ in 0..3 {
+        let [u, v, w] = [INPUT, INPUT, INPUT].map(|kind| scheme.name(kind));
+        let first = scheme.next_definition();
+        scheme.thread();
+        let choices = [receive(u, v), receive(u, w)].map(|action| (action, call(first + 1, &[])));
+        let heard = Body::Choice(choices.into());
+        scheme.define(None, then(receive(desk, u), heard));
+        scheme.define(None, then(Action::Silent, call(first, &[])));
     }
     scheme.table()
 }

@@ -1,4 +1,5 @@
-//! Document 01, "Transitions" and "Net image and firing": building the image of a table.
+//! Document 01, "Transitions" and "Net image and firing": building the image of a table. "Every
+//! builder rule that ranges over values now follows this reach." (document 02, item 4)
 
 use crate::arcs::Arcs;
 use crate::places::Places;
@@ -103,9 +104,9 @@ impl Builder<'_> {
     /// "release z=v: take [z=v]; give [z≠v] (v private), or [\*≠v] if z is restricted; on."
     fn write_releases(&mut self, node: usize, name: usize, here: usize, on: usize) {
         let (table, places) = (self.table, self.places);
-        for value in places.range(table, name) {
+        for value in places.values_of(name) {
             let mut arcs = Arcs::between(here, on);
-            arcs.take(places.equal(table, name, value));
+            arcs.take(places.equal(name, value));
             if table.is_restricted(name) {
                 arcs.give(places.free(value));
             } else if places.is_private(value) {
@@ -125,16 +126,17 @@ impl Builder<'_> {
         }
     }
 
-    /// "New r=n: take [\*≠n], read [x≠n] for every input and formal; give [r=n]; on."
+    /// "New r=n: take [\*≠n], read [x≠n] for every input and formal; give [r=n]; on."; "New reads
+    /// only rows that have private values" (document 02, item 4).
     fn write_new(&mut self, node: usize, name: usize, child: usize) {
         let (table, places) = (self.table, self.places);
         for value in places.private_values() {
             let mut arcs = Arcs::between(places.first(node), places.first(child));
             arcs.take(places.free(value));
-            for other in table.inputs_and_formals() {
+            for other in places.with_private_values(table) {
                 arcs.read(places.unequal(other, value));
             }
-            arcs.give(places.equal(table, name, value));
+            arcs.give(places.equal(name, value));
             self.write_transition(label(NEW, node, name), &arcs);
         }
     }
@@ -173,14 +175,14 @@ impl Builder<'_> {
         here: usize,
         on: usize,
     ) {
-        let (table, places) = (self.table, self.places);
-        for value in places.range(table, argument) {
+        let places = self.places;
+        for value in places.values_of(argument) {
             let mut arcs = Arcs::between(here, on);
             self.read_bound(&mut arcs, argument, value);
             if places.is_private(value) {
                 arcs.take(places.unequal(formal, value));
             }
-            arcs.give(places.equal(table, formal, value));
+            arcs.give(places.equal(formal, value));
             self.write_transition(label(COPY, node, formal), &arcs);
         }
     }
@@ -199,22 +201,19 @@ impl Builder<'_> {
         let mut moves = Arcs::between(sender, sender_on);
         moves.take(receiver);
         moves.give(receiver_on);
-        for i in places.common(table, pair.sending, pair.receiving) {
+        for i in places.common(pair.sending, pair.receiving) {
             let mut on_channel = moves;
             self.read_bound(&mut on_channel, pair.sending, i);
             self.read_bound(&mut on_channel, pair.receiving, i);
-            let sent_values = if pair.sent == pair.sending {
-                i..i + 1
-            } else {
-                places.range(table, pair.sent)
-            };
-            for j in sent_values {
+            let itself = pair.sent == pair.sending;
+            let sent_values = places.values_of(pair.sent).into_iter();
+            for j in sent_values.filter(|&j| !itself || j == i) {
                 let mut arcs = on_channel;
                 self.read_bound(&mut arcs, pair.sent, j);
                 if places.is_private(j) {
                     arcs.take(places.unequal(pair.received, j));
                 }
-                arcs.give(places.equal(table, pair.received, j));
+                arcs.give(places.equal(pair.received, j));
                 self.write_transition(label(COMMUNICATION, send, receive), &arcs);
             }
         }
@@ -223,7 +222,7 @@ impl Builder<'_> {
     /// Reads [name=value] if the name is bound.
     fn read_bound(&self, arcs: &mut Arcs, name: usize, value: usize) {
         if self.table.is_bound(name) {
-            arcs.read(self.places.equal(self.table, name, value));
+            arcs.read(self.places.equal(name, value));
         }
     }
 

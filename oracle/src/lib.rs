@@ -1,4 +1,4 @@
-//! A second reading of document 01 and of document 02's items 1 to 3: the table check, the
+//! A second reading of document 01 and of document 02's items 1 to 4: the table check, the
 //! rewriting of self-calls, the image builder and its size, firing, looking, replay, run, reading
 //! back, and the plain process, written from the documents and sharing no code with the project it
 //! is compared with.
@@ -24,6 +24,7 @@ pub mod places;
 pub mod process;
 pub mod program;
 pub mod random;
+pub mod reach;
 pub mod readback;
 pub mod rewrite;
 pub mod size;

@@ -1,8 +1,9 @@
 //! Document 01, "Places": which number each place has; document 02, item 3: how many private values
-//! there are.
+//! there are; item 4: which values have a place.
 
 use std::ops::Range;
 
+use crate::reach::{Reach, Values};
 use crate::table::{Node, Table};
 
 /// The numbers of an accepted table's places.
@@ -10,6 +11,9 @@ pub struct Places {
     publics: usize,
     /// N.
     privates: usize,
+    reach: Reach,
+    /// The values of each name, publics first.
+    values: Vec<Values>,
     /// The first place of each bound name's row, name P first.
     rows: Vec<usize>,
     /// [*≠n] of the first private value.
@@ -21,25 +25,23 @@ pub struct Places {
 }
 
 impl Places {
-    /// The places of an accepted table.
+    /// The places of an accepted table: "Per bound name in order: input or formal x has [x=v] for
+    /// the P+N values, then [x≠n] for N; restricted r has [r=n] for N. Then [\*≠n] for N. [...]
+    /// Then control places by node"; "Values outside a name's reach have no place" (document 02,
+    /// item 4).
     pub fn of(table: &Table) -> Places {
-        Places::with_privates(table, private_count(table))
-    }
-
-    /// The places with N private values: "Per bound name in order: input or formal x has [x=v] for
-    /// the P+N values, then [x≠n] for N; restricted r has [r=n] for N. Then [\*≠n] for N. [...] Then
-    /// control places by node".
-    pub(crate) fn with_privates(table: &Table, privates: usize) -> Places {
-        let publics = table.publics;
+        let (publics, privates) = (table.publics, private_count(table));
+        let reach = Reach::least(table);
+        let values_of = |name| reach.values_of(name, publics..publics + privates);
+        let values: Vec<Values> = (0..table.name_count()).map(values_of).collect();
         let mut next = 0;
         let mut rows = Vec::with_capacity(table.names.len());
         for name in table.bound_names() {
             rows.push(next);
-            next += if table.is_restricted(name) {
-                privates
-            } else {
-                publics + 2 * privates
-            };
+            next += values[name].len();
+            if !table.is_restricted(name) {
+                next += values[name].private_count();
+            }
         }
         let free = next;
         next += privates;
@@ -51,6 +53,8 @@ impl Places {
         Places {
             publics,
             privates,
+            reach,
+            values,
             rows,
             free,
             control,
@@ -58,22 +62,14 @@ impl Places {
         }
     }
 
-    /// "A bound input or formal ranges over all values, a restricted name over the private
-    /// ones, a public over itself."
-    pub fn range(&self, table: &Table, name: usize) -> Range<usize> {
-        if name < self.publics {
-            name..name + 1
-        } else if table.is_restricted(name) {
-            self.private_values()
-        } else {
-            self.values()
-        }
+    /// The values of a name, by its reach.
+    pub fn values_of(&self, name: usize) -> Values {
+        self.values[name]
     }
 
     /// "channel value i common to both".
-    pub fn common(&self, table: &Table, one: usize, other: usize) -> Range<usize> {
-        let (one, other) = (self.range(table, one), self.range(table, other));
-        one.start.max(other.start)..one.end.min(other.end)
+    pub fn common(&self, one: usize, other: usize) -> Values {
+        self.reach.common(one, other, self.private_values())
     }
 
     /// All values, publics first: P+N of them.
@@ -90,19 +86,21 @@ impl Places {
         value >= self.publics
     }
 
-    /// [name=value], of a bound name.
-    pub fn equal(&self, table: &Table, name: usize, value: usize) -> usize {
-        let row = self.rows[name - self.publics];
-        if table.is_restricted(name) {
-            row + value - self.publics
-        } else {
-            row + value
-        }
+    /// [name=value], of a bound name and a value of it.
+    pub fn equal(&self, name: usize, value: usize) -> usize {
+        self.rows[name - self.publics] + self.values[name].position(value)
     }
 
-    /// [name≠value], of an input or formal and a private value.
+    /// [name≠value], of an input or formal and a private value of it.
     pub fn unequal(&self, name: usize, value: usize) -> usize {
-        self.rows[name - self.publics] + self.privates + value
+        self.equal(name, value) + self.privates
+    }
+
+    /// The inputs and formals whose rows have private values.
+    pub fn with_private_values<'a>(&'a self, table: &'a Table) -> impl Iterator<Item = usize> + 'a {
+        table
+            .inputs_and_formals()
+            .filter(|&name| self.values[name].private_count() > 0)
     }
 
     /// [*≠value], of a private value.
@@ -123,7 +121,7 @@ impl Places {
     /// "Initially marked: every [x≠n], every [\*≠n], each entry root's first place." Ascending.
     pub fn initial(&self, table: &Table) -> Vec<usize> {
         let mut initial = Vec::new();
-        for name in table.inputs_and_formals() {
+        for name in self.with_private_values(table) {
             initial.extend(self.private_values().map(|value| self.unequal(name, value)));
         }
         initial.extend(self.private_values().map(|value| self.free(value)));

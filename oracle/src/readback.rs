@@ -141,9 +141,9 @@ impl Reader<'_> {
         }
         let mut values = Vec::new();
         for (name, held) in self.table.bound_names().zip(held) {
-            let range = self.places.range(self.table, name);
+            let values_of_name = self.places.values_of(name).into_iter();
             let equal = |&value: &usize| self.has_value(name, value);
-            let marked: Vec<usize> = range.filter(equal).collect();
+            let marked: Vec<usize> = values_of_name.filter(equal).collect();
             if marked.len() != usize::from(held) {
                 return None;
             }
@@ -153,15 +153,18 @@ impl Reader<'_> {
     }
 
     fn has_value(&self, name: usize, value: usize) -> bool {
-        self.is_marked(self.places.equal(self.table, name, value))
+        self.is_marked(self.places.equal(name, value))
     }
 
     /// "[x≠n] is marked exactly without [x=n], and [\*≠n] exactly when no restricted name has n;
-    /// two restricted names never share n."
+    /// two restricted names never share n." A name that does not reach n has neither place.
     fn counters_are_right(&self) -> bool {
         self.places.private_values().all(|value| {
             let mut holders = 0;
             for name in self.table.bound_names() {
+                if !self.places.values_of(name).contains(value) {
+                    continue;
+                }
                 let equal = self.has_value(name, value);
                 if self.table.is_restricted(name) {
                     holders += usize::from(equal);

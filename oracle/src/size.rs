@@ -1,8 +1,6 @@
 //! The counts of an image before it is written: how many transitions, inputs and outputs the
-//! rules of document 01, "Transitions", give. Within the table's bounds every sum stays below
-//! 2³².
-
-use std::ops::Range;
+//! rules of document 01, "Transitions", give, by the reach of document 02, item 4. Within the
+//! table's bounds every sum stays below 2³².
 
 use crate::places::Places;
 use crate::table::{accept, Branch, Node, Table};
@@ -14,16 +12,8 @@ pub fn size(words: &[u16]) -> Result<usize, u32> {
 
 /// How many words the image of an accepted table has.
 pub fn image_words(table: &Table) -> usize {
-    words_with(table, &Places::of(table))
-}
-
-/// How many words it would have with as many private values as bound names, which is no fewer.
-pub(crate) fn most_words(table: &Table) -> usize {
-    words_with(table, &Places::with_privates(table, table.names.len()))
-}
-
-fn words_with(table: &Table, places: &Places) -> usize {
-    Size::of(table, places).image_words(places.initial(table).len())
+    let places = Places::of(table);
+    Size::of(table, &places).image_words(places.initial(table).len())
 }
 
 #[derive(Clone, Copy, Debug, Default, PartialEq, Eq)]
@@ -68,8 +58,8 @@ impl Size {
     /// [*≠v].
     fn add_releases(&mut self, table: &Table, places: &Places, node: usize) {
         for &name in &table.held[node] {
-            let values = places.range(table, name);
-            self.outputs += private_among(places, &values);
+            let values = places.values_of(name);
+            self.outputs += values.private_count();
             self.add(values.len(), 2, 1);
         }
     }
@@ -82,7 +72,7 @@ impl Size {
 
     /// Inputs [*≠n], the reads and the node; outputs [r=n], the reads and the next place.
     fn add_news(&mut self, table: &Table, places: &Places) {
-        let reads = table.inputs_and_formals().count();
+        let reads = places.with_private_values(table).count();
         self.add(places.private_values().len(), reads + 2, reads + 2);
     }
 
@@ -91,9 +81,9 @@ impl Size {
     fn add_call(&mut self, table: &Table, places: &Places, node: usize) {
         self.add(1, 1, 1);
         for &argument in &table.arguments[table.argument_range(node)] {
-            let values = places.range(table, argument);
+            let values = places.values_of(argument);
             let reads = usize::from(table.is_bound(argument));
-            self.inputs += private_among(places, &values);
+            self.inputs += values.private_count();
             self.add(values.len(), reads + 1, reads + 2);
         }
         self.add_releases(table, places, node);
@@ -105,25 +95,18 @@ impl Size {
         let Some(pair) = table.pair(send, receive) else {
             return;
         };
-        let common = places.common(table, pair.sending, pair.receiving);
+        let common = places.common(pair.sending, pair.receiving);
         let bound = |name: usize| usize::from(table.is_bound(name));
         let mut reads = bound(pair.sending) + bound(pair.receiving);
         let mut count = common.len();
-        let mut private = private_among(places, &common);
+        let mut private = common.private_count();
         if pair.sent != pair.sending {
-            let sent_values = places.range(table, pair.sent);
+            let sent_values = places.values_of(pair.sent);
             reads += bound(pair.sent);
             count = common.len() * sent_values.len();
-            private = common.len() * private_among(places, &sent_values);
+            private = common.len() * sent_values.private_count();
         }
         self.inputs += private;
         self.add(count, reads + 2, reads + 3);
     }
-}
-
-/// How many values of a range are private.
-fn private_among(places: &Places, values: &Range<usize>) -> usize {
-    values
-        .end
-        .saturating_sub(values.start.max(places.private_values().start))
 }

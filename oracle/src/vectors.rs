@@ -3,9 +3,11 @@
 
 mod answers;
 mod count;
+mod drawing;
 mod foreign;
 mod markings;
 mod play;
+mod reaching;
 mod requests;
 mod rewriting;
 mod self_calls;
@@ -14,6 +16,7 @@ mod worked;
 
 pub use answers::answers;
 pub use count::counts;
+pub use reaching::reaching;
 pub use requests::{requests, rewriting_requests};
 pub use self_calls::SELF_CALL_SHAPES;
-pub use shapes::VALUE_SHAPES;
+pub use shapes::{REACH_SHAPES, VALUE_SHAPES};

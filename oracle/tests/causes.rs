@@ -191,7 +191,7 @@ fn cause_10_leaves_the_output() {
     assert_eq!(labels, [2, 0, 1, 6]);
     // 10 is last.
     assert_eq!(read(&E, &marking[1..], &mut []), Err(13));
-    assert_eq!(read(&E, &[0; 16], &mut []), Err(17));
+    assert_eq!(read(&E, &[0; 15], &mut []), Err(17));
     assert_eq!(open_steps(&E, &first[1..], &mut []), Err(18));
     assert_eq!(step(&E, &first[1..], 2, 0, 1, &mut []), Err(18));
     assert_eq!(step(&E, &first, 4, 0, 1, &mut []), Err(19));
@@ -205,17 +205,17 @@ fn cause_17_is_each_clause() {
     let mut state = [4; 4];
     assert_eq!(read(&E, &marking, &mut state), Ok(4));
     let flips: [&[usize]; 11] = [
-        &[10],     // no control place
-        &[9],      // two control places
-        &[0, 7],   // a held name without a value
-        &[1, 8],   // two values
-        &[2],      // a value of a name not held
-        &[3, 5],   // the same, private
-        &[0],      // [r=n] and [*≠n] both empty
-        &[7],      // both marked
-        &[5],      // [x≠n] empty without [x=n]
-        &[11],     // a chain place of the same thread
-        &[10, 12], // the final place holds nothing
+        &[9],     // no control place
+        &[8],     // two control places
+        &[0, 6],  // a held name without a value
+        &[1, 7],  // two values
+        &[2],     // a value of a name not held
+        &[2, 4],  // the same, with its [x≠n] empty
+        &[0],     // [r=n] and [*≠n] both empty
+        &[6],     // both marked
+        &[4],     // [x≠n] empty without [x=n]
+        &[10],    // a chain place of the same thread
+        &[9, 11], // the final place holds nothing
     ];
     for places in flips {
         let mut wrong = marking.clone();
@@ -228,8 +228,8 @@ fn cause_17_is_each_clause() {
     }
     // The Stop's release place holds r, which is not in the state.
     let mut stopping = marking.clone();
-    stopping[10] = 0;
-    stopping[11] = 1;
+    stopping[9] = 0;
+    stopping[10] = 1;
     assert_eq!(read(&E, &stopping, &mut state), Ok(4));
     assert_eq!(state, [2, 3, 65535, 65535]);
 }

@@ -23,23 +23,23 @@ fn all_refuse(image: &[u32], marking: &[u8], number: u32, cause: u32) {
 fn cause_11_is_each_header_word_and_the_initial_list() {
     let image = image_of(&E);
     let marking = initial_of(&image);
-    let mut wrong: Vec<Vec<u32>> = vec![vec![], image[..7].to_vec(), image[..114].to_vec()];
+    let mut wrong: Vec<Vec<u32>> = vec![vec![], image[..7].to_vec(), image[..105].to_vec()];
     wrong.push([&image[..], &[0]].concat());
     for (at, word) in [
-        (1, 8),
+        (1, 7),
         (1, u32::MAX),
-        (2, 25),
+        (2, 23),
         (2, u32::MAX),
         (3, u32::MAX),
         (4, 5),
         (4, u32::MAX),
         (5, 9),
         (6, 15),
-        (7, 67),
-        (0, 13),
-        (8, 6),
-        (9, 5),
-        (13, 16),
+        (7, 61),
+        (0, 12),
+        (8, 5),
+        (9, 4),
+        (13, 15),
         (13, u32::MAX),
     ] {
         let mut words = image.clone();
@@ -77,9 +77,9 @@ fn cause_13_is_the_length_and_the_bytes() {
         cause: 13,
         firings: None,
     };
-    let mut short = vec![4; 15];
+    let mut short = vec![4; 14];
     assert_eq!(replay(&image, &mut short, &[99]), Err(alone));
-    assert_eq!(short, [4; 15]);
+    assert_eq!(short, [4; 14]);
     // A replay looks at the length alone.
     assert_eq!(replay(&image, &mut marking, &[0]), Ok(1));
 }

@@ -42,45 +42,45 @@ fn refused(image: &[u32], marking: &[u8], number: u32, room: usize, cause: u32) 
 fn table_e_is_looked_at_before_its_run() {
     let (image, mut marking) = e();
     let left = [
-        (0, [1, 0, 0, 0, 0, 1, 1, 0, 1, 0, 1, 0, 0, 1, 0, 0]),
-        (7, [1, 0, 0, 1, 0, 0, 1, 0, 1, 0, 0, 1, 0, 0, 1, 0]),
-        (2, [0, 0, 0, 1, 0, 0, 1, 1, 1, 0, 0, 0, 1, 0, 1, 0]),
-        (5, [0, 0, 0, 0, 0, 1, 1, 1, 1, 0, 0, 0, 1, 0, 0, 1]),
+        (0, [1, 0, 0, 0, 1, 1, 0, 1, 0, 1, 0, 0, 1, 0, 0]),
+        (6, [1, 0, 1, 0, 0, 1, 0, 1, 0, 0, 1, 0, 0, 1, 0]),
+        (2, [0, 0, 1, 0, 0, 1, 1, 1, 0, 0, 0, 1, 0, 1, 0]),
+        (4, [0, 0, 0, 0, 1, 1, 1, 1, 0, 0, 0, 1, 0, 0, 1]),
     ];
     for (number, next) in left {
         assert_eq!(
-            looked(&image, &marking, number, 16),
-            (Ok(16), next.to_vec())
+            looked(&image, &marking, number, 15),
+            (Ok(15), next.to_vec())
         );
         fire(&image, &mut marking, number).unwrap();
         assert_eq!(marking, next);
         // The token has gone on.
-        refused(&image, &marking, number, 16, 15);
+        refused(&image, &marking, number, 15, 15);
     }
 }
 
 #[test]
 fn table_e_is_refused_as_a_firing_is() {
     let (image, marking) = e();
-    refused(&image, &marking, 7, 16, 15);
-    refused(&image, &marking, 9, 16, 14);
-    refused(&image, &marking, u32::MAX, 16, 14);
-    refused(&image[..114], &marking, 0, 16, 11);
-    refused(&image, &marking[1..], 0, 16, 13);
+    refused(&image, &marking, 6, 15, 15);
+    refused(&image, &marking, 8, 15, 14);
+    refused(&image, &marking, u32::MAX, 15, 14);
+    refused(&image[..105], &marking, 0, 15, 11);
+    refused(&image, &marking[1..], 0, 15, 13);
 }
 
 #[test]
 fn the_room_holds_the_places_exactly_or_more() {
     let (image, marking) = e();
-    for room in 0..16 {
+    for room in 0..15 {
         refused(&image, &marking, 1, room, 10);
     }
-    let (_, exact) = looked(&image, &marking, 1, 16);
+    let (_, exact) = looked(&image, &marking, 1, 15);
     for more in [1, 2, 100] {
-        let (answer, next) = looked(&image, &marking, 1, 16 + more);
-        assert_eq!(answer, Ok(16));
-        assert_eq!(next[..16], exact);
-        assert!(next[16..].iter().all(|&byte| byte == LENT));
+        let (answer, next) = looked(&image, &marking, 1, 15 + more);
+        assert_eq!(answer, Ok(15));
+        assert_eq!(next[..15], exact);
+        assert!(next[15..].iter().all(|&byte| byte == LENT));
     }
 }
 
@@ -88,45 +88,48 @@ fn the_room_holds_the_places_exactly_or_more() {
 #[test]
 fn the_causes_come_in_their_order() {
     let (mut image, mut marking) = e();
-    let (initial, arc_start) = (8, 14 + 6 * 7 + 3);
+    let (initial, arc_start) = (8, 14 + 6 * 6 + 3);
     let (first, start) = (image[initial], image[arc_start]);
-    image[initial] = 6;
-    image[arc_start] = 67;
-    marking[12] = 2;
-    marking[3] = 1;
-    let mut number = 9;
+    // The places of [r=1], node 1, node 2's end and [x=1].
+    let (made, standing, ended, received) = (0, 9, 11, 2);
+    image[initial] = image[initial + 1];
+    image[arc_start] = image[7] - 1;
+    marking[ended] = 2;
+    marking[received] = 1;
+    let mut number = 8;
     let mut met = Vec::new();
     loop {
-        let (answer, next) = looked(&image, &marking, number, 15);
-        assert_eq!(next, [LENT; 15]);
+        let (answer, next) = looked(&image, &marking, number, 14);
+        assert_eq!(next, [LENT; 14]);
         let cause = answer.unwrap_err();
         met.push(cause);
         match cause {
             11 => image[initial] = first,
-            13 => marking[12] = 0,
-            14 => number = 7,
+            13 => marking[ended] = 0,
+            14 => number = 6,
             12 => image[arc_start] = start,
             15 => {
-                marking[0] = 1;
-                marking[10] = 1;
+                marking[made] = 1;
+                marking[standing] = 1;
             }
-            16 => marking[3] = 0,
+            16 => marking[received] = 0,
             _ => break,
         }
+        assert!(met.len() <= CAUSES.len());
     }
     assert_eq!(met, CAUSES);
-    assert_eq!(looked(&image, &marking, number, 16).0, Ok(16));
+    assert_eq!(looked(&image, &marking, number, 15).0, Ok(15));
 }
 
 #[test]
 fn cause_13_is_the_length_and_the_bytes() {
     let (image, marking) = e();
     refused(&image, &[], 99, 0, 13);
-    refused(&image, &marking[..15], 99, 0, 13);
+    refused(&image, &marking[..14], 99, 0, 13);
     refused(&image, &[&marking[..], &[0]].concat(), 99, 0, 13);
     for byte in [2, 3, 170, 255] {
         let mut wrong = marking.clone();
-        wrong[15] = byte;
+        wrong[14] = byte;
         refused(&image, &wrong, 99, 0, 13);
     }
 }

@@ -2,7 +2,7 @@
 
 mod common;
 
-use common::{image_of, private_count, Net};
+use common::{image_of, private_count, reaches, values_in, Net};
 use oracle::generate::{accepted, Shape};
 use oracle::random::Random;
 use oracle::table::{accept, Branch, NameKind, Node, Table};
@@ -194,16 +194,23 @@ fn check_image(net: &Net) {
     assert_eq!(image.len() as u32, at);
 }
 
-/// "(I+F)P + (2I+2F+R+1)N" value places, and the control places by node.
-fn check_places(net: &Net) {
+/// A place for each value of each name, [x≠n] for the private ones of an input or formal, [*≠n],
+/// and the control places by node.
+fn check_places(net: &Net, random: &mut Random) {
     let table = &net.table;
-    let restricted = table
-        .names
-        .iter()
-        .filter(|&&kind| kind == NameKind::Restricted)
-        .count();
-    let (n, others) = (private_count(table), table.names.len() - restricted);
-    let values = others * table.publics + (2 * others + restricted + 1) * n;
+    let n = private_count(table);
+    let sets = reaches(table, random);
+    let mut tokens = n + table.entries.len();
+    let mut values = n;
+    for name in table.bound_names() {
+        let own = values_in(table, &sets[name]);
+        let private = own.iter().filter(|&&value| value >= table.publics).count();
+        values += own.len();
+        if !table.is_restricted(name) {
+            values += private;
+            tokens += private;
+        }
+    }
     assert_eq!(net.places.first(0), values);
     let control: usize = (0..table.nodes.len())
         .map(|node| match table.nodes[node] {
@@ -213,7 +220,7 @@ fn check_places(net: &Net) {
         })
         .sum();
     assert_eq!(net.image[0] as usize, values + control);
-    assert_eq!(net.image[4] as usize, others * n + n + table.entries.len());
+    assert_eq!(net.image[4] as usize, tokens);
 }
 
 fn within_fourth_power(words: &[u16], image_words: usize) -> bool {
@@ -232,7 +239,7 @@ fn images_are_well_formed_and_within_the_fourth_power() {
         };
         let net = Net::of(accepted(&mut random, shape));
         check_image(&net);
-        check_places(&net);
+        check_places(&net, &mut random);
         assert!(within_fourth_power(&net.words, net.image.len()));
         let mut short = vec![5; net.image.len() - 1];
         assert_eq!(build(&net.words, &mut short), Err(10));

@@ -259,6 +259,9 @@ fn spoilt_states_are_refused_or_go_on() {
                 Ok(_) => check_labels(&net, &spoilt, &mut random),
             }
             check_labels(&net, &state, &mut random);
+            let in_net =
+                |&label: &Label| (0..net.image[1]).any(|number| net.label(number) == label);
+            assert!(net.open_labels(&state).iter().all(in_net));
             let Some(label) = random.pick(&net.open_labels(&state)) else {
                 break;
             };
@@ -269,12 +272,17 @@ fn spoilt_states_are_refused_or_go_on() {
     println!("{refused} refused, {stepped} stepped");
 }
 
-/// The open labels are taken, in strictly rising order; others are refused by 19.
+/// The open labels are taken, in strictly rising order by node and then by send and receive; others
+/// are refused by 19. A state that cannot be reached may have open labels that the net has not.
 fn check_labels(net: &Net, state: &[u16], random: &mut Random) {
     let open = net.open_labels(state);
-    let in_net = |label: Label| (0..net.image[1]).position(|number| net.label(number) == label);
-    let order: Vec<Option<usize>> = open.iter().map(|&label| in_net(label)).collect();
-    assert!(order.iter().all(Option::is_some) && order.windows(2).all(|pair| pair[0] < pair[1]));
+    let rank = |&[kind, a, b]: &Label| match kind {
+        3 => [0, net.table.standing[a as usize], a as usize],
+        4 => [1, a as usize, b as usize],
+        _ => [0, a as usize, 0],
+    };
+    let order: Vec<[usize; 3]> = open.iter().map(rank).collect();
+    assert!(order.windows(2).all(|pair| pair[0] < pair[1]));
     for &label in &open {
         let next = net.step(state, label);
         assert!(open_steps(&net.words, &next, &mut [0; 4096]).is_ok());

@@ -7,7 +7,7 @@ use std::collections::HashMap;
 
 use common::E;
 use oracle::vectors::{answers, counts, requests, rewriting_requests};
-use oracle::vectors::{SELF_CALL_SHAPES, VALUE_SHAPES};
+use oracle::vectors::{REACH_SHAPES, SELF_CALL_SHAPES, VALUE_SHAPES};
 
 /// How many bytes of its input the program crates/vectors reads.
 const READ: usize = 1_048_576;
@@ -29,7 +29,7 @@ fn sizes_are_told_of_the_table_alone() {
     let table: Vec<String> = E.iter().map(u16::to_string).collect();
     let table = table.join(" ");
     let asked = format!("z\nt {table}\nz\nb 0\nz\nw 1 2 3\nz\nt 33 {table}\nz\n");
-    let told = "z 1 0\nt 0\nz 0 115\nb 10 0 0:\nz 0 115\nw 3\nz 0 115\nt 2\nz 2 0\n";
+    let told = "z 1 0\nt 0\nz 0 106\nb 10 0 0:\nz 0 106\nw 3\nz 0 106\nt 2\nz 2 0\n";
     assert_eq!(answers(&asked), Ok(told.to_string()));
 }
 
@@ -146,9 +146,9 @@ fn a_number_is_read_back_by_its_kind() {
 }
 
 #[test]
-fn the_number_of_private_values_is_set_in_every_way() {
+fn values_are_set_and_reached_in_every_way() {
     let counts = counts(&requests()).unwrap();
-    for shape in VALUE_SHAPES {
+    for shape in VALUE_SHAPES.into_iter().chain(REACH_SHAPES) {
         let found = format!("shape {shape} ");
         let count = counts.lines().find_map(|line| line.strip_prefix(&found));
         let count: usize = count.map_or(0, |count| count.parse().unwrap());

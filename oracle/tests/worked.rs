@@ -1,5 +1,5 @@
-//! Document 01's worked examples: table E, its image, listing, firings, run, states, and the
-//! starred cases.
+//! Document 01's worked examples as document 02, item 4, leaves them: table E, its image, listing,
+//! firings, run, states, and the starred cases.
 
 mod common;
 
@@ -12,39 +12,36 @@ const STOPPED: [u16; 21] = [
 ];
 
 const E_LISTING: &str = "\
-16 9 24 23 6
-0 2 0 1 : 5 7 9 > 0 5 10
-1 2 0 1 : 6 8 9 > 1 6 10
-2 1 2 1 : 0 11 > 7 12
-3 1 2 1 : 1 11 > 8 12
-4 1 4 2 : 2 14 > 15
-5 1 4 2 : 3 14 > 5 15
-6 1 4 2 : 4 14 > 6 15
-7 4 0 1 : 0 5 10 13 > 0 3 11 14
-8 4 0 1 : 1 6 10 13 > 1 4 11 14
+15 8 22 22 6
+0 2 0 1 : 4 6 8 > 0 4 9
+1 2 0 1 : 5 7 8 > 1 5 9
+2 1 2 1 : 0 10 > 6 11
+3 1 2 1 : 1 10 > 7 11
+4 1 4 2 : 2 13 > 4 14
+5 1 4 2 : 3 13 > 5 14
+6 4 0 1 : 0 4 9 12 > 0 2 10 13
+7 4 0 1 : 1 5 9 12 > 1 3 10 13
 ";
 
-const E_IMAGE: [u32; 115] = [
-    16, 9, 24, 23, 6, 8, 14, 68, // header
-    5, 6, 7, 8, 9, 13, // initial places
-    2, 0, 1, 68, 3, 3, // records
-    2, 0, 1, 74, 3, 3, //
-    1, 2, 1, 80, 2, 2, //
-    1, 2, 1, 84, 2, 2, //
-    1, 4, 2, 88, 2, 1, //
-    1, 4, 2, 91, 2, 2, //
-    1, 4, 2, 95, 2, 2, //
-    4, 0, 1, 99, 4, 4, //
-    4, 0, 1, 107, 4, 4, //
-    5, 7, 9, 0, 5, 10, // arcs
-    6, 8, 9, 1, 6, 10, //
-    0, 11, 7, 12, //
-    1, 11, 8, 12, //
-    2, 14, 15, //
-    3, 14, 5, 15, //
-    4, 14, 6, 15, //
-    0, 5, 10, 13, 0, 3, 11, 14, //
-    1, 6, 10, 13, 1, 4, 11, 14, //
+const E_IMAGE: [u32; 106] = [
+    15, 8, 22, 22, 6, 8, 14, 62, // header
+    4, 5, 6, 7, 8, 12, // initial places
+    2, 0, 1, 62, 3, 3, // records
+    2, 0, 1, 68, 3, 3, //
+    1, 2, 1, 74, 2, 2, //
+    1, 2, 1, 78, 2, 2, //
+    1, 4, 2, 82, 2, 2, //
+    1, 4, 2, 86, 2, 2, //
+    4, 0, 1, 90, 4, 4, //
+    4, 0, 1, 98, 4, 4, //
+    4, 6, 8, 0, 4, 9, // arcs
+    5, 7, 8, 1, 5, 9, //
+    0, 10, 6, 11, //
+    1, 10, 7, 11, //
+    2, 13, 4, 14, //
+    3, 13, 5, 14, //
+    0, 4, 9, 12, 0, 2, 10, 13, //
+    1, 5, 9, 12, 1, 3, 10, 13, //
 ];
 
 fn bytes(words: &[u16]) -> Vec<u8> {
@@ -85,9 +82,9 @@ fn step_of(table: &[u16], state: &[u16], [kind, a, b]: [u32; 3]) -> Vec<u16> {
 fn table_e_is_accepted_and_builds_its_image() {
     assert_eq!(check(&E), 0);
     let mut out = [9; 120];
-    assert_eq!(build(&E, &mut out), Ok(115));
-    assert_eq!(out[..115], E_IMAGE);
-    assert_eq!(out[115..], [9; 5]);
+    assert_eq!(build(&E, &mut out), Ok(106));
+    assert_eq!(out[..106], E_IMAGE);
+    assert_eq!(out[106..], [9; 14]);
 }
 
 #[test]
@@ -96,14 +93,14 @@ fn table_e_has_its_listing() {
 }
 
 #[test]
-fn table_e_needs_115_words() {
-    assert_eq!(size(&E), Ok(115));
-    let mut out = [3; 115];
-    assert_eq!(build(&E, &mut out), Ok(115));
+fn table_e_needs_106_words() {
+    assert_eq!(size(&E), Ok(106));
+    let mut out = [3; 106];
+    assert_eq!(build(&E, &mut out), Ok(106));
     assert_eq!(out, E_IMAGE);
-    let mut short = [3; 114];
+    let mut short = [3; 105];
     assert_eq!(build(&E, &mut short), Err(10));
-    assert_eq!(short, [3; 114]);
+    assert_eq!(short, [3; 105]);
 }
 
 #[test]
@@ -131,8 +128,8 @@ fn the_stopped_table_builds_its_nine_words() {
 fn table_e_fires_as_starred() {
     let image = image_of(&E);
     let initial = initial_of(&image);
-    assert_eq!(initial, [0, 0, 0, 0, 0, 1, 1, 1, 1, 1, 0, 0, 0, 1, 0, 0]);
-    for (number, cause) in [(7, 15), (9, 14), (u32::MAX, 14)] {
+    assert_eq!(initial, [0, 0, 0, 0, 1, 1, 1, 1, 1, 0, 0, 0, 1, 0, 0]);
+    for (number, cause) in [(6, 15), (8, 14), (u32::MAX, 14)] {
         let mut marking = initial.clone();
         let refusal = Refusal {
             cause,
@@ -158,7 +155,7 @@ fn table_e_runs_as_starred() {
         firings: 4,
     };
     assert_eq!(run(&image, &mut marking, 5, &mut history), Ok(answer));
-    assert_eq!(history, [0, 7, 2, 5, 77]);
+    assert_eq!(history, [0, 6, 2, 4, 77]);
     let ended = marking.clone();
 
     let mut marking = initial_of(&image);
@@ -168,7 +165,7 @@ fn table_e_runs_as_starred() {
         firings: 4,
     };
     assert_eq!(run(&image, &mut marking, 4, &mut history), Ok(answer));
-    assert_eq!(history, [0, 7, 2, 5, 77]);
+    assert_eq!(history, [0, 6, 2, 4, 77]);
     assert_eq!(marking, ended);
 
     let mut marking = initial_of(&image);
@@ -178,10 +175,10 @@ fn table_e_runs_as_starred() {
         firings: 3,
     };
     assert_eq!(run(&image, &mut marking, 4, &mut history), Ok(answer));
-    assert_eq!(history, [0, 7, 2]);
+    assert_eq!(history, [0, 6, 2]);
 
-    let mut marking = vec![5; 16];
-    assert_eq!(replay(&image, &mut marking, &[0, 7, 2, 5]), Ok(4));
+    let mut marking = vec![5; 15];
+    assert_eq!(replay(&image, &mut marking, &[0, 6, 2, 4]), Ok(4));
     assert_eq!(marking, ended);
 }
 
@@ -192,9 +189,9 @@ fn table_e_reads_back_along_its_run() {
     assert_eq!(state_of(&E, &marking), [0, 3, 65535, 65535]);
     let states = [
         (0, [1, 3, 1, 65535]),
-        (7, [2, 4, 65535, 65535]),
+        (6, [2, 4, 65535, 65535]),
         (2, [2, 4, 65535, 65535]),
-        (5, [2, 4, 65535, 65535]),
+        (4, [2, 4, 65535, 65535]),
     ];
     for (number, state) in states {
         assert_eq!(fire(&image, &mut marking, number), Ok(()));
@@ -244,17 +241,16 @@ fn a_call_into_a_stop_body_has_its_listing() {
         1, // arguments
     ];
     let text = "\
-15 10 23 22 5
-0 2 0 1 : 5 7 9 > 0 5 10
-1 2 0 1 : 6 8 9 > 1 6 10
-2 5 1 0 : 10 > 11
-3 0 1 2 : 0 5 11 > 0 3 12
-4 0 1 2 : 1 6 11 > 1 4 12
-5 1 1 1 : 0 12 > 7 13
-6 1 1 1 : 1 12 > 8 13
-7 1 2 2 : 2 13 > 14
-8 1 2 2 : 3 13 > 5 14
-9 1 2 2 : 4 13 > 6 14
+14 9 21 21 5
+0 2 0 1 : 4 6 8 > 0 4 9
+1 2 0 1 : 5 7 8 > 1 5 9
+2 5 1 0 : 9 > 10
+3 0 1 2 : 0 4 10 > 0 2 11
+4 0 1 2 : 1 5 10 > 1 3 11
+5 1 1 1 : 0 11 > 6 12
+6 1 1 1 : 1 11 > 7 12
+7 1 2 2 : 2 12 > 4 13
+8 1 2 2 : 3 12 > 5 13
 ";
     assert_eq!(listing(&bytes(&words)), text);
     let image = image_of(&words);
@@ -264,7 +260,7 @@ fn a_call_into_a_stop_body_has_its_listing() {
         (2, [2, 65535, 65535]),
         (4, [2, 65535, 65535]),
         (6, [2, 65535, 65535]),
-        (9, [2, 65535, 65535]),
+        (8, [2, 65535, 65535]),
     ];
     for (number, state) in states {
         assert_eq!(fire(&image, &mut marking, number), Ok(()));
@@ -289,25 +285,25 @@ fn a_name_sent_on_itself_has_one_value() {
         2, 2, 4, 1, 2, 1, 1, 3, 1, 0, 0, 0, // nodes 3 to 6
         2, 0, 1, 1, 1, 1, 1, 2, 1, 0, 2, 5, 2, 2, 3, 6, // branches
     ];
-    // Rows: x 0–3 and 4–6, r 7–9, y 10–13 and 14–16, [*≠n] 17–19. Control by node: 20; 21; 22 23;
-    // 24; 25; 26; 27 28 29.
+    // Rows: x 0–2 and 3–5, r 6–8, y 9–11 and 12–14, [*≠n] 15–17. Control by node: 18; 19; 20 21;
+    // 22; 23; 24; 25 26 27.
     let text = listing(&bytes(&words));
     let lines: Vec<&str> = text.lines().collect();
-    assert!(lines[0].starts_with("30 "));
+    assert!(lines[0].starts_with("28 "));
     let sends: Vec<&&str> = lines
         .iter()
         .filter(|line| line.contains(" 4 1 3 : "))
         .collect();
-    // Channel x (any value) and r (private): i = 1, 2, 3 in common, j = i.
+    // Channels x and r both reach r: i = 1, 2, 3 in common, j = i.
     assert_eq!(sends.len(), 3);
-    assert!(sends[0].ends_with(" 4 1 3 : 1 7 14 21 26 > 1 7 11 22 27"));
-    assert!(sends[2].ends_with(" 4 1 3 : 3 9 16 21 26 > 3 9 13 22 27"));
+    assert!(sends[0].ends_with(" 4 1 3 : 0 6 12 19 24 > 0 6 9 20 25"));
+    assert!(sends[2].ends_with(" 4 1 3 : 2 8 14 19 24 > 2 8 11 20 25"));
     let handed: Vec<&&str> = lines
         .iter()
         .filter(|line| line.contains(" 4 2 0 : "))
         .collect();
     assert_eq!(handed.len(), 3);
-    assert!(handed[1].ends_with(" 4 2 0 : 5 8 20 25 > 2 8 21 26"));
+    assert!(handed[1].ends_with(" 4 2 0 : 4 7 18 23 > 1 7 19 24"));
     // Branches 0 and 1 are of one thread, 2 and 3 of the other.
     assert!(!text.contains(" 4 1 0 : ") && !text.contains(" 4 2 3 : "));
 }

@@ -24,9 +24,9 @@ use Rattle.places.specs.Inner.Plan.{today, privatesOf, Holds, Differs}
 use Rattle.builder.specs.Inner.Parts.{Chained, ofTable, put, state, arrow}
 use Rattle.builder.specs.declared.chain.Chain.{Chain}
 use Rattle.builder.specs.declared.write.Heads.{Heads}
-use Rattle.places.proofs.Today.{private-reached}
+use Rattle.places.proofs.ReachRows.{private-reach}
 use Rattle.places.proofs.ByKind.{on-chain, on-next, value-exists}
-use Rattle.places.proofs.Names.{held-value}
+use Rattle.places.proofs.Names.{private-held, held-value}
 use Rattle.places.proofs.Explicit.{releasing-inputs, releasing-gives, releasing-public}
 use Rattle.builder.proofs.Writing.{put-cons, put-none, put-length}
 use Rattle.places.proofs.Controls.{nodes-are, publics-are, bounds-are, control-few, control-last}
@@ -67,7 +67,7 @@ module _ (w : List ℕ) where
   pub has-difference : (x v : ℕ) → Differs w x v → Exists S U (differs x v)
   has-difference x v h =
       has-differs {v = v} (bound-name x (h .low) (h .high)) (h .free) (private-value v (h .private) (h .value))
-      (private-reached S x v (omega (arith, publics-are w, h .private)))
+      (private-reach S x v (omega (arith, publics-are w, h .private)) ∙ h .reads)
 
   pub has-free-value : (v : ℕ) → publics w ≤ v → v < publics w + privatesOf w → Exists S U (free v)
   has-free-value v l h = has-free (private-value v l h)
@@ -109,7 +109,7 @@ module _ (w : List ℕ) where
 
     -- ---- "release z=v: take [z=v]; give [z≠v] (v private), or [*≠v] if z is restricted; on."
 
-    module _ (z v : ℕ) (holds : Holds w z v) (a e : ℕ) (is-a : a ≡ numberOf S U (equals z v))
+    module _ (ok : cause w ≡ 0) (z v : ℕ) (holds : Holds w z v) (a e : ℕ) (is-a : a ≡ numberOf S U (equals z v))
         (is-e : e ≡ pick (ltb (k + 1) (c .controls)) (c .first + k + 1) (c .last)) where
       taken : ofTable w (releasing S U (c .node) (c .to) k z v) .inputs ≡ a ∷ (c .first + k) ∷ []
       taken = releasing-inputs S U (c .node) (c .to) k z v (has-value z v holds) own-place ∙ rw (is-a, own-number)
@@ -129,11 +129,18 @@ module _ (w : List ℕ) where
           rw (taken, o, is-d, is-e, p .number)
         where
           u : v < publics w + privatesOf w
-          u = held-value w z v holds
+          u = held-value w ok z v holds
 
           there : (b : Bool) → S .restricted z ≡ b → Exists S U (pick b (free v) (differs z v))
           there true r = has-free-value v l u
-          there false r = has-difference z v record { low = holds .low; high = holds .high; free = r; private = l; value = u }
+          there false r = has-difference z v record {
+            low = holds .low;
+            high = holds .high;
+            free = r;
+            reads = private-held w ok z v (holds .value) l;
+            private = l;
+            value = u;
+          }
 
   module _ (h : cause w ≡ 0) (c : Chain) (k : Chained w c) where
     pub chain-few : (c .first + c .controls ≤ 65535) × (c .last < 65536)

@@ -2,25 +2,21 @@
 use mathlib.Core.Path.{_≡_, ap, _∙_}
 use mathlib.Core.Bool.{false}
 use mathlib.Core.List.{List, [], _∷_, _++_}
-use Prim.Native.Nat.{ℕ, _+_, _≤_, _<_}
-use native.Mathlib.Decide.{decLt}
+use Prim.Native.Nat.{ℕ, _≤_, _<_}
 use native.Mathlib.Omega.{arith}
-use lib.Dec.{ltb}
 use lib.ListN
-use borrow.Author.Tests.{lt-ltb, le-ltb}
-use Rattle.lists.specs.Lists.{pick}
-use Rattle.scheme.specs.Words.{publics, names}
+use Rattle.scheme.specs.Words.{publics}
 use Rattle.scheme.specs.Scheme.{Scheme, scheme}
+use Rattle.table.specs.Causes.{cause}
 use Rattle.places.specs.Values.{Values}
 use Rattle.places.specs.Places.{Place, equals, differs, control}
 use Rattle.places.specs.Transitions.{take, copying}
 use Rattle.places.specs.Inner.Arcs.{takenPlaces, givenPlaces, exists, numbersOf}
-use Rattle.places.specs.Inner.Spans.{firstValue, endValue}
-use Rattle.places.specs.Inner.Plan.{today, privatesOf, Holds, Reads}
+use Rattle.places.specs.Inner.Plan.{today, Holds, Reads, Differs}
 use Rattle.builder.specs.Inner.Parts.{Chained, Filled, ofTable, arrow}
 use Rattle.builder.specs.declared.chain.Chain.{Chain}
 use Rattle.places.proofs.Arcs.{inputs-named, outputs-named}
-use Rattle.places.proofs.Spans.{value-member, member-value}
+use Rattle.places.proofs.Names.{private-held, held-value}
 use Rattle.places.proofs.Split.{numbers-tail, numbers-swap}
 use Rattle.places.proofs.ByKind.{on-left, equals-public, differs-public}
 use Rattle.places.proofs.Controls.{publics-are}
@@ -35,34 +31,18 @@ module _ (w : List ℕ) where
 
   -- ---- the value that is copied
 
-  end-few : (x : ℕ) → x < names w → endValue S x ≤ publics w + privatesOf w
-  unfolding endValue
-  end-few x h = go (decLt x (S .publics))
-    where
-      go : Dec (x < S .publics) → pick (ltb x (S .publics)) (x + 1) (S .publics + U .privates) ≤ publics w + privatesOf w
-      go (yes l) = rw (lt-ltb x (S .publics) l) (omega (arith, publics-are w))
-      go (no l) = rw (le-ltb x (S .publics) (omega arith)) (omega (arith, publics-are w))
-
-  pub read-few : (a v : ℕ) → Reads w a v → v < publics w + privatesOf w
-  read-few a v r = omega (arith, value-member S a v (r .value), end-few a (r .high))
-
   pub read-holds : (a v : ℕ) → publics w ≤ a → Reads w a v → Holds w a v
   read-holds a v l r = record { low = l; high = r .high; value = r .value }
 
-  -- a name that is not restricted may hold every value
-  free-first : (f : ℕ) → publics w ≤ f → S .restricted f ≡ false → firstValue S f ≡ 0
-  unfolding firstValue
-  free-first f l r = rw (le-ltb f (S .publics) (omega (arith, publics-are w)), r)
-
-  free-end : (f : ℕ) → publics w ≤ f → endValue S f ≡ publics w + privatesOf w
-  unfolding endValue
-  free-end f l = rw (le-ltb f (S .publics) (omega (arith, publics-are w))) (omega (arith, publics-are w))
-
-  pub free-holds : (f v : ℕ) → publics w ≤ f → f < names w → S .restricted f ≡ false → v < publics w + privatesOf w → Holds w f v
-  free-holds f v l u r h = record {
-    low = l;
-    high = u;
-    value = member-value S f v (omega (arith, free-first f l r)) (omega (arith, free-end f l));
+  -- a name that is not restricted, may hold v and has [f≠v]
+  pub holds-differs : cause w ≡ 0 → (f v : ℕ) → S .restricted f ≡ false → Holds w f v → publics w ≤ v → Differs w f v
+  holds-differs ok f v r h l = record {
+    low = h .low;
+    high = h .high;
+    free = r;
+    reads = private-held w ok f v (h .value) l;
+    private = l;
+    value = held-value w ok f v h;
   }
 
   -- ---- the places that there are not

@@ -52,7 +52,7 @@ module _ (w : List ℕ) where
   fill-few list count ps f = omega (arith, f .size, numbers-few S U ps)
 
   module _ (h : cause w ≡ 0) where
-    number-small : (p : Place) → Exists S U p → numberOf S U p < 4294967296
+    pub number-small : (p : Place) → Exists S U p → numberOf S U p < 4294967296
     number-small p e =
         omega (arith, number-below S U (free 0) p e, places-length S U, control-few w h (nodes w) (omega arith), ap (controlStart S U) (nodes-are w))
 

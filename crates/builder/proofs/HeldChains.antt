@@ -2,14 +2,14 @@
 use mathlib.Core.Path.{_≡_, refl, sym, ap, _∙_}
 use mathlib.Core.Bool.{true}
 use mathlib.Core.List.{List, [], _∷_, _++_, map}
-use Prim.Native.Nat.{ℕ, suc, _+_, _-_, _≤_, _<_}
+use Prim.Native.Nat.{ℕ, zero, suc, _+_, _-_, _≤_, _<_}
 use native.Mathlib.Omega.{arith}
-use lib.ListN.{length}
+use lib.ListN.{length, getD}
 use lib.Seq.{sets}
 use Rattle.lists.specs.Lists.{word, from, member}
 use Rattle.lists.proofs.Tests.{same-true}
-use Rattle.lists.proofs.Ranges.{from-length, from-member}
-use Rattle.lists.proofs.Members.{map-member}
+use Rattle.lists.proofs.Ranges.{from-length, from-getD, from-member}
+use Rattle.lists.proofs.Members.{map-member, member-getD}
 use Rattle.scheme.specs.Words.{nodes, definitions, root, firstFormal, formalCount, formals, nodeKind, nodeFirst, nodeSecond, isStop, isCall, argumentsOf}
 use Rattle.scheme.specs.Owners.{held}
 use Rattle.scheme.specs.Index.{heldAt}
@@ -19,11 +19,12 @@ use Rattle.table.proofs.Accepted.{accepted}
 use Rattle.places.specs.Places.{controls}
 use Rattle.places.specs.Transitions.{releases, copies, calling, ofNode}
 use Rattle.places.specs.Inner.Plan.{today, Named, Bounded, Frees, argumentName}
-use Rattle.builder.specs.Inner.Parts.{Chained}
+use Rattle.builder.specs.Inner.Parts.{Chained, TakesAll}
 use Rattle.places.specs.Plan.{nodesIn, Laid}
 use Rattle.places.proofs.Controls.{nodes-are, publics-are, bounds-are, control-goes-on, controls-few}
+use Rattle.places.proofs.Arriving.{carried, copied}
 use Rattle.places.proofs.Plans.{known, node-is}
-use Rattle.places.proofs.ByWords.{called-inside, arguments-inside, argument-inside, formals-of, arguments-of, held-of, held-known}
+use Rattle.places.proofs.ByWords.{call-node, called-inside, arguments-inside, argument-inside, formals-of, arguments-of, held-of, held-known}
 use Rattle.places.proofs.ByWords.{count-stop, count-call}
 
 -- ---- the control places of a node, and the names that it holds
@@ -66,6 +67,11 @@ module _ (w x : List ℕ) (L : Laid w x) (n : ℕ) (l : n < nodes w) where
     }
 
 -- ---- a Call
+
+getD-map : (f : ℕ → ℕ) (b d : ℕ) (xs : List ℕ) (k : ℕ) → k < length xs → getD (map f xs) k b ≡ f (getD xs k d)
+getD-map f b d [] k h = absurd (omega arith)
+getD-map f b d (x ∷ xs) zero h = refl
+getD-map f b d (x ∷ xs) (suc k) h = getD-map f b d xs k (omega arith)
 
 -- the words of a Call: the definition called, its root, its formals, its arguments
 pub record Called (w : List ℕ) (n d to formal argument count : ℕ) : Type 0 where
@@ -118,6 +124,20 @@ module _ (w : List ℕ) (h : cause w ≡ 0) (n : ℕ) (l : n < nodes w) (e : isC
       let a = arguments-inside w h n l kind in
       let q : formalCount w (nodeFirst w n) ≡ count = sym (c .count-is ∙ ap (formalCount w) (c .definition-is)) in
       rw (s .gives) (argument-inside w h (s .source) (omega (arith, i .1, a, q, c .argument-is)))
+
+  -- a formal may hold what its argument may hold
+  pub call-takes : TakesAll w formal argument count
+  call-takes i u v m =
+      let f : getD (S .formals d) i 0 ≡ formal + i = ap (λ (l : List ℕ). getD l i 0) formals-are ∙ from-getD formal count i u in
+      let a : getD (S .arguments n) i 0 ≡ argumentName w (argument + i) =
+      ap (λ (l : List ℕ). getD l i 0) arguments-are
+      ∙ getD-map (argumentName w) 0 0 (from argument count) i (omega (arith, from-length argument count)) ∙ ap (argumentName w)
+      (from-getD argument count i u) in
+      let g : i < length (S .formals d) = omega (arith, ap (λ (l : List ℕ). length l) formals-are, from-length formal count) in
+      let b = accepted w h .formal-name d (getD (S .formals d) i 0) (member-getD (S .formals d) i g) in
+      let at : S .node n ≡ call d = call-node w h n l kind ∙ ap call (sym (c .definition-is)) in
+      rw f at
+      (carried S (getD (S .arguments n) i 0) (getD (S .formals d) i 0) v (b .low) (λ o. copied S (accepted w h) n d i o at g) (rw a m))
 
   -- "one transition on; …Copies precede releases; the last goes to the called root."
   pub call-list : (hs : List ℕ) → hs ≡ held w n

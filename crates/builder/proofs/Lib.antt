@@ -5,6 +5,7 @@ pub mod Loops
 pub mod Building
 pub mod Chains
 pub mod ValueLoops
+pub mod ValueRuns
 pub mod ChainLoops
 pub mod Filling
 pub mod Copying
@@ -15,7 +16,9 @@ pub mod Marked
 pub mod Pairs
 pub mod PairLoops
 pub mod Rising
+pub mod Turns
 pub mod Series
 pub mod Runs
 pub mod Partners
 pub mod Counted
+pub mod Released

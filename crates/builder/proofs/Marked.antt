@@ -1,14 +1,14 @@
 -- Writing the places that are marked at first: rows one after the other, entry roots put in order.
 use mathlib.Core.Path.{_≡_, refl, sym, ap, _∙_}
-use mathlib.Core.Bool.{Bool, true, false, _||_}
+use mathlib.Core.Bool.{Bool, true, false, not, _||_}
 use mathlib.Core.List.{List, [], _∷_, _++_, map}
 use mathlib.Core.Logic.{_⊎_, inl, inr}
 use Prim.Native.Nat.{ℕ, zero, suc, _+_, _-_, _*_, _≤_, _<_}
 use native.Mathlib.Omega.{arith}
 use lib.ListN.{length, take, length-append}
 use lib.Seq.{length-take-le}
-use Rattle.lists.specs.Lists.{pick, same, word, from, range, flat, some, member, ascends}
-use Rattle.lists.proofs.Tests.{same-yes, same-true, false-true, both-ways, or-cases, or-false}
+use Rattle.lists.specs.Lists.{pick, same, word, from, range, flat, keep, some, member, ascends}
+use Rattle.lists.proofs.Tests.{same-yes, same-true, false-true, both-ways, and-left, and-right, or-cases, or-false}
 use Rattle.lists.proofs.Ranges.{from-more, from-done, from-length, from-member, member-from, flat-more, flat-done}
 use Rattle.lists.proofs.Members.{member-nil, member-one, one-member, member-here, member-there, map-member, member-flat, flat-member, flat-length}
 use Rattle.lists.proofs.Ascending.{ascends-cons, ascends-lower}
@@ -20,25 +20,33 @@ use Rattle.scheme.specs.Scheme.{Scheme, scheme}
 use Rattle.table.specs.Causes.{cause}
 use Rattle.table.proofs.Accepted.{accepted}
 use Rattle.places.specs.Values.{privateValuesOf}
+use Rattle.places.specs.Reach.{hasPrivates}
+use Rattle.places.specs.Sets.{bitAt}
 use Rattle.places.specs.Places.{controls}
 use Rattle.places.specs.Rows.{freeStart}
 use Rattle.places.specs.Inner.Arcs.{insert, startsAt, initialNumbers}
 use Rattle.builder.specs.Inner.Writing.{writes}
 use Rattle.places.specs.Inner.Plan.{today, privatesOf, values, controlOf, rowOf}
-use Rattle.places.specs.Plan.{privatesAt, freeAt, rowsIn, nodesIn, Laid}
+use Rattle.places.specs.Plan.{privatesAt, freeAt, rowsIn, nodesIn, reachIn, Laid}
 use Rattle.places.proofs.Plans
 use Rattle.builder.proofs.Counted.{Counted}
 use Rattle.builder.specs.Inner.Parts.{Rising, Inserted, initialRows, initialSpots}
 use Rattle.places.proofs.Rows.{control-next}
 use Rattle.places.proofs.Order.{control-rises}
-use Rattle.places.proofs.Today
-use Rattle.places.proofs.Names
+use Rattle.places.proofs.Names.{isRead}
+use Rattle.places.proofs.ReachRows.{publicsOf, values-count, privates-count}
+use Rattle.places.proofs.Reaches.{publics-kept}
+use Rattle.places.specs.declared.reach.Reach.{Reach}
 use Rattle.places.proofs.Controls.{publics-are}
 use Rattle.places.proofs.Initial.{some-control}
 use Rattle.places.proofs.Sorted.{insert-ascends, member-insert, insert-length}
 use Rattle.builder.proofs.Writing.{writes-none, writes-append, writes-length}
 
 -- ---- rows
+
+not-false : (b : Bool) → not b ≡ true → b ≡ false
+not-false true h = sym h
+not-false false h = refl
 
 -- the initial places of a name's row, and of the rows of the names from x to e
 unfoldable pub rowMarks : List ℕ → ℕ → List ℕ
@@ -61,37 +69,53 @@ marks-more : (w : List ℕ) (x e : ℕ) → x < e → rowsMarks w x e ≡ rowMar
 unfolding rowsMarks
 marks-more w x e h = flat-more (rowMarks w) x e h
 
-pub marks-skip : (w : List ℕ) (x e : ℕ) → x < e → scheme w .restricted x ≡ true → rowsMarks w x e ≡ rowsMarks w (x + 1) e
-unfolding rowMarks
-marks-skip w x e h r = marks-more w x e h ∙ rw r
+pub marks-skip : (w : List ℕ) (x e : ℕ) → x < e → isRead w x ≡ false → rowsMarks w x e ≡ rowsMarks w (x + 1) e
+unfolding rowMarks from
+marks-skip w x e h r = marks-more w x e h ∙ ap (λ (l : List ℕ). l ++ rowsMarks w (x + 1) e) (go (scheme w .restricted x) refl)
+  where
+    go : (b : Bool) → scheme w .restricted x ≡ b → rowMarks w x ≡ []
+    go true q = rw q
+    go false q =
+        let n : hasPrivates (scheme w) x ≡ false = rw q at r in
+        let c : length (privateValuesOf (scheme w) (today w) x) ≡ 0 = privates-count (scheme w) x ∙ rw n in
+        rw (q, c)
+
+-- what the code reads of a name that New reads: the publics of its reach, and where [x≠n] starts
+pub record Read (w y : List ℕ) (x row c : ℕ) : Type 0 where
+  pub reads : isRead w x ≡ true
+  pub row-is : row ≡ word (rowsIn y) x
+  pub count-is : c ≡ length (keep (bitAt (reachIn y x .publics)) (range (publics w)))
 
 module _ (w y : List ℕ) (L : Laid w y) (ps ns : ℕ) (k : Counted w ps ns) where
-  row-marks : (x row : ℕ) → publics w ≤ x → x < names w → row ≡ word (rowsIn y) x → scheme w .restricted x ≡ false
-      → rowMarks w x ≡ from (row + ps + ns) ns
-  unfolding rowMarks
-  row-marks x row h l e r =
-      let v : length (values w x) ≡ scheme w .publics + privatesOf w = Today.values-free (scheme w) x (omega (arith, publics-are w)) r in
-      let p : length (privateValuesOf (scheme w) (today w) x) ≡ privatesOf w = Today.privates-length (scheme w) x in
-      let a : word (rowsIn y) x ≡ rowOf w x = Plans.row-is w y L x h l in
-      let b : rowOf w x + (scheme w .publics + privatesOf w) ≡ row + ps + ns
-      = omega (arith, e, a, k .publics-are, k .privates-are, publics-are w) in
-      rw (r, v, p, b, k .privates-are)
+  row-marks : (x row c : ℕ) → publics w ≤ x → x < names w → Read w y x row c → rowMarks w x ≡ from (row + (c + ns)) ns
+  unfolding rowMarks scheme
+  row-marks x row c h l e =
+      let S = scheme w in
+      let r : S .restricted x ≡ false = not-false (S .restricted x) (and-left (not (S .restricted x)) (hasPrivates S x) (e .reads)) in
+      let n : hasPrivates S x ≡ true = and-right (not (S .restricted x)) (hasPrivates S x) (e .reads) in
+      let v : length (values w x) ≡ length (publicsOf S x) + privatesOf w = values-count S x h ∙ rw n in
+      let p : length (privateValuesOf S (today w) x) ≡ privatesOf w = privates-count S x ∙ rw n in
+      let q : c ≡ length (publicsOf S x) =
+      e .count-is ∙ ap (λ (z : Reach). length (keep (bitAt (z .publics)) (range (publics w)))) (Plans.reach-is w y L x)
+      ∙ ap (λ (l : List ℕ). length l) (publics-kept w (L .accepted) x (publics w) (omega arith)) in
+      let b : rowOf w x + length (values w x) ≡ row + (c + ns) = omega (arith, e .row-is, Plans.row-is w y L x h l, v, q, k .privates-are) in
+      rw (r, p, b, k .privates-are)
 
-  -- a name that is not restricted: its marks are written, then those of the names behind it
-  pub marks-written : (out : List ℕ) (at x e row : ℕ) → x < e → publics w ≤ x → x < names w → row ≡ word (rowsIn y) x → scheme w .restricted x ≡ false
+  -- the marks of such a name are written, then those of the names behind it
+  pub marks-written : (out : List ℕ) (at x e row c : ℕ) → x < e → publics w ≤ x → x < names w → Read w y x row c
       → writes out at (rowsMarks w x e)
-      ≡ writes (writes out at (from (row + ps + ns) ns)) (at + ns) (rowsMarks w (x + 1) e)
-  marks-written out at x e row s h l q r =
-      let f = from (row + ps + ns) ns in
-      let n : length f ≡ ns = from-length (row + ps + ns) ns in
-      rw (marks-more w x e s, row-marks x row h l q r) (writes-append out at f (rowsMarks w (x + 1) e) ∙ rw n)
+      ≡ writes (writes out at (from (row + (c + ns)) ns)) (at + ns) (rowsMarks w (x + 1) e)
+  marks-written out at x e row c s h l q =
+      let f = from (row + (c + ns)) ns in
+      let n : length f ≡ ns = from-length (row + (c + ns)) ns in
+      rw (marks-more w x e s, row-marks x row c h l q) (writes-append out at f (rowsMarks w (x + 1) e) ∙ rw n)
 
-  pub marks-counted : (x e row : ℕ) → x < e → publics w ≤ x → x < names w → row ≡ word (rowsIn y) x → scheme w .restricted x ≡ false
+  pub marks-counted : (x e row c : ℕ) → x < e → publics w ≤ x → x < names w → Read w y x row c
       → length (rowsMarks w x e) ≡ ns + length (rowsMarks w (x + 1) e)
-  marks-counted x e row s h l q r =
-      let f = from (row + ps + ns) ns in
-      let n : length f ≡ ns = from-length (row + ps + ns) ns in
-      rw (marks-more w x e s, row-marks x row h l q r) (length-append f (rowsMarks w (x + 1) e) ∙ rw n)
+  marks-counted x e row c s h l q =
+      let f = from (row + (c + ns)) ns in
+      let n : length f ≡ ns = from-length (row + (c + ns)) ns in
+      rw (marks-more w x e s, row-marks x row c h l q) (length-append f (rowsMarks w (x + 1) e) ∙ rw n)
 
 -- the loop over rows: what is left is still to be written from `at` on
 pub record RowsTurn (w begin : List ℕ) (end : ℕ) (out : List ℕ) (at x : ℕ) : Type 0 where
@@ -121,7 +145,7 @@ module _ (w y : List ℕ) (L : Laid w y) (ps ns bs : ℕ) (k : Counted w ps ns) 
         high = omega (arith, k .publics-are);
       }
 
-  pub rows-skip : (out after : List ℕ) (at to x : ℕ) → RowsTurn w begin end out at x → x < end → scheme w .restricted x ≡ true → to ≡ at → after ≡ out
+  pub rows-skip : (out after : List ℕ) (at to x : ℕ) → RowsTurn w begin end out at x → x < end → isRead w x ≡ false → to ≡ at → after ≡ out
       → RowsTurn w begin end after to (x + 1)
   rows-skip out after at to x i l r t a =
       let e = marks-skip w x end l r in
@@ -134,29 +158,29 @@ module _ (w y : List ℕ) (L : Laid w y) (ps ns bs : ℕ) (k : Counted w ps ns) 
         high = omega (arith, end-is);
       }
 
-  pub rows-put : (out after : List ℕ) (at to x row : ℕ) → RowsTurn w begin end out at x → x < end → row ≡ word (rowsIn y) x → scheme w .restricted x ≡ false
-      → to ≡ at + ns → after ≡ writes out at (from (row + ps + ns) ns)
+  pub rows-put : (out after : List ℕ) (at to x row c : ℕ) → RowsTurn w begin end out at x → x < end → Read w y x row c
+      → to ≡ at + ns → after ≡ writes out at (from (row + (c + ns)) ns)
       → RowsTurn w begin end after to (x + 1)
-  rows-put out after at to x row i l q r t a =
+  rows-put out after at to x row c i l q t a =
       let u : x < names w = omega (arith, end-is) in
-      let f = from (row + ps + ns) ns in
-      let e = marks-written w y L ps ns k out at x end row l (i .low) u q r in
+      let f = from (row + (c + ns)) ns in
+      let e = marks-written w y L ps ns k out at x end row c l (i .low) u q in
       record {
         written = i .written ∙ e ∙ rw (a, t);
-        counted = omega (arith, i .counted, marks-counted w y L ps ns k x end row l (i .low) u q r);
+        counted = omega (arith, i .counted, marks-counted w y L ps ns k x end row c l (i .low) u q);
         kept = rw a (writes-length out at f ∙ i .kept);
-        few = omega (arith, i .few, k .privates-are, k .few-bounds);
+        few = omega (arith, i .few, k .privates-are, k .few-privates);
         low = omega (arith, i .low);
         high = omega arith;
       }
 
   -- the sums that the code forms are small
   pub rows-room : (out : List ℕ) (at x row : ℕ) → RowsTurn w begin end out at x → x < end → row ≡ word (rowsIn y) x
-      → (row + ps + ns + ns ≤ 4096) × (at ≤ 4096)
+      → (row + (64 + ns) + ns ≤ 4096) × (at ≤ 4096)
   rows-room out at x row i l e =
       let u : x < names w = omega (arith, end-is) in
       let f = Plans.row-few w y L x (i .low) u in (
-        omega (arith, f, k .publics-are, k .privates-are, k .few-publics, k .few-bounds),
+        omega (arith, e, f, k .privates-are, k .few-privates),
         omega (arith, i .few, i .high, k .few-bounds),
       )
 
@@ -399,9 +423,13 @@ row-few w x h = go (scheme w .restricted x)
     l : ℕ
     l = length (privateValuesOf (scheme w) (today w) x)
 
+    picked : (b : Bool) → pick b (privatesOf w) 0 ≤ privatesOf w
+    picked true = omega arith
+    picked false = omega arith
+
     go : (b : Bool) → length (pick b [] (from a l)) ≤ 32
     go true = omega arith
-    go false = omega (arith, from-length a l, Today.privates-length (scheme w) x)
+    go false = omega (arith, from-length a l, privates-count (scheme w) x, picked (hasPrivates (scheme w) x))
 
 pub rows-few : (w : List ℕ) → privatesOf w ≤ 32 → length (initialRows w) ≤ bounds w * 32
 unfolding initialRows rowMarks

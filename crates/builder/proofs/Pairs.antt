@@ -1,34 +1,37 @@
 -- A send and a receive: the places that a communication of theirs names, put into two short lists one after the other.
 use mathlib.Core.Path.{_≡_, refl, sym, ap, subst, _∙_}
-use mathlib.Core.Bool.{Bool, true, false}
+use mathlib.Core.Bool.{true, false}
 use mathlib.Core.List.{List, [], _∷_, _++_}
+use mathlib.Core.Logic.{_⊎_, inl, inr}
 use Prim.Native.Nat.{ℕ, _+_, _≤_, _<_}
-use native.Mathlib.Decide.{decLe}
 use native.Mathlib.Omega.{arith}
-use lib.ListN.{length, take}
-use Rattle.lists.specs.Lists.{range, member}
-use Rattle.lists.proofs.Tests.{same-true}
-use Rattle.lists.proofs.Ranges.{from-member, member-from, from-append}
-use Rattle.lists.proofs.Members.{one-member, member-place}
+use lib.ListN.{length, take, drop}
+use lib.Seq.{length-take-le, take-at}
+use Rattle.lists.specs.Lists.{same, member}
+use Rattle.lists.proofs.Tests.{true-or-false, same-yes, same-no, same-true}
+use Rattle.lists.proofs.Members.{member-place}
 use Rattle.lists.proofs.Ascending.{element-below}
 use Rattle.scheme.specs.Words.{publics, names, nodes, branches, branchKind, channel, branchName, next}
 use Rattle.scheme.specs.Owners.{home}
 use Rattle.scheme.specs.Scheme.{Scheme, send, receive, present, nextNode, scheme}
 use Rattle.table.specs.Causes.{cause}
 use Rattle.table.proofs.Accepted.{accepted}
-use Rattle.places.specs.Held.{valuesFor}
 use Rattle.places.specs.Places.{Place, equals, differs, control}
 use Rattle.places.specs.Rows.{numberOf, IsBound, Exists, has-differs, has-control}
 use Rattle.places.specs.Inner.Arcs.{insert, exists, numbersOf}
-use Rattle.builder.specs.Inner.Writing.{putOne, putAll, Inside}
-use Rattle.places.specs.Inner.Plan.{today, privatesOf, values, controlOf, Holds, Reads, Differs}
-use Rattle.builder.specs.Inner.Parts.{ofTable, state, put, told, Paired, arrow, Rising, Inserted, Placed, insOf, outsOf, Tells}
+use Rattle.builder.specs.Inner.Writing.{writes, putOne, putAll, Inside}
+use Rattle.places.specs.Inner.Plan.{today, controlOf, Holds, Reads, Differs}
+use Rattle.builder.specs.Inner.Parts.{ofTable, state, put, told, Paired, Hears, Can, arrow, insOf, outsOf, Tells}
+use Rattle.builder.specs.Inner.Parts.{Rising, Inserted, Entered, noSpot, spotOf}
 use Rattle.builder.specs.declared.write.Heads.{Heads}
 use Rattle.builder.specs.declared.write.Arcs.{Arcs}
 use Rattle.builder.specs.declared.communications.Pair.{Pair}
+use Rattle.builder.proofs.Writing.{writes-behind, writes-length}
 use Rattle.places.proofs.Rows.{places-length, number-below}
-use Rattle.places.proofs.Numbers.{numbers-few}
-use Rattle.places.proofs.Names.{values-public, values-free, values-restricted}
+use Rattle.places.proofs.Numbers.{numbers-few, exists-has, has-exists}
+use Rattle.places.proofs.Names.{private-held, held-value}
+use Rattle.places.proofs.ReachRows.{private-reach}
+use Rattle.places.proofs.CommunicationCounts.{sent-held}
 use Rattle.places.proofs.Arcs.{inputs-named, outputs-named}
 use Rattle.places.proofs.Initial.{some-control}
 use Rattle.places.proofs.Split.{numbers-none, numbers-yes, numbers-no, numbers-tail, numbers-swap, numbers-ascend}
@@ -58,14 +61,21 @@ module _ (w : List ℕ) where
       let n : insert x (take count list) ≡ numbers w (p ∷ ps) = rw (f .first, q) (sym (numbers-yes (scheme w) (today w) p ps e)) in
       record { eight = l ∙ f .eight; size = i .size ∙ ap (λ (l : List ℕ). length l) n; first = i .first ∙ n }
 
-  pub fill-no : (list after : List ℕ) (count r : ℕ) (p : Place) (ps : List Place) → Filled w list count ps → exists (scheme w) (today w) p ≡ false
-      → r ≡ count → after ≡ list → Filled w after r (p ∷ ps)
-  fill-no list after count r p ps f e q a =
-      let n : numbers w (p ∷ ps) ≡ numbers w ps = numbers-no (scheme w) (today w) p ps e in
-      rw (a, q) (record { eight = f .eight; size = f .size ∙ ap (λ (l : List ℕ). length l) (sym n); first = f .first ∙ sym n })
-
   pub fill-fits : (list : List ℕ) (count : ℕ) (ps : List Place) → Filled w list count ps → length ps ≤ 8 → count ≤ length list
   fill-fits list count ps f h = omega (arith, f .eight, f .size, numbers-few (scheme w) (today w) ps)
+
+  -- the numbers copied to another list
+  pub fill-copy : (list : List ℕ) (count : ℕ) (ps : List Place) → Filled w list count ps → (other : List ℕ) → length other ≡ 8 → (after : List ℕ) (r : ℕ)
+      → r ≡ 0 + count → after ≡ writes other 0 (take count list) → count ≤ 8 → Filled w after r ps
+  fill-copy list count ps f other e after r q a h =
+      let z : 0 + count ≡ count = omega arith in
+      let n : length (take count list) ≡ count = length-take-le count list (omega (arith, f .eight)) in
+      let m : writes other 0 (take count list) ≡ take count list ++ drop (length (take count list)) other =
+      writes-behind [] other (take count list) 0 refl (omega (arith, n, e)) in record {
+        eight = ap (λ (l : List ℕ). length l) a ∙ writes-length other 0 (take count list) ∙ e;
+        size = q ∙ z ∙ f .size;
+        first = rw (q, z, a, m) (take-at (take count list) (drop (length (take count list)) other) count n ∙ f .first);
+      }
 
   pub fill-rising : cause w ≡ 0 → (list : List ℕ) (count : ℕ) (ps : List Place) → Filled w list count ps → length ps ≤ 7 → Rising list count
   fill-rising ok list count ps f h = record {
@@ -82,9 +92,47 @@ module _ (w : List ℕ) where
     )));
   }
 
--- where ways meet, under the names that the words and their count have there
-pub joined : {x count r m : ℕ} {before after list : List ℕ} → Inserted x count before r after → m ≡ r → list ≡ after → Inserted x count before m list
-joined i e l = record { size = e ∙ i .size; first = rw (l, e) (i .first) }
+-- ---- numbers of places, and of none
+
+module _ (w : List ℕ) where
+  pub spot-there : (p : Place) → Exists (scheme w) (today w) p → spotOf w p ≡ numberOf (scheme w) (today w) p
+  unfolding spotOf
+  spot-there p e = rw (has-exists (scheme w) (today w) p e)
+
+  pub spot-none : (p : Place) → exists (scheme w) (today w) p ≡ false → spotOf w p ≡ noSpot
+  unfolding spotOf
+  spot-none p e = rw e
+
+  pub number-few : cause w ≡ 0 → (p : Place) → Exists (scheme w) (today w) p → numberOf (scheme w) (today w) p < 65536
+  number-few ok p e =
+      omega (
+        arith,
+        number-below (scheme w) (today w) p p e,
+        places-length (scheme w) (today w),
+        ap (controlOf w) (nodes-are w),
+        control-few w ok (nodes w) (omega arith),
+      )
+
+  -- a number put in, if the net has the place
+  pub fill-spot : cause w ≡ 0 → (list after : List ℕ) (count r x : ℕ) (p : Place) (ps : List Place) → Filled w list count ps → x ≡ spotOf w p
+      → Entered x count list r after → length after ≡ length list → Filled w after r (p ∷ ps)
+  fill-spot ok list after count r x p ps f q i l = go (true-or-false (exists (scheme w) (today w) p))
+    where
+      go : (exists (scheme w) (today w) p ≡ true) ⊎ (exists (scheme w) (today w) p ≡ false) → Filled w after r (p ∷ ps)
+      go (inl b) =
+          let e = exists-has (scheme w) (today w) p b in
+          let n : x ≡ numberOf (scheme w) (today w) p = q ∙ spot-there p e in
+          let d : same x noSpot ≡ false = same-no x noSpot (λ k. omega (arith, number-few ok p e)) in
+          fill-yes w list after count r x p ps f e n (record { size = i .size ∙ rw d; first = i .first ∙ rw d }) l
+      go (inr e) =
+          let d : same x noSpot ≡ true = same-yes x noSpot (q ∙ spot-none p e) in
+          let n : numbers w (p ∷ ps) ≡ numbers w ps = numbers-no (scheme w) (today w) p ps e in
+          let s : r ≡ count = i .size ∙ rw d in
+          record {
+            eight = l ∙ f .eight;
+            size = s ∙ f .size ∙ ap (λ (l : List ℕ). length l) (sym n);
+            first = i .first ∙ rw d (f .first ∙ sym n);
+          }
 
 -- ---- the order of places
 
@@ -112,19 +160,6 @@ module _ (w : List ℕ) where
   abbrev S : Scheme
   S = scheme w
 
-  pub value-small : (x v : ℕ) → member v (values w x) ≡ true → x < names w → v < publics w + privatesOf w
-  value-small x v m h = go (decLe (publics w) x) (S .restricted x) refl
-    where
-      z : 0 + publics w ≡ publics w
-      z = omega arith
-
-      go : Dec (publics w ≤ x) → (b : Bool) → S .restricted x ≡ b → v < publics w + privatesOf w
-      go (no l) b e = omega (arith, one-member v x (rw (values-public w x (omega arith)) at m))
-      go (yes l) true e = omega (arith, from-member v (publics w) (privatesOf w) (rw (values-restricted w x l e) at m))
-      go (yes l) false e =
-          let f : values w x ≡ range (publics w + privatesOf w) = values-free w x l e ∙ sym (from-append 0 (publics w) (privatesOf w) ∙ rw z) in
-          omega (arith, from-member v 0 (publics w + privatesOf w) (ap (member v) (sym f) ∙ m))
-
   pub reads-holds : (x v : ℕ) → Reads w x v → publics w ≤ x → Holds w x v
   reads-holds x v r l = record { low = l; high = r .high; value = r .value }
 
@@ -138,10 +173,10 @@ module _ (w : List ℕ) where
   public-none x v h = equals-public S (today w) x v (omega (arith, publics-are w))
 
   pub differs-exists : (x v : ℕ) → Differs w x v → Exists S (today w) (differs x v)
-  unfolding valuesFor
   differs-exists x v h =
       has-differs {v = v} (bound x (h .low) (h .high)) (h .free)
-      (omega (arith, publics-are w, h .private), omega (arith, publics-are w, h .value)) (rw (h .free))
+      (omega (arith, publics-are w, h .private), omega (arith, publics-are w, h .value))
+      (private-reach S x v (omega (arith, publics-are w, h .private)) ∙ h .reads)
 
   pub differs-none : (x v : ℕ) → v < publics w → exists S (today w) (differs x v) ≡ false
   differs-none x v h = differs-public S (today w) x v (omega (arith, publics-are w))
@@ -173,22 +208,10 @@ module _ (w : List ℕ) (p : Pair) (i j : ℕ) where
   abbrev pub givesOf : List Place
   givesOf = control (next w (p .receive)) 0 ∷ control (next w (p .send)) 0 ∷ equals (p .bound) j ∷ readOf
 
--- one more place
-module _ (w : List ℕ) (list after : List ℕ) (count r : ℕ) (ps : List Place) (f : Filled w list count ps) where
-  pub put-in : (p : Place) → Placed w p count list r after → length after ≡ length list → Filled w after r (p ∷ ps)
-  put-in p q l =
-      let g = q ps (record { holds = f .first; size = f .size }) in
-      record { eight = l ∙ f .eight; size = g .size; first = g .holds }
-
-  pub take-private : (x v n : ℕ) → Differs w x v → n ≡ numberOf (scheme w) (today w) (differs x v) → Inserted n count list r after
-      → length after ≡ length list → Filled w after r (differs x v ∷ ps)
-  take-private x v n h e i s = fill-yes w list after count r n (differs x v) ps f (differs-exists w x v h) e i s
-
-  pub take-public : (x v : ℕ) → v < publics w → r ≡ count → after ≡ list → Filled w after r (differs x v ∷ ps)
-  take-public x v l e a = fill-no w list after count r (differs x v) ps f (differs-none w x v l) e a
-
-  pub move-at : (m n : ℕ) → m < nodes w → n ≡ controlOf w m → Inserted n count list r after → length after ≡ length list → Filled w after r (control m 0 ∷ ps)
-  move-at m n h e i s = fill-yes w list after count r n (control m 0) ps f (control-exists w m h) (control-number w m n e) i s
+-- a control place more
+pub move-at : (w list after : List ℕ) (count r : ℕ) (ps : List Place) → Filled w list count ps → (m n : ℕ) → m < nodes w → n ≡ controlOf w m
+    → Inserted n count list r after → length after ≡ length list → Filled w after r (control m 0 ∷ ps)
+move-at w list after count r ps f m n h e i s = fill-yes w list after count r n (control m 0) ps f (control-exists w m h) (control-number w m n e) i s
 
 module _ (w : List ℕ) (ok : cause w ≡ 0) (p : Pair) (k : Paired w p) where
   pub sends : scheme w .branch (p .send) ≡ send (channel w (p .send)) (branchName w (p .send)) (next w (p .send))
@@ -211,14 +234,30 @@ module _ (w : List ℕ) (ok : cause w ≡ 0) (p : Pair) (k : Paired w p) where
   heard-high =
       omega (arith, publics-are w, bounds-are w, accepted w ok .receive-name (p .receive) (channel w (p .receive)) y (next w (p .receive)) receives .high)
 
-  pub pair-differs : (j : ℕ) → publics w ≤ j → j < publics w + privatesOf w → Differs w y j
-  pair-differs j l h = record { low = heard-low; high = heard-high; free = heard-free; private = l; value = h }
+  differ : scheme w .thread (scheme w .home (p .send)) ≡ scheme w .thread (scheme w .home (p .receive)) → ⊥
+  unfolding scheme
+  differ e = k .apart (sym e)
 
-  pub pair-given : (j : ℕ) → j < publics w + privatesOf w → Holds w y j
-  pair-given j h =
-      let z : 0 + publics w ≡ publics w = omega arith in
-      let f : values w y ≡ range (publics w + privatesOf w) = values-free w y heard-low heard-free ∙ sym (from-append 0 (publics w) (privatesOf w) ∙ rw z) in
-      record { low = heard-low; high = heard-high; value = ap (member j) f ∙ member-from j 0 (publics w + privatesOf w) (omega arith) (omega arith) }
+  -- the receive's name may hold what it hears
+  pub pair-given : (i j : ℕ) → Hears w p i → Reads w (branchName w (p .send)) j → Holds w y j
+  pair-given i j h z = record {
+    low = heard-low;
+    high = heard-high;
+    value = sent-held (scheme w) (accepted w ok) (p .send) (channel w (p .send)) (branchName w (p .send)) (next w (p .send)) (p .receive)
+        (channel w (p .receive)) y (next w (p .receive)) sends receives differ i j (h .shared) (z .value);
+  }
+
+  pub pair-differs : (i j : ℕ) → Hears w p i → Reads w (branchName w (p .send)) j → publics w ≤ j → Differs w y j
+  pair-differs i j h z l =
+      let g = pair-given i j h z in
+      record {
+        low = heard-low;
+        high = heard-high;
+        free = heard-free;
+        reads = private-held w ok y j (g .value) l;
+        private = l;
+        value = held-value w ok y j g;
+      }
 
   home-is : (b : ℕ) → scheme w .home b ≡ home w b
   unfolding scheme
@@ -240,13 +279,13 @@ module _ (w : List ℕ) (ok : cause w ≡ 0) (p : Pair) (k : Paired w p) where
   pub branch-small : (b : ℕ) → b < branches w → b < 65536
   branch-small b l = omega (arith, few-branches w ok)
 
-  pub speaks : (i j : ℕ) → Reads w (channel w (p .send)) i → Reads w (channel w (p .receive)) i → Reads w (branchName w (p .send)) j → Speaks w p i j
-  speaks i j a e z = record {
-    channel = subst (λ (x : ℕ). Reads w x i) (sym (k .channel-is)) a;
-    heard = subst (λ (x : ℕ). Reads w x i) (sym (k .heard-is)) e;
-    sent = subst (λ (x : ℕ). Reads w x j) (sym (k .sent-is)) z;
-    differs = λ l. subst (λ (x : ℕ). Differs w x j) (sym (k .bound-is)) (pair-differs j l (value-small w (branchName w (p .send)) j (z .value) (z .high)));
-    gives = subst (λ (x : ℕ). Holds w x j) (sym (k .bound-is)) (pair-given j (value-small w (branchName w (p .send)) j (z .value) (z .high)));
+  pub speaks : (i j : ℕ) → Can w p i j → Speaks w p i j
+  speaks i j c = record {
+    channel = subst (λ (x : ℕ). Reads w x i) (sym (k .channel-is)) (c .channel);
+    heard = subst (λ (x : ℕ). Reads w x i) (sym (k .heard-is)) (c .heard .reads);
+    sent = subst (λ (x : ℕ). Reads w x j) (sym (k .sent-is)) (c .sent);
+    differs = λ l. subst (λ (x : ℕ). Differs w x j) (sym (k .bound-is)) (pair-differs i j (c .heard) (c .sent) l);
+    gives = subst (λ (x : ℕ). Holds w x j) (sym (k .bound-is)) (pair-given i j (c .heard) (c .sent));
   }
 
   pub told-inputs : (i j : ℕ) → ofTable w (told w (p .send) (p .receive) i j) .inputs ≡ numbers w (takesOf w p i j)

@@ -1,15 +1,20 @@
 -- Sends and their partners: what each branch of a table adds to the communications, and the loops over branches.
 use mathlib.Core.Path.{_≡_, refl, sym, ap, subst, _∙_}
-use mathlib.Core.Bool.{Bool, true, false}
-use mathlib.Core.List.{List, [], _∷_, _++_}
-use Prim.Native.Nat.{ℕ, _+_, _-_, _≤_, _<_}
+use mathlib.Core.Logic.{_⊎_, inl, inr}
+use mathlib.Core.Bool.{Bool, true, false, true≢false}
+use mathlib.Core.List.{List, [], _∷_, _++_, map}
+use Prim.Native.Nat.{ℕ, _+_, _-_, _^_, _≤_, _<_}
+use native.Mathlib.Decide.{ℕ-discrete}
 use native.Mathlib.Omega.{arith}
+use lib.Bits.{bitAnd}
+use lib.Count.{trailingZeros}
 use lib.Dec.{ltb}
+use lib.ListN.{length}
 use borrow.Author.Tests.{lt-ltb}
-use Rattle.lists.specs.Lists.{pick, same, word, from, range, flat}
-use Rattle.lists.proofs.Tests.{same-yes, same-no, same-true}
-use Rattle.lists.proofs.Ranges.{from-more, from-done}
-use Rattle.scheme.specs.Words.{nodes, branches, branchKind, channel, branchName, next, isSilent, isSend, isReceive, field4}
+use Rattle.lists.specs.Lists.{pick, same, word, from, range, flat, keep}
+use Rattle.lists.proofs.Tests.{same-yes, same-no, same-true, same-false}
+use Rattle.lists.proofs.Ranges.{from-more, from-done, from-member}
+use Rattle.scheme.specs.Words.{nodes, branches, branchKind, channel, branchName, next, isSilent, isSend, isReceive}
 use Rattle.scheme.specs.Owners.{home, branchThread}
 use Rattle.scheme.specs.Scheme.{Branch, absent, silent, send, receive, present, nextNode, branchAt, scheme}
 use Rattle.table.specs.Causes.{cause}
@@ -20,10 +25,19 @@ use Rattle.builder.specs.Inner.Writing
 use Rattle.builder.specs.Inner.Writing.{putAll, Inside}
 use Rattle.scheme.specs.Index.{homesIn}
 use Rattle.places.specs.Plan.{nodesIn, Laid}
+use Rattle.places.specs.Sets.{bitAt}
+use Rattle.places.specs.Sides.{sideIn, sideAt, receivesOf, partnerSet}
+use Rattle.places.specs.Inner.Counting.{Pairs}
+use Rattle.places.specs.Places.{common}
 use Rattle.places.specs.Inner.Plan.{today, controlOf}
 use Rattle.places.proofs.Plans.{home-is, node-is}
-use Rattle.builder.specs.Inner.Parts.{state, pairTold, withBranch, withAll, Paired}
+use Rattle.places.proofs.Scanning.{lowest-first, numbers-none}
+use Rattle.places.proofs.Hearing.{flat-kept, receive-of, receives-here, branch-here, set-empty, set-member, set-flat, meets-apart, deaf}
+use Rattle.builder.specs.Inner.Parts.{ofTable, state, pairTold, withBranch, withAll, Paired, pairOf, Coursed}
 use Rattle.builder.specs.declared.write.Heads.{Heads}
+use Rattle.builder.specs.declared.communications.Pair.{Pair}
+use Rattle.builder.specs.declared.communications.Course.{Course}
+use Rattle.places.specs.declared.count.Side.{Side}
 use Rattle.builder.proofs.Writing.{put-none, put-append, inside-first}
 use Rattle.places.proofs.Controls.{nodes-are}
 use Rattle.places.proofs.ByWords.{send-branch, receive-branch}
@@ -78,17 +92,17 @@ module _ (w : List ℕ) (ok : cause w ≡ 0) (s : ℕ) (ls : s < branches w) whe
     a-send = send-branch w ok s ls sends
 
     -- "receive branch of another thread"
-    pub partner-told : branchKind w r ≡ 2 → (branchThread w r ≡ branchThread w s → ⊥) → withBranch w s r ≡ pairTold w s r
+    partner-told : branchKind w r ≡ 2 → (branchThread w r ≡ branchThread w s → ⊥) → withBranch w s r ≡ pairTold w s r
     unfolding pairTold
     partner-told k d =
         let t : same (branchThread w s) (branchThread w r) ≡ false = same-no (branchThread w s) (branchThread w r) (λ e. d (sym e)) in
         rw (a-send, receive-branch w ok r lr k, thread-is s, thread-is r, t)
 
-    pub partner-same : branchKind w r ≡ 2 → branchThread w r ≡ branchThread w s → withBranch w s r ≡ []
+    partner-same : branchKind w r ≡ 2 → branchThread w r ≡ branchThread w s → withBranch w s r ≡ []
     partner-same k e =
         rw (a-send, receive-branch w ok r lr k, thread-is s, thread-is r, same-yes (branchThread w s) (branchThread w r) (sym e))
 
-    pub partner-none : (branchKind w r ≡ 2 → ⊥) → withBranch w s r ≡ []
+    partner-none : (branchKind w r ≡ 2 → ⊥) → withBranch w s r ≡ []
     partner-none d = rw (a-send, other) (go (isSilent w r) (isSend w r))
       where
         other : scheme w .branch r ≡ pick (isSilent w r) (silent (next w r)) (pick (isSend w r) (send (channel w r) (branchName w r) (next w r)) absent)
@@ -102,8 +116,25 @@ module _ (w : List ℕ) (ok : cause w ≡ 0) (s : ℕ) (ls : s < branches w) whe
         go false true = refl
         go false false = refl
 
+-- the receives are enough
+withAll-listed : (w : List ℕ) → cause w ≡ 0 → (s : ℕ) → s < branches w → branchKind w s ≡ 1 → withAll w s ≡ flat (withBranch w s) (receivesOf w)
+withAll-listed w ok s l k =
+    flat-kept (withBranch w s) (isReceive w) (range (branches w))
+    (λ y m q. partner-none w ok s l k y (omega (arith, from-member y 0 (branches w) m)) (λ e. true≢false (sym (same-yes (branchKind w y) 2 e) ∙ q)))
+
+-- a receive that does not hear adds nothing
+deaf-none : (w : List ℕ) → cause w ≡ 0 → (s : ℕ) → s < branches w → branchKind w s ≡ 1 → (r : ℕ) → r < branches w → branchKind w r ≡ 2
+    → (common (scheme w) (today w) (channel w s) (channel w r) ≡ []) ⊎ (branchThread w r ≡ branchThread w s) → withBranch w s r ≡ []
+unfolding pairTold flat
+deaf-none w ok s l k r m e (inr d) = partner-same w ok s l k r m e d
+deaf-none w ok s l k r m e (inl c) = go (ℕ-discrete (branchThread w r) (branchThread w s))
+  where
+    go : Dec (branchThread w r ≡ branchThread w s) → withBranch w s r ≡ []
+    go (yes d) = partner-same w ok s l k r m e d
+    go (no d) = partner-told w ok s l k r m e d ∙ rw c
+
 -- a branch that is no send adds nothing
-pub no-send : (w : List ℕ) (s : ℕ) → (branchKind w s ≡ 1 → ⊥) → withAll w s ≡ []
+no-send : (w : List ℕ) (s : ℕ) → (branchKind w s ≡ 1 → ⊥) → withAll w s ≡ []
 unfolding flat
 no-send w s d = none (withBranch w s) (range (branches w)) each
   where
@@ -122,6 +153,67 @@ no-send w s d = none (withBranch w s) (range (branches w)) each
     each : (r : ℕ) → withBranch w s r ≡ []
     each r = rw (not-send w s d) (go r (scheme w .branch r) (ltb s (branches w)) (isSilent w s) (isReceive w s))
 
+-- ---- the communications of a branch with the receives of a set
+
+abbrev pub withSet : List ℕ → ℕ → ℕ → List Description
+withSet w s set = flat (withBranch w s) (map (word (receivesOf w)) (keep (bitAt set) (range 64)))
+
+pub set-done : (w : List ℕ) (s set : ℕ) → set ≡ 0 → withSet w s set ≡ []
+unfolding flat
+set-done w s set e = rw (e, numbers-none)
+
+-- a loop over the numbers of a set, the lowest first: `all` is what the whole loop writes, t are the heads where `left` is due
+module _ (w : List ℕ) (s left : ℕ) (d : left ≡ 0 → ⊥) (small : left < 2 ^ 64) (all t : Writing.Heads)
+    (due : all ≡ putAll (ofTable w) t (withSet w s left)) where
+  abbrev first : List Description
+  first = withBranch w s (word (receivesOf w) (trailingZeros 64 left))
+
+  abbrev others : List Description
+  others = withSet w s (bitAnd left (left - 1))
+
+  set-split : all ≡ putAll (ofTable w) t (first ++ others)
+  unfolding flat
+  set-split = due ∙ rw (lowest-first left d small)
+
+  pub set-inside : Inside all → Inside (putAll (ofTable w) t first)
+  set-inside k = inside-first (ofTable w) t first others (subst Inside set-split k)
+
+  pub set-more : (u : Writing.Heads) → u ≡ putAll (ofTable w) t first → all ≡ putAll (ofTable w) u others
+  set-more u e = set-split ∙ put-append (ofTable w) t first others ∙ ap (λ (v : Writing.Heads). putAll (ofTable w) v others) (sym e)
+
+-- those that it can meet are enough
+pub set-told : (w x : List ℕ) → Laid w x → (s : ℕ) → s < branches w → withAll w s ≡ withSet w s (partnerSet w x s)
+set-told w x L s l = go (isSend w s) refl
+  where
+    ok : cause w ≡ 0
+    ok = L .accepted
+
+    go : (b : Bool) → isSend w s ≡ b → withAll w s ≡ withSet w s (partnerSet w x s)
+    go true e =
+        let k = same-true (branchKind w s) 1 e in
+        withAll-listed w ok s l k
+        ∙ set-flat w x (withBranch w s) ok s e
+        (λ y m q. deaf-none w ok s l k y (receive-of w y m .1) (receive-of w y m .0) (deaf w x L s y q))
+    go false e = no-send w s (same-false (branchKind w s) 1 e) ∙ sym (set-done w s (partnerSet w x s) (set-empty w x s e))
+
+-- a number of the set that a branch can meet
+pub record Meets (w x : List ℕ) (s k : ℕ) : Type 0 where
+  pub sends : isSend w s ≡ true
+  pub inside : k < length (receivesOf w)
+  pub branch-inside : word (receivesOf w) k < branches w
+  pub receives : branchKind w (word (receivesOf w) k) ≡ 2
+  pub apart : branchThread w (word (receivesOf w) k) ≡ branchThread w s → ⊥
+
+pub meets-known : (w x : List ℕ) → Laid w x → (s k : ℕ) → bitAt (partnerSet w x s) k ≡ true → Meets w x s k
+meets-known w x L s k b =
+    let (e, h, q) = set-member w x s k b in record {
+      sends = e;
+      inside = h;
+      branch-inside = branch-here w k h;
+      receives = receives-here w k h;
+      apart = meets-apart w x L s (word (receivesOf w) k) q;
+    }
+
 -- ---- a pair as the code reads it
 
 home-at : (w : List ℕ) (b : ℕ) → scheme w .home b ≡ home w b
@@ -135,38 +227,22 @@ home-below w ok b = accepted w ok .home-inside b
 next-below : (w : List ℕ) → cause w ≡ 0 → (b : ℕ) → present (scheme w .branch b) ≡ true → nextNode (scheme w .branch b) ≡ next w b → next w b < nodes w
 next-below w ok b h e = omega (arith, nodes-are w, accepted w ok .next-inside b h, e)
 
-pub pair-known : (w x : List ℕ) (s r a z e y hs sender ns onsend hr receiver nr onreceive : ℕ) → Laid w x
-    → s < branches w → r < branches w → isSend w s ≡ true → branchKind w r ≡ 2 →
-    (branchThread w r ≡ branchThread w s → ⊥) → a ≡ field4 w 11 s 1 → z ≡ field4 w 11 s 2 → e ≡ field4 w 11 r 1
-    → y ≡ field4 w 11 r 2 → hs ≡ word (homesIn x) s → sender ≡ word (nodesIn x) hs → ns ≡ field4 w 11 s 3 → onsend ≡ word (nodesIn x) ns → hr ≡ word
-    (homesIn x) r
-    → receiver ≡ word (nodesIn x) hr → nr ≡ field4 w 11 r 3 → onreceive ≡ word (nodesIn x) nr
-    → Paired w (record {
-      send = s;
-      receive = r;
-      channel = a;
-      sent = z;
-      heard = e;
-      bound = y;
-      sender = sender;
-      onsend = onsend;
-      receiver = receiver;
-      onreceive = onreceive;
-    })
-pair-known w x s r a z e y hs sender ns onsend hr receiver nr onreceive k ls lr q u d ea ez ee ey eh es en eo fh fs fn fo = record {
+pair-known : (w x : List ℕ) (s r : ℕ) → Laid w x → s < branches w → r < branches w → isSend w s ≡ true → branchKind w r ≡ 2
+    → (branchThread w r ≡ branchThread w s → ⊥) → Paired w (pairOf (sideIn w x s) (sideIn w x r))
+pair-known w x s r k ls lr q u d = record {
   send-inside = ls;
   receive-inside = lr;
   sends = q;
   receives = same-yes (branchKind w r) 2 u;
   apart = d;
-  channel-is = ea;
-  sent-is = ez;
-  heard-is = ee;
-  bound-is = ey;
-  sender-is = es ∙ ap (word (nodesIn x)) (eh ∙ at-home s) ∙ starts (home w s) (home-inside s);
-  onsend-is = eo ∙ ap (word (nodesIn x)) en ∙ starts (next w s) send-next;
-  receiver-is = fs ∙ ap (word (nodesIn x)) (fh ∙ at-home r) ∙ starts (home w r) (home-inside r);
-  onreceive-is = fo ∙ ap (word (nodesIn x)) fn ∙ starts (next w r) receive-next;
+  channel-is = refl;
+  sent-is = refl;
+  heard-is = refl;
+  bound-is = refl;
+  sender-is = ap (word (nodesIn x)) (at-home s) ∙ starts (home w s) (home-inside s);
+  onsend-is = starts (next w s) send-next;
+  receiver-is = ap (word (nodesIn x)) (at-home r) ∙ starts (home w r) (home-inside r);
+  onreceive-is = starts (next w r) receive-next;
 }
   where
     at-home : (b : ℕ) → word (homesIn x) b ≡ home w b
@@ -187,3 +263,26 @@ pair-known w x s r a z e y hs sender ns onsend hr receiver nr onreceive k ls lr 
     receive-next =
         let d = receive-branch w (k .accepted) r lr u in
         next-below w (k .accepted) r (ap present d) (ap nextNode d)
+
+-- what is read of both branches, and of how the send is gone through
+module _ (w x list : List ℕ) (L : Laid w x) (ps : Pairs w x list) (s k : ℕ) (l : s < branches w) (m : Meets w x s k) (d r : Side) (p : Pair)
+    (ed : d ≡ sideIn w x s) (er : r ≡ sideAt list k) (ep : p ≡ pairOf d r) where
+  abbrev y : ℕ
+  y = word (receivesOf w) k
+
+  heard : r ≡ sideIn w x y
+  heard = er ∙ ps .sides-are k (m .inside)
+
+  read : p ≡ pairOf (sideIn w x s) (sideIn w x y)
+  read = ep ∙ rw (ed, heard)
+
+  pub pair-read : Paired w p
+  pair-read = subst (Paired w) (sym read) (pair-known w x s y L l (m .branch-inside) (m .sends) (m .receives) (m .apart))
+
+  pub course-read : (c : Course) → Coursed w (d .channel) (d .name) c → Coursed w (p .channel) (p .sent) c
+  course-read c h = subst (λ (q : Pair). Coursed w (q .channel) (q .sent) c) (sym ep) h
+
+  pub both-read : pairTold w (p .send) (p .receive) ≡ withBranch w s (word (receivesOf w) k)
+  both-read =
+      ap (λ (q : Pair). pairTold w (q .send) (q .receive)) read
+      ∙ sym (partner-told w (L .accepted) s l (same-true (branchKind w s) 1 (m .sends)) y (m .branch-inside) (m .receives) (m .apart))

@@ -1,12 +1,13 @@
 -- Numbers of which some rise step by step. Where no number of a list is met by one that rises, the list stays in order.
-use mathlib.Core.Path.{_≡_, refl, sym, ap, _∙_}
-use mathlib.Core.Bool.{Bool, true, false}
+use mathlib.Core.Path.{_≡_, refl, sym, ap, subst, _∙_}
+use mathlib.Core.Bool.{Bool, true, false, true≢false}
 use mathlib.Core.List.{List, [], _∷_, map}
 use mathlib.Core.Logic.{_⊎_, inl, inr}
 use Prim.Native.Nat.{ℕ, _+_, _-_, _≤_, _<_}
 use native.Mathlib.Decide.{decLe}
 use native.Mathlib.Omega.{arith}
 use Rattle.lists.specs.Lists.{member}
+use Rattle.lists.proofs.Tests.{not-true-false}
 use Rattle.lists.proofs.Members.{member-here, member-there, member-cases, member-nil, member-not}
 use Rattle.scheme.specs.Scheme.{Scheme}
 use Rattle.places.specs.Values.{Values}
@@ -24,23 +25,68 @@ mask-yes : (ms : List ℕ) (x : ℕ) → member x ms ≡ true → 4294967295 ≡
 unfolding maskOf
 mask-yes ms x h = rw h
 
-module _ (x a b c : ℕ) where
-  pub mask-first : x ≡ a → 4294967295 ≡ maskOf (a ∷ b ∷ c ∷ []) x
-  mask-first e = mask-yes (a ∷ b ∷ c ∷ []) x (rw e (member-here a (b ∷ c ∷ [])))
+-- a number that is one of five, or none of them
+module _ (x a b c d e : ℕ) where
+  abbrev five : List ℕ
+  five = a ∷ b ∷ c ∷ d ∷ e ∷ []
 
-  pub mask-second : x ≡ b → 4294967295 ≡ maskOf (a ∷ b ∷ c ∷ []) x
-  mask-second e = mask-yes (a ∷ b ∷ c ∷ []) x (rw e (member-there b a (b ∷ c ∷ []) (member-here b (c ∷ []))))
+  pub mask-first : x ≡ a → 4294967295 ≡ maskOf five x
+  mask-first q = mask-yes five x (rw q (member-here a (b ∷ c ∷ d ∷ e ∷ [])))
 
-  pub mask-third : x ≡ c → 4294967295 ≡ maskOf (a ∷ b ∷ c ∷ []) x
-  mask-third e = mask-yes (a ∷ b ∷ c ∷ []) x (rw e (member-there c a (b ∷ c ∷ []) (member-there c b (c ∷ []) (member-here c []))))
+  pub mask-second : x ≡ b → 4294967295 ≡ maskOf five x
+  mask-second q = mask-yes five x (rw q (member-there b a (b ∷ c ∷ d ∷ e ∷ []) (member-here b (c ∷ d ∷ e ∷ []))))
 
-  none-of : (x ≡ a → ⊥) → (x ≡ b → ⊥) → (x ≡ c → ⊥) → member x (a ∷ b ∷ c ∷ []) ≡ false
+  pub mask-third : x ≡ c → 4294967295 ≡ maskOf five x
+  mask-third q =
+      mask-yes five x (rw q (member-there c a (b ∷ c ∷ d ∷ e ∷ []) (member-there c b (c ∷ d ∷ e ∷ []) (member-here c (d ∷ e ∷ [])))))
+
+  pub mask-fourth : x ≡ d → 4294967295 ≡ maskOf five x
+  mask-fourth q =
+      mask-yes five x
+      (rw q (member-there d a (b ∷ c ∷ d ∷ e ∷ []) (member-there d b (c ∷ d ∷ e ∷ []) (member-there d c (d ∷ e ∷ []) (member-here d (e ∷ []))))))
+
+  pub mask-fifth : x ≡ e → 4294967295 ≡ maskOf five x
+  mask-fifth q =
+      mask-yes five x
+      (rw q (member-there e a (b ∷ c ∷ d ∷ e ∷ []) (member-there e b (c ∷ d ∷ e ∷ []) (member-there e c (d ∷ e ∷ [])
+      (member-there e d (e ∷ []) (member-here e []))))))
+
+  none-of : (x ≡ a → ⊥) → (x ≡ b → ⊥) → (x ≡ c → ⊥) → (x ≡ d → ⊥) → (x ≡ e → ⊥) → member x five ≡ false
   unfolding member
-  none-of f g h = member-not x a (b ∷ c ∷ []) f (member-not x b (c ∷ []) g (member-not x c [] h refl))
+  none-of f g h i j =
+      member-not x a (b ∷ c ∷ d ∷ e ∷ []) f (member-not x b (c ∷ d ∷ e ∷ []) g (member-not x c (d ∷ e ∷ []) h (member-not x d (e ∷ []) i
+      (member-not x e [] j refl))))
 
-  pub mask-none : (x ≡ a → ⊥) → (x ≡ b → ⊥) → (x ≡ c → ⊥) → 0 ≡ maskOf (a ∷ b ∷ c ∷ []) x
+  pub mask-none : (x ≡ a → ⊥) → (x ≡ b → ⊥) → (x ≡ c → ⊥) → (x ≡ d → ⊥) → (x ≡ e → ⊥) → 0 ≡ maskOf five x
   unfolding maskOf
-  mask-none f g h = rw (none-of f g h)
+  mask-none f g h i j = rw (none-of f g h i j)
+
+-- what holds of each of five numbers
+pub each-of : (Q : ℕ → Type 0) (a b c d e : ℕ) → Q a → Q b → Q c → Q d → Q e → (m : ℕ) → member m (a ∷ b ∷ c ∷ d ∷ e ∷ []) ≡ true → Q m
+each-of Q a b c d e qa qb qc qd qe m i = first (member-cases m a (b ∷ c ∷ d ∷ e ∷ []) i)
+  where
+    at : (x : ℕ) → Q x → m ≡ x → Q m
+    at x q h = subst Q (sym h) q
+
+    fifth : (m ≡ e) ⊎ (member m [] ≡ true) → Q m
+    fifth (inl r) = at e qe r
+    fifth (inr r) = member-nil m r
+
+    fourth : (m ≡ d) ⊎ (member m (e ∷ []) ≡ true) → Q m
+    fourth (inl r) = at d qd r
+    fourth (inr r) = fifth (member-cases m e [] r)
+
+    third : (m ≡ c) ⊎ (member m (d ∷ e ∷ []) ≡ true) → Q m
+    third (inl r) = at c qc r
+    third (inr r) = fourth (member-cases m d (e ∷ []) r)
+
+    second : (m ≡ b) ⊎ (member m (c ∷ d ∷ e ∷ []) ≡ true) → Q m
+    second (inl r) = at b qb r
+    second (inr r) = third (member-cases m c (d ∷ e ∷ []) r)
+
+    first : (m ≡ a) ⊎ (member m (b ∷ c ∷ d ∷ e ∷ []) ≡ true) → Q m
+    first (inl r) = at a qa r
+    first (inr r) = second (member-cases m b (c ∷ d ∷ e ∷ []) r)
 
 pub rise-yes : (ms : List ℕ) (t x : ℕ) → member x ms ≡ true → rise ms t x ≡ x + t
 unfolding rise
@@ -118,66 +164,51 @@ module _ (S : Scheme) (U : Values) (ms : List ℕ) (t : ℕ) where
     clear = λ x m. s .clear x (ap (member x) (sym (numbers-no S U p ps e)) ∙ m);
   }
 
+  -- number x is met by m neither where it stands nor on its way
+  abbrev pub Misses : ℕ → ℕ → Type 0
+  Misses x m = (u : ℕ) → u ≤ t → x ≡ m + u → ⊥
+
+  -- so, or it is m itself, which rises
+  abbrev pub Apart : Bool → ℕ → ℕ → Type 0
+  Apart f x m = Misses x m ⊎ ((x ≡ m) × (f ≡ true))
+
+  apart-clear : (f : Bool) (x : ℕ) → ((m : ℕ) → member m ms ≡ true → Apart f x m) → Clear ms t x
+  apart-clear f x h m u i l k q = go (h m i)
+    where
+      go : Apart f x m → ⊥
+      go (inl d) = d u k q
+      go (inr d) = omega (arith, d .0)
+
+  -- a place that goes to another one t numbers on, or stays
+  pub shift-on : (f : Bool) (p q : Place) → Exists S U p → Exists S U q → (f ≡ true → numberOf S U q ≡ numberOf S U p + t)
+      → (f ≡ true → member (numberOf S U p) ms ≡ true) → (f ≡ false → q ≡ p) → ((m : ℕ) → member m ms ≡ true → Apart f (numberOf S U p) m)
+      → (ps qs : List Place) → Shifted ps qs → Shifted (p ∷ ps) (q ∷ qs)
+  shift-on f p q e h on in-ms stays apart ps qs s = go f refl
+    where
+      x : ℕ
+      x = numberOf S U p
+
+      clear : Clear ms t (numberOf S U p)
+      clear = apart-clear f (numberOf S U p) apart
+
+      here : (f ≡ false) → Apart f (numberOf S U p) (numberOf S U p) → ⊥
+      here b (inl d) = d 0 (omega arith) (omega arith)
+      here b (inr d) = true≢false (sym (d .1) ∙ b)
+
+      go : (b : Bool) → f ≡ b → Shifted (p ∷ ps) (q ∷ qs)
+      go true b = shift-yes p q ps qs e h clear (rise-yes ms t (numberOf S U p) (in-ms b) ∙ sym (on b)) s
+      go false b =
+          shift-yes p q ps qs e h clear
+          (rise-no ms t (numberOf S U p) (not-true-false (member (numberOf S U p) ms) (λ i. here b (apart (numberOf S U p) i)))
+          ∙ ap (numberOf S U) (sym (stays b))) s
+
   -- the places that number m goes through
   pub record Track (m : ℕ) (P : ℕ → Place) : Type 0 where
     pub there : (u : ℕ) → u ≤ t → Exists S U (P u)
     pub number : (u : ℕ) → u ≤ t → numberOf S U (P u) ≡ m + u
 
--- ---- three numbers that rise
-
-module _ (S : Scheme) (U : Values) (a b c t : ℕ) (A B C : ℕ → Place) where
-  abbrev moving : List ℕ
-  moving = a ∷ b ∷ c ∷ []
-
-  module _ (ta : Track S U moving t a A) (tb : Track S U moving t b B) (tc : Track S U moving t c C) where
-    -- a place that none of them comes to
-    pub record Aside (p : Place) : Type 0 where
-      pub of-a : (u : ℕ) → 0 < u → p ≡ A u → ⊥
-      pub of-b : (u : ℕ) → 0 < u → p ≡ B u → ⊥
-      pub of-c : (u : ℕ) → 0 < u → p ≡ C u → ⊥
-
-    meets : (m : ℕ) (P : ℕ → Place) → Track S U moving t m P → (p : Place) → Exists S U p → (u : ℕ) → u ≤ t → numberOf S U p ≡ m + u → p ≡ P u
-    meets m P k p e u h q = number-unique S U p p (P u) e (k .there u h) (q ∙ sym (k .number u h))
-
-    clear-of : (p : Place) → Exists S U p → Aside p → Clear moving t (numberOf S U p)
-    clear-of p e f m u i l h q = first (member-cases m a (b ∷ c ∷ []) i)
-      where
-        third : (m ≡ c) ⊎ (member m [] ≡ true) → ⊥
-        third (inl r) = f .of-c u l (meets c C tc p e u h (q ∙ rw r))
-        third (inr r) = member-nil m r
-
-        second : (m ≡ b) ⊎ (member m (c ∷ []) ≡ true) → ⊥
-        second (inl r) = f .of-b u l (meets b B tb p e u h (q ∙ rw r))
-        second (inr r) = third (member-cases m c [] r)
-
-        first : (m ≡ a) ⊎ (member m (b ∷ c ∷ []) ≡ true) → ⊥
-        first (inl r) = f .of-a u l (meets a A ta p e u h (q ∙ rw r))
-        first (inr r) = second (member-cases m b (c ∷ []) r)
-
-    module _ (ps qs : List Place) (s : Shifted S U moving t ps qs) where
-      -- a place that stays
-      pub stays : (p : Place) → Exists S U p → Aside p → (p ≡ A 0 → ⊥) → (p ≡ B 0 → ⊥) → (p ≡ C 0 → ⊥) → Shifted S U moving t (p ∷ ps) (p ∷ qs)
-      stays p e f na nb nc = shift-yes S U moving t p p ps qs e e (clear-of p e f) (rise-no moving t n none) s
-        where
-          n : ℕ
-          n = numberOf S U p
-
-          none : member n moving ≡ false
-          none =
-              none-of n a b c (λ q. na (meets a A ta p e 0 (omega arith) (omega (arith, q))))
-              (λ q. nb (meets b B tb p e 0 (omega arith) (omega (arith, q)))) (λ q. nc (meets c C tc p e 0 (omega arith) (omega (arith, q))))
-
-      goes : (m : ℕ) (P : ℕ → Place) → Track S U moving t m P → member m moving ≡ true → Aside (P 0) → Shifted S U moving t (P 0 ∷ ps) (P t ∷ qs)
-      goes m P k i f =
-          let z : numberOf S U (P 0) ≡ m = k .number 0 (omega arith) ∙ omega arith in
-          shift-yes S U moving t (P 0) (P t) ps qs (k .there 0 (omega arith)) (k .there t (omega arith)) (clear-of (P 0) (k .there 0 (omega arith)) f)
-          (rise-yes moving t (numberOf S U (P 0)) (rw z i) ∙ rw z (sym (k .number t (omega arith)))) s
-
-      pub goes-a : Aside (A 0) → Shifted S U moving t (A 0 ∷ ps) (A t ∷ qs)
-      goes-a = goes a A ta (member-here a (b ∷ c ∷ []))
-
-      pub goes-b : Aside (B 0) → Shifted S U moving t (B 0 ∷ ps) (B t ∷ qs)
-      goes-b = goes b B tb (member-there b a (b ∷ c ∷ []) (member-here b (c ∷ [])))
-
-      pub goes-c : Aside (C 0) → Shifted S U moving t (C 0 ∷ ps) (C t ∷ qs)
-      goes-c = goes c C tc (member-there c a (b ∷ c ∷ []) (member-there c b (c ∷ []) (member-here c [])))
+  -- a place that is none of them, or where m is no place's number
+  pub misses : (m : ℕ) (P : ℕ → Place) → (m ≡ 4294967295) ⊎ Track m P → (p : Place) → Exists S U p → numberOf S U p < 65536
+      → ((u : ℕ) → p ≡ P u → ⊥) → Misses (numberOf S U p) m
+  misses m P (inl e) p h l d u k q = omega arith
+  misses m P (inr r) p h l d u k q = d u (number-unique S U p p (P u) h (r .there u k) (q ∙ sym (r .number u k)))

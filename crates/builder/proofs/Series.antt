@@ -1,5 +1,5 @@
 -- Transitions that follow one another: their arcs as one list with masks, and one turn of the loop that writes them.
-use mathlib.Core.Path.{_≡_, refl, sym, ap, subst, _∙_}
+use mathlib.Core.Path.{_≡_, refl, sym, ap, _∙_}
 use mathlib.Core.Bool.{Bool, true, false}
 use mathlib.Core.List.{List, [], _∷_, _++_, map}
 use mathlib.Core.Logic.{_⊎_, inl, inr}
@@ -7,16 +7,17 @@ use Prim.Native.Nat.{ℕ, zero, suc, _+_, _-_, _≤_, _<_}
 use native.Mathlib.Omega.{arith}
 use native.Mathlib.Nat.{mod-eq-of-lt}
 use lib.Bits.{bitAnd, and-comm, and-zero-l, and-mask}
-use lib.ListN.{length, getD, take, drop, set, length-append, length-map}
-use lib.Seq.{length-take-le, take-append-le, getD-take}
+use lib.ListN.{length, getD, take, drop, set, length-append, length-map, take-append-drop}
+use lib.Seq.{slice, length-slice, length-take-le, take-append-le, getD-take, take-take, drop-drop}
 use Rattle.lists.specs.Lists.{pick, word, from, member}
 use Rattle.lists.proofs.Members.{member-getD, append-member, map-append}
-use Rattle.lists.proofs.Ranges.{from-more, from-done}
+use Rattle.lists.proofs.Slices.{slice-step, slice-none, lent-part}
 use Rattle.net.specs.Net.{Transition}
 use Rattle.builder.specs.Inner.Writing.{writes, Heads, heads, putOne, putAll, Inside, maskOf, rise, sums, Steady}
 use Rattle.builder.specs.Inner.Parts.{insOf, outsOf, Short, risen}
 use Rattle.builder.specs.declared.write.Arcs.{Arcs}
-use Rattle.builder.proofs.Writing.{writes-append, writes-behind, put-none, put-cons, inside-first, one-room}
+use Rattle.builder.proofs.Writing.{writes-append, writes-behind, one-room}
+use Rattle.builder.proofs.Turns.{turns-done, turn-inside, turn-more}
 
 -- ---- numbers with masks beside them
 
@@ -32,6 +33,44 @@ unfolding sums
 sums-length t [] ss e = refl
 sums-length t (x ∷ xs) [] e = absurd (omega arith)
 sums-length t (x ∷ xs) (s ∷ ss) e = ap suc (sums-length t xs ss (omega arith))
+
+-- four words at once
+pub four-written : (out : List ℕ) (k : ℕ) (xs : List ℕ) (i a b c d : ℕ) → i + 4 ≤ length xs → a ≡ getD xs i 0 → b ≡ getD xs (i + 1) 0
+    → c ≡ getD xs (i + 2) 0 → d ≡ getD xs (i + 3) 0
+    → set (set (set (set out k a) (k + 1) b) (k + 2) c) (k + 3) d ≡ writes out k (slice i (i + 4) xs)
+unfolding writes
+four-written out k xs i a b c d h ea eb ec ed =
+    let i2 : i + 1 + 1 ≡ i + 2 = omega arith in
+    let i3 : i + 2 + 1 ≡ i + 3 = omega arith in
+    let i4 : i + 3 + 1 ≡ i + 4 = omega arith in
+    let k2 : k + 1 + 1 ≡ k + 2 = omega arith in
+    let k3 : k + 2 + 1 ≡ k + 3 = omega arith in
+    let s3 : slice (i + 3) (i + 4) xs ≡ d ∷ [] =
+    slice-step xs (i + 3) (i + 4) (omega arith) h ∙ rw (i4, ← ed, slice-none xs (i + 4) (i + 4) (omega arith)) in
+    let s2 : slice (i + 2) (i + 4) xs ≡ c ∷ d ∷ [] = slice-step xs (i + 2) (i + 4) (omega arith) h ∙ rw (i3, ← ec, s3) in
+    let s1 : slice (i + 1) (i + 4) xs ≡ b ∷ c ∷ d ∷ [] = slice-step xs (i + 1) (i + 4) (omega arith) h ∙ rw (i2, ← eb, s2) in
+    let s0 : slice i (i + 4) xs ≡ a ∷ b ∷ c ∷ d ∷ [] = slice-step xs i (i + 4) (omega arith) h ∙ rw (← ea, s1) in
+    rw (s0, k2, k3)
+
+-- words in two parts
+slice-parts : (xs : List ℕ) (i m e : ℕ) → i ≤ m → m ≤ e → e ≤ length xs → slice i e xs ≡ slice i m xs ++ slice m e xs
+slice-parts xs i m e h k l =
+    sym (take-append-drop (m - i) (slice i e xs)) ∙ rw (front, back)
+  where
+    front : take (m - i) (slice i e xs) ≡ slice i m xs
+    front =
+        let a : i + (m - i) ≡ m = omega arith in
+        lent-part (take e xs) i (m - i) ∙ rw a (ap (drop i) (take-take m e xs k))
+
+    back : drop (m - i) (slice i e xs) ≡ slice m e xs
+    back = let a : i + (m - i) ≡ m = omega arith in drop-drop (m - i) i (take e xs) ∙ rw a
+
+pub parts-written : (out : List ℕ) (at : ℕ) (xs : List ℕ) (i m e : ℕ) → i ≤ m → m ≤ e → e ≤ length xs → (after : List ℕ)
+    → after ≡ writes out (at + i) (slice i m xs) → writes out (at + i) (slice i e xs) ≡ writes after (at + m) (slice m e xs)
+parts-written out at xs i m e h k l after q =
+    let n : length (slice i m xs) ≡ m - i = length-slice i m xs (omega arith) in
+    let a : at + i + length (slice i m xs) ≡ at + m = omega arith in
+    rw (slice-parts xs i m e h k l, writes-append out (at + i) (slice i m xs) (slice m e xs), a, ← q)
 
 masked : (t : ℕ) → t < 4294967296 → (b : Bool) → bitAnd (pick b 4294967295 0) t ≡ pick b t 0
 masked t h true = and-comm 4294967295 t ∙ and-mask t 32 ∙ mod-eq-of-lt h
@@ -149,16 +188,11 @@ module _ (arcs : Arcs) (ms list masks : List ℕ) (size : ℕ) (joined : Merged 
 
     module _ (all-of s : Heads) (t count : ℕ) (left : all-of ≡ putAll each s (from t (count - t))) where
       pub series-done : count ≤ t → s ≡ all-of
-      series-done h = sym (left ∙ rw (from-done t count h) (put-none each s))
+      series-done h = turns-done each all-of s t count left h
 
       module _ (h : t < count) where
-        split : all-of ≡ putAll each s ((t ∷ []) ++ from (t + 1) (count - (t + 1)))
-        split = left ∙ rw (from-more t count h)
-
         pub series-inside : Inside all-of → Inside (putOne s (each t))
-        series-inside k =
-            subst Inside (put-cons each s t [] ∙ put-none each (putOne s (each t)))
-            (inside-first each s (t ∷ []) (from (t + 1) (count - (t + 1))) (subst Inside split k))
+        series-inside k = turn-inside each all-of s t count left h (each t) refl k
 
         pub series-room : Inside all-of → (s .place + 6 ≤ length (s .out)) × (s .arc + size ≤ length (s .out)) × (s .arc < 4294967296)
         series-room k =
@@ -174,6 +208,5 @@ module _ (arcs : Arcs) (ms list masks : List ℕ) (size : ℕ) (joined : Merged 
             let d : length (map (rise ms t) (outsOf arcs)) ≡ arcs .outputs = length-map (outsOf arcs) (rise ms t) ∙ outs-size arcs (joined .short) in
             let n : arc ≡ s .arc + length (map (rise ms t) (insOf arcs) ++ map (rise ms t) (outsOf arcs)) = omega (arith, g, arcs-number t) in
             let o : o2 ≡ putOne s (each t) .out = rw (f, e, written t small, b, d) in
-            split ∙ put-cons each s t (from (t + 1) (count - (t + 1)))
-            ∙ ap (λ (l : List ℕ). putAll each (heads l (s .place + 6) (putOne s (each t) .arc)) (from (t + 1) (count - (t + 1)))) (sym o)
-            ∙ ap (λ (k : ℕ). putAll each (heads o2 (s .place + 6) k) (from (t + 1) (count - (t + 1)))) (sym n)
+            turn-more each all-of s t count left h (each t) refl (heads o2 (s .place + 6) arc)
+            (ap (λ (l : List ℕ). heads l (s .place + 6) arc) o ∙ ap (λ (k : ℕ). heads (putOne s (each t) .out) (s .place + 6) k) n)

@@ -1,27 +1,31 @@
 -- Loops over the values of a name by their index: what is left to write after i of them, one turn, and the end.
 -- `all` is what the whole loop writes, s are the heads where value i is due, t those behind its turn.
 use mathlib.Core.Path.{_≡_, sym, ap, subst, _∙_}
-use mathlib.Core.Bool.{true}
+use mathlib.Core.Bool.{Bool, true, false, not}
 use mathlib.Core.List.{List, [], _∷_, _++_, map}
 use Prim.Native.Nat.{ℕ, _+_, _≤_, _<_}
 use native.Mathlib.Omega.{arith}
 use lib.ListN.{length, drop}
-use Rattle.lists.specs.Lists.{word, flat, member}
+use Rattle.lists.specs.Lists.{pick, same, word, range, member}
+use Rattle.lists.proofs.Ranges.{from-length}
 use Rattle.lists.proofs.Slices.{drop-step, drop-none}
-use Rattle.lists.proofs.Members.{member-getD}
+use Rattle.lists.proofs.Members.{member-getD, keep-length}
 use Rattle.scheme.specs.Words.{publics}
 use Rattle.net.specs.Net.{Transition}
 use Rattle.builder.specs.Inner.Writing.{Heads, putAll, Inside}
 use Rattle.scheme.specs.Scheme.{scheme}
-use Rattle.places.specs.Plan.{privatesAt, Laid}
-use Rattle.places.specs.Reaches.{reachOf, commonReach}
+use Rattle.places.specs.Plan.{privatesAt, reachIn, Laid}
+use Rattle.places.specs.Sets.{bitAt}
+use Rattle.places.specs.Reaches.{commonReach}
 use Rattle.places.specs.Places.{common}
+use Rattle.places.proofs.Plans
 use Rattle.places.proofs.Reaches.{common-lists}
+use Rattle.places.proofs.NodeCounts.{values-read}
 use Rattle.places.specs.Inner.Plan.{today, privatesOf, values, Lists, reached}
 use Rattle.builder.specs.Inner.Parts.{ValueAt, CountOf}
-use Rattle.places.proofs.Names.{reach-lists, reached-few}
+use Rattle.places.proofs.Names.{reached-count}
 use Rattle.builder.proofs.Counted.{Counted, counted, counts}
-use Rattle.places.specs.declared.layout.Reach.{Reach}
+use Rattle.places.specs.declared.reach.Reach.{Reach}
 use Rattle.builder.proofs.Writing.{put-none, put-append, inside-first}
 
 module _ {A : Type 0} (f : A → Transition) (all s : Heads) (vs : List ℕ) (i : ℕ) where
@@ -41,24 +45,6 @@ module _ {A : Type 0} (f : A → Transition) (all s : Heads) (vs : List ℕ) (i 
       pub map-more : (t : Heads) → t ≡ putAll f s (g v ∷ []) → all ≡ putAll f t (map g (drop (i + 1) vs))
       map-more t e = map-split ∙ put-append f s (g v ∷ []) (map g (drop (i + 1) vs)) ∙ ap (λ (u : Heads). putAll f u (map g (drop (i + 1) vs))) (sym e)
 
-  -- ---- a list for each value
-
-  module _ (g : ℕ → List A) (left : all ≡ putAll f s (flat g (drop i vs))) where
-    pub flat-done : length vs ≤ i → s ≡ all
-    unfolding flat
-    flat-done h = sym (left ∙ rw (drop-none vs i h) (put-none f s))
-
-    module _ (v : ℕ) (h : i < length vs) (is : v ≡ word vs i) where
-      flat-split : all ≡ putAll f s (g v ++ flat g (drop (i + 1) vs))
-      unfolding flat
-      flat-split = left ∙ rw (drop-step vs i h, is)
-
-      pub flat-inside : Inside all → Inside (putAll f s (g v))
-      flat-inside k = inside-first f s (g v) (flat g (drop (i + 1) vs)) (subst Inside flat-split k)
-
-      pub flat-more : (t : Heads) → t ≡ putAll f s (g v) → all ≡ putAll f t (flat g (drop (i + 1) vs))
-      flat-more t e = flat-split ∙ put-append f s (g v) (flat g (drop (i + 1) vs)) ∙ ap (λ (u : Heads). putAll f u (flat g (drop (i + 1) vs))) (sym e)
-
 -- ---- the values as the code reads them
 
 module _ (w : List ℕ) (ps ns : ℕ) (r : Reach) (vs : List ℕ) (p : ps ≡ publics w) (n : ns ≡ privatesOf w)
@@ -75,6 +61,14 @@ module _ (w : List ℕ) (ps ns : ℕ) (r : Reach) (vs : List ℕ) (p : ps ≡ pu
   pub reach-member : (i v : ℕ) → i < length vs → v ≡ word (reached ps ns r) i → member v vs ≡ true
   reach-member i v h e = rw (reach-at i v e) (member-getD vs i h)
 
+pub reached-few : (p n : ℕ) (r : Reach) → length (reached p n r) ≤ p + n
+reached-few p n r =
+    omega (arith, reached-count p n r, keep-length (bitAt (r .publics)) (range p), from-length 0 p, pick-few (not (same (r .restricted) 0)))
+  where
+    pick-few : (b : Bool) → pick b n 0 ≤ n
+    pick-few true = omega arith
+    pick-few false = omega arith
+
 -- ---- the values of a name: its reach, how many there are, and value i
 
 pub record Valued (w : List ℕ) (z ps ns : ℕ) (r : Reach) (count : ℕ) : Type 0 where
@@ -84,50 +78,35 @@ pub record Valued (w : List ℕ) (z ps ns : ℕ) (r : Reach) (count : ℕ) : Typ
   pub value-is : (i v : ℕ) → i < length (values w z) → ValueAt ps r i v → v ≡ word (values w z) i
   pub member-is : (i v : ℕ) → i < length (values w z) → ValueAt ps r i v → member v (values w z) ≡ true
 
-pub valued : (w x : List ℕ) (z ps ns : ℕ) (r : Reach) (count : ℕ) → Laid w x → ps ≡ publics w → ns ≡ word x privatesAt → r ≡ reachOf (scheme w) z
-    → CountOf ns r count → Valued w z ps ns r count
+pub valued : (w x : List ℕ) (z ps ns : ℕ) (r : Reach) (count : ℕ) → Laid w x → ps ≡ publics w → ns ≡ word x privatesAt → r ≡ reachIn x z
+    → CountOf ps ns r count → Valued w z ps ns r count
 valued w x z ps ns r count L p n e c =
     let k = counted w x ps ns L p n in
-    let l : Lists (publics w) (privatesOf w) r (values w z) =
-    subst (λ (q : Reach). Lists (publics w) (privatesOf w) q (values w z)) (sym e) (reach-lists w z) in
+    let l = values-read w x L z r e in
     let is = reach-is w ps ns r (values w z) (k .publics-are) (k .privates-are) l in
     let m : length (reached ps ns r) ≡ length (values w z) = ap (λ (xs : List ℕ). length xs) is in
     record {
       counts = k;
       lists = l;
-      count-is = reach-count w ps ns r (values w z) (k .publics-are) (k .privates-are) l count (c ps);
+      count-is = reach-count w ps ns r (values w z) (k .publics-are) (k .privates-are) l count c;
       value-is = λ i v h f. reach-at w ps ns r (values w z) (k .publics-are) (k .privates-are) l i v (f ns (omega (arith, m)));
       member-is = λ i v h f. reach-member w ps ns r (values w z) (k .publics-are) (k .privates-are) l i v h (f ns (omega (arith, m)));
     }
 
 -- what reading them asks
-pub count-asks : (w x : List ℕ) (z ns : ℕ) (r : Reach) → Laid w x → ns ≡ word x privatesAt → r ≡ reachOf (scheme w) z
-    → (r .low ≤ r .high) × (r .high ≤ 65536) × (ns < 65536)
-count-asks w x z ns r L n e =
-    let l : Lists (publics w) (privatesOf w) r (values w z) =
-    subst (λ (q : Reach). Lists (publics w) (privatesOf w) q (values w z)) (sym e) (reach-lists w z) in
-    let k = counts w x L in
-    (l .order, omega (arith, l .inside, k .few-publics), omega (arith, n, k .privates-are, k .few-privates))
+pub count-asks : (w x : List ℕ) (ns : ℕ) → Laid w x → ns ≡ word x privatesAt → ns < 65536
+count-asks w x ns L n = let k = counts w x L in omega (arith, n, k .privates-are, k .few-privates)
 
 pub value-asks : (w : List ℕ) (z ps ns : ℕ) (r : Reach) (count : ℕ) → Valued w z ps ns r count → (i : ℕ) → i < count
-    → (r .low ≤ r .high) × (r .high ≤ 65536) × (ps < 65536) × (i < 131072)
+    → (ps ≤ 64) × (i < 65536)
 value-asks w z ps ns r count t i h =
     let k = t .counts in
-    let l = t .lists in
-    let m : length (reached (publics w) (privatesOf w) r) ≡ length (values w z) = ap (λ (xs : List ℕ). length xs) (l .is) in (
-      l .order,
-      omega (arith, l .inside, k .few-publics),
+    let m : length (reached (publics w) (privatesOf w) r) ≡ length (values w z) = ap (λ (xs : List ℕ). length xs) (t .lists .is) in (
       omega (arith, k .publics-are, k .few-publics),
-      omega (arith, t .count-is, m, reached-few (publics w) (privatesOf w) r, l .inside, k .few-publics, k .few-privates),
+      omega (arith, t .count-is, m, reached-few (publics w) (privatesOf w) r, k .few-publics, k .few-privates),
     )
 
--- a reach that is found
-pub reach-told : (w : List ℕ) (z : ℕ) (r : Reach) → r ≡ reachOf (scheme w) z → Lists (publics w) (privatesOf w) r (values w z)
-reach-told w z r e = subst (λ (q : Reach). Lists (publics w) (privatesOf w) q (values w z)) (sym e) (reach-lists w z)
-
 -- what two names share
-pub common-told : (w : List ℕ) (a e : ℕ) (x y r : Reach) → x ≡ reachOf (scheme w) a → y ≡ reachOf (scheme w) e → r ≡ commonReach x y
+pub common-told : (w i : List ℕ) → Laid w i → (a e : ℕ) (x y r : Reach) → x ≡ reachIn i a → y ≡ reachIn i e → r ≡ commonReach x y
     → Lists (publics w) (privatesOf w) r (common (scheme w) (today w) a e)
-common-told w a e x y r f g h =
-    let q : r ≡ commonReach (reachOf (scheme w) a) (reachOf (scheme w) e) = h ∙ rw (f, g) in
-    subst (λ (k : Reach). Lists (publics w) (privatesOf w) k (common (scheme w) (today w) a e)) (sym q) (common-lists w a e)
+common-told w i L a e x y r f g h = rw (h, f, g, Plans.reach-is w i L a, Plans.reach-is w i L e) (common-lists w (L .accepted) a e)

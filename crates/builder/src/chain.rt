@@ -5,24 +5,22 @@ ghost use mathlib.Core.List.{[], _∷_, map};
 ghost use Prim.Native.Nat.{_+_, _<_, _≤_};
 ghost use lib.Dec.{ltb};
 ghost use lib.ListN.{length};
-ghost use Rattle.lists.specs.Lists.{pick, from};
+ghost use Rattle.lists.specs.Lists.{pick, from, range};
 ghost use Rattle.scheme.specs.Words.{publics, names};
 ghost use Rattle.scheme.specs.Owners.{held};
 ghost use Rattle.scheme.specs.Scheme.{scheme};
-ghost use Rattle.places.specs.Places.{differs, free};
-ghost use Rattle.places.specs.Rows.{numberOf};
+ghost use Rattle.places.specs.Rows.{freeStart};
 ghost use Rattle.places.specs.Transitions.{releasing, releases, copying, copies};
-ghost use Rattle.builder.specs.Inner.Writing.{Inside};
-ghost use Rattle.places.specs.Inner.Plan.{today, values, argumentName};
+ghost use Rattle.builder.specs.Inner.Writing.{putAll, Inside};
+ghost use Rattle.builder.specs.Inner.Released.{released, returned, Releasing};
+ghost use Rattle.places.specs.Inner.Plan.{today, privatesOf, rowOf, values, argumentName};
 ghost use Rattle.builder.specs.Inner.Parts.{put, state};
 ghost use Rattle.places.specs.Plan.{Laid};
-ghost use Rattle.builder.specs.Inner.Parts.{Chained};
+ghost use Rattle.builder.specs.Inner.Parts.{Chained, Takes, TakesAll};
 ghost use Rattle.places.specs.Inner.Plan.{Holds, Reads, Named, Frees};
 use crate::insertion::insert;
 use crate::insertion::insert_equals;
 use crate::layout::differs;
-use crate::layout::equals;
-use crate::layout::free_place;
 use crate::layout::value_at;
 use crate::layout::value_count;
 use crate::write::Heads;
@@ -30,8 +28,12 @@ use crate::write::Label;
 use crate::write::transition;
 use lists::word16;
 use lists::word32;
-use places::layout::reach_of;
+use places::count::publics_of;
+use places::lookup::free_start;
 use places::lookup::privates;
+use places::lookup::row_start;
+use places::reach::has_privates;
+use places::reach::reach_of;
 use scheme::fields::field1;
 use scheme::fields::name_kind;
 use scheme::lookup::held_names;
@@ -70,55 +72,77 @@ pub(crate) fn on(c: Chain, k: usize) -> u32
     c.last as u32
 }
 
-// The place that a release of private value v gives: [*≠v] if name z is restricted, else [z≠v].
-fn given_back(table: &[u16], index: &[u32], z: usize, v: usize) -> u32
-    requires { ⌜ Laid (now table) (now index) × Holds (now table) z v × (publics (now table) ≤ v) ⌝ }
-    ensures { λ r. ⌜ r ≡ numberOf (scheme (now (table .entry))) (today (now (table .entry)))
-        (pick (scheme (now (table .entry)) .restricted z) (free v) (differs z v)) ⌝ }
+// Where the first private value is given back: at [*≠n] if name z is restricted, else at [z≠n], behind the values of
+// z, of which `count` are public.
+fn given_back(table: &[u16], index: &[u32], z: usize, count: usize) -> usize
+    requires { ⌜ Laid (now table) (now index) × (publics (now table) ≤ z) × (z < names (now table)) × (count ≤ 64) ⌝ }
+    ensures { λ r. ⌜ r ≡ pick (scheme (now (table .entry)) .restricted z)
+        (freeStart (scheme (now (table .entry))) (today (now (table .entry))))
+        (rowOf (now (table .entry)) z + count + privatesOf (now (table .entry))) ⌝ }
 {
     if name_kind(table, z) == 0 {
-        return free_place(table, index, v);
+        return free_start(index);
     }
-    differs(table, index, z, v)
+    row_start(index, z) + count + privates(index)
 }
 
-// The release of a name with value v.
-fn release(
-    table: &[u16],
-    index: &[u32],
-    out: &mut [u32],
-    h: Heads,
-    c: Chain,
-    x: Held,
-    v: usize,
-) -> Heads
-    requires { ⌜ Laid (now table) (now index) × Chained (now table) c × (x .k < c .controls)
-        × Holds (now table) (x .name) v
-        × Inside (put (now table) (now out) h
-        (releasing (scheme (now table)) (today (now table)) (c .node) (c .to) (x .k) (x .name) v ∷ [])) ⌝ }
+// The releases of `count` public values of a name, the first of which has its place at `row`.
+fn release_publics(out: &mut [u32], h: Heads, c: Chain, x: Held, row: usize, count: usize) -> Heads
+    requires { ⌜ Releasing c x × (row + count < 4294967296)
+        × Inside (putAll (released c x row) (state (now out) h) (range count)) ⌝ }
     ensures { λ r. ⌜ state (now (out .exit)) r
-        ≡ put (now (table .entry)) (now (out .entry)) h
-        (releasing (scheme (now (table .entry))) (today (now (table .entry))) (c .node) (c .to) (x .k) (x .name) v
-        ∷ []) ⌝ }
+        ≡ putAll (released c x row) (state (now (out .entry)) h) (range count) ⌝ }
 {
-    let publics = word16(table, 0);
-    let ins = [equals(table, index, x.name, v), (c.first + x.k) as u32];
-    let after = on(c, x.k);
-    let mut outs = [after; 2];
-    let mut outputs = 1;
-    if v >= publics {
-        outs = [given_back(table, index, x.name, v), after];
-        outputs = 2;
-    }
     let label = Label {
         kind: 1,
         a: c.node,
         b: x.name,
     };
-    transition(out, h, label, &ins, 2, &outs, outputs)
+    let outs = [on(c, x.k); 1];
+    let mut q = h;
+    let mut i = 0;
+    while i < count {
+        let ins = [(row + i) as u32, (c.first + x.k) as u32];
+        q = transition(out, q, label, &ins, 2, &outs, 1);
+        i += 1;
+    }
+    q
 }
 
-// The releases of one name at place k of a chain.
+// The releases of `count` private values of a name, the first of which has its place at `row` and is given back at
+// `back`.
+fn release_privates(
+    out: &mut [u32],
+    h: Heads,
+    c: Chain,
+    x: Held,
+    row: usize,
+    back: usize,
+    count: usize,
+) -> Heads
+    requires { ⌜ Releasing c x × (row + count < 4294967296) × (back + count < 4294967296)
+        × Inside (putAll (returned c x row back) (state (now out) h) (range count)) ⌝ }
+    ensures { λ r. ⌜ state (now (out .exit)) r
+        ≡ putAll (returned c x row back) (state (now (out .entry)) h) (range count) ⌝ }
+{
+    let label = Label {
+        kind: 1,
+        a: c.node,
+        b: x.name,
+    };
+    let after = on(c, x.k);
+    let mut q = h;
+    let mut i = 0;
+    while i < count {
+        let ins = [(row + i) as u32, (c.first + x.k) as u32];
+        let outs = [(back + i) as u32, after];
+        q = transition(out, q, label, &ins, 2, &outs, 2);
+        i += 1;
+    }
+    q
+}
+
+// The releases of one name at place k of a chain: of its public values, then of its private ones.
 fn release_name(
     table: &[u16],
     index: &[u32],
@@ -137,17 +161,17 @@ fn release_name(
         (map (releasing (scheme (now (table .entry))) (today (now (table .entry))) (c .node) (c .to) k z)
         (values (now (table .entry)) z)) ⌝ }
 {
-    let publics = word16(table, 0);
-    let r = reach_of(table, z);
-    let count = value_count(privates(index), r);
-    let mut q = h;
-    let mut i = 0;
-    while i < count {
-        let v = value_at(publics, r, i);
-        q = release(table, index, out, q, c, Held { k, name: z }, v);
-        i += 1;
+    let x = Held { k, name: z };
+    let r = reach_of(index, z);
+    let row = row_start(index, z);
+    let count = publics_of(table, r);
+    let q = release_publics(out, h, c, x, row, count);
+    if !has_privates(r) {
+        return q;
     }
-    q
+    let first = row + count;
+    let back = given_back(table, index, z, count);
+    release_privates(out, q, c, x, first, back, privates(index))
 }
 
 // The releases of the names that the node of a chain holds, the first at place k.
@@ -192,7 +216,7 @@ fn copy(
     requires { ⌜ Laid (now table) (now index) × Chained (now table) c × (x .k < c .controls)
         × (publics (now table) ≤ x .formal) × (x .formal < names (now table))
         × (scheme (now table) .restricted (x .formal) ≡ false)
-        × Reads (now table) (x .argument) v
+        × Reads (now table) (x .argument) v × Holds (now table) (x .formal) v
         × Inside (put (now table) (now out) h
         (copying (scheme (now table)) (today (now table)) (c .node) (c .to) (x .k) (x .formal) (x .argument) v
         ∷ [])) ⌝ }
@@ -232,7 +256,7 @@ fn copy_formal(
     requires { ⌜ Laid (now table) (now index) × Chained (now table) c × (x .k < c .controls)
         × (publics (now table) ≤ x .formal) × (x .formal < names (now table))
         × (scheme (now table) .restricted (x .formal) ≡ false)
-        × (x .argument < names (now table))
+        × (x .argument < names (now table)) × Takes (now table) (x .formal) (x .argument)
         × Inside (put (now table) (now out) h
         (map (copying (scheme (now table)) (today (now table)) (c .node) (c .to) (x .k) (x .formal) (x .argument))
         (values (now table) (x .argument)))) ⌝ }
@@ -242,8 +266,8 @@ fn copy_formal(
         (x .argument)) (values (now (table .entry)) (x .argument))) ⌝ }
 {
     let publics = word16(table, 0);
-    let r = reach_of(table, x.argument);
-    let count = value_count(privates(index), r);
+    let r = reach_of(index, x.argument);
+    let count = value_count(publics, privates(index), r);
     let mut q = h;
     let mut i = 0;
     while i < count {
@@ -267,6 +291,7 @@ pub(crate) fn copy_all(
         × (x .argument < 65536)
         × Frees (now table) (from (x .formal) count)
         × Named (now table) (map (argumentName (now table)) (from (x .argument) count))
+        × TakesAll (now table) (x .formal) (x .argument) count
         × Inside (put (now table) (now out) h
         (copies (scheme (now table)) (today (now table)) (c .node) (c .to) (x .k) (from (x .formal) count)
         (map (argumentName (now table)) (from (x .argument) count)))) ⌝ }

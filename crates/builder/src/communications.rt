@@ -1,36 +1,48 @@
 // The communications.
-ghost use mathlib.Core.Bool.{true};
 ghost use mathlib.Core.Path.{_≡_};
-ghost use mathlib.Core.List.{[], _∷_, map};
-ghost use Prim.Native.Nat.{_-_, _<_};
-ghost use Rattle.lists.specs.Lists.{from};
-ghost use Rattle.scheme.specs.Words.{branches, channel, branchName, isSend};
-ghost use Rattle.builder.specs.Inner.Writing.{Inside};
-ghost use Rattle.builder.specs.Inner.Parts.{put, state, told, sentTold, pairTold, withAll, allTold};
+ghost use mathlib.Core.List.{map};
+ghost use Prim.Native.Nat.{_<_, _≤_};
+ghost use lib.ListN.{length};
+ghost use Rattle.lists.specs.Lists.{pick, from};
+ghost use Rattle.scheme.specs.Words.{publics, branches};
+ghost use Rattle.places.specs.Places.{equals, differs};
 ghost use Rattle.places.specs.Plan.{Laid};
-ghost use Rattle.builder.specs.Inner.Parts.{Paired};
-ghost use Rattle.places.specs.Inner.Plan.{Reads};
-ghost use Rattle.builder.specs.Inner.Parts.{Tells, Run};
+ghost use Rattle.places.specs.Sides.{partnerSet};
+ghost use Rattle.places.specs.Inner.Plan.{Reads, Differs};
+ghost use Rattle.places.specs.Inner.Counting.{Pairs};
+ghost use Rattle.builder.specs.Inner.Writing.{Inside};
+ghost use Rattle.builder.specs.Inner.Spans.{valuesIn};
+ghost use Rattle.builder.specs.Inner.Parts.{put, state, pairTold, withAll, allTold, arcs, Tells, Paired, pairOf};
+ghost use Rattle.builder.specs.Inner.Parts.{spotOf, Spotted, Can, risersOf, toldBy, Telling, Told, Coursed};
 use crate::insertion::insert;
-use crate::insertion::insert_equals;
+use crate::insertion::insert_spot;
 use crate::layout::differs;
 use crate::layout::equals;
-use crate::layout::value_at;
 use crate::layout::value_count;
+use crate::spans::Span;
+use crate::spans::Values;
+use crate::spans::behind;
+use crate::spans::behind_one;
+use crate::spans::first_run;
+use crate::spans::first_value;
+use crate::spans::is_none;
+use crate::spans::values_of;
 use crate::write::Arcs;
 use crate::write::Heads;
 use crate::write::Label;
 use crate::write::Risers;
 use crate::write::series;
 use crate::write::transition;
+use crate::write::words;
 use lists::word16;
-use places::count::common;
-use places::layout::reach_of;
-use places::lookup::node_start;
+use lists::word32;
+use places::count::Side;
+use places::count::receive_at;
+use places::count::side_of;
 use places::lookup::privates;
-use scheme::fields::field4;
-use scheme::lookup::branch_thread;
-use scheme::lookup::home;
+use places::pairs::SETS;
+use places::reach::common;
+use places::reach::reach_of;
 
 // What the communications of a send and a receive share: the branches, the names that they use, and the places before
 // and after them.
@@ -47,195 +59,320 @@ pub struct Pair {
     pub onreceive: u32,
 }
 
-// Sent values that follow one another: the first, and how many they are.
-pub struct Span {
-    pub low: usize,
-    pub count: usize,
+// The numbers of the places of names that a communication reads, takes or gives, 2³² − 1 for a place that the net does
+// not have: both channels, the sent name, and of the bound one the value given and, where private, the one taken.
+pub struct Spots {
+    pub channel: u32,
+    pub heard: u32,
+    pub sent: u32,
+    pub bound: u32,
+    pub free: u32,
 }
 
-// The arcs at channel value i and sent value j. What is read is both input and output.
-fn arcs_of(table: &[u16], index: &[u32], p: Pair, i: usize, j: usize) -> Arcs
-    requires { ⌜ Laid (now table) (now index) × Paired (now table) p
-        × Reads (now table) (channel (now table) (p .send)) i × Reads (now table) (channel (now table) (p .receive)) i
-        × Reads (now table) (branchName (now table) (p .send)) j ⌝ }
-    ensures { λ r. ⌜ Tells (now (table .entry)) p i j r ⌝ }
+// How the values of a run are told: as channel values, as sent values, or as both; the other one stays.
+pub struct Way {
+    pub channels: bool,
+    pub sents: bool,
+    pub other: usize,
+}
+
+// How the communications of a send are gone through: whether runs are of channel values, and of sent values, and the
+// sent values; a name sent on itself goes with its channel, and stands as one value.
+pub struct Course {
+    pub channels: bool,
+    pub sents: bool,
+    pub values: Values,
+}
+
+// How many arcs there are, and the places of names among them.
+pub struct Sizes {
+    pub inputs: usize,
+    pub outputs: usize,
+    pub spots: Spots,
+}
+
+// The number of [name=v], if the name is bound.
+fn spot(table: &[u16], index: &[u32], name: usize, v: usize) -> u32
+    requires { ⌜ Laid (now table) (now index) × Reads (now table) name v ⌝ }
+    ensures { λ r. ⌜ r ≡ spotOf (now (table .entry)) (equals name v) ⌝ }
 {
-    let publics = word16(table, 0);
-    let mut ins = [0u32; 8];
-    let mut c = insert_equals(table, index, &mut ins, 0, p.channel, i);
-    c = insert_equals(table, index, &mut ins, c, p.heard, i);
-    c = insert_equals(table, index, &mut ins, c, p.sent, j);
-    let mut outs = ins;
-    let mut o = insert_equals(table, index, &mut outs, c, p.bound, j);
-    o = insert(&mut outs, o, p.onsend);
-    o = insert(&mut outs, o, p.onreceive);
-    if publics <= j {
-        c = insert(&mut ins, c, differs(table, index, p.bound, j));
+    if name < word16(table, 0) {
+        return 4294967295;
     }
-    c = insert(&mut ins, c, p.sender);
-    c = insert(&mut ins, c, p.receiver);
-    Arcs {
-        ins,
-        inputs: c,
-        outs,
-        outputs: o,
+    equals(table, index, name, v)
+}
+
+// The number of [name≠v], if v is private.
+fn free_spot(table: &[u16], index: &[u32], name: usize, v: usize) -> u32
+    requires { ⌜ Laid (now table) (now index) × (publics (now table) ≤ v → Differs (now table) name v) ⌝ }
+    ensures { λ r. ⌜ r ≡ spotOf (now (table .entry)) (differs name v) ⌝ }
+{
+    if v < word16(table, 0) {
+        return 4294967295;
+    }
+    differs(table, index, name, v)
+}
+
+// The places of names at channel value i and sent value j.
+fn spots_of(table: &[u16], index: &[u32], p: Pair, i: usize, j: usize) -> Spots
+    requires { ⌜ Laid (now table) (now index) × Paired (now table) p × Can (now table) p i j ⌝ }
+    ensures { λ r. ⌜ Spotted (now (table .entry)) p i j r ⌝ }
+{
+    Spots {
+        channel: spot(table, index, p.channel, i),
+        heard: spot(table, index, p.heard, i),
+        sent: spot(table, index, p.sent, j),
+        bound: spot(table, index, p.bound, j),
+        free: free_spot(table, index, p.bound, j),
     }
 }
 
-fn communicate(
+// Fills in the arcs at channel value i and sent value j. What is read is both input and output.
+fn arcs_of(
     table: &[u16],
     index: &[u32],
-    out: &mut [u32],
-    h: Heads,
     p: Pair,
     i: usize,
     j: usize,
-) -> Heads
-    requires { ⌜ Laid (now table) (now index) × Paired (now table) p
-        × Reads (now table) (channel (now table) (p .send)) i × Reads (now table) (channel (now table) (p .receive)) i
-        × Reads (now table) (branchName (now table) (p .send)) j
-        × Inside (put (now table) (now out) h (told (now table) (p .send) (p .receive) i j ∷ [])) ⌝ }
-    ensures { λ r. ⌜ state (now (out .exit)) r
-        ≡ put (now (table .entry)) (now (out .entry)) h (told (now (table .entry)) (p .send) (p .receive) i j ∷ []) ⌝ }
+    ins: &mut [u32],
+    outs: &mut [u32],
+) -> Sizes
+    requires { ⌜ Laid (now table) (now index) × Paired (now table) p × Can (now table) p i j
+        × (length (now ins) ≡ 8) × (length (now outs) ≡ 8) ⌝ }
+    ensures { λ r. ⌜ Tells (now (table .entry)) p i j
+        (arcs (now (ins .exit)) (r .inputs) (now (outs .exit)) (r .outputs))
+        × Spotted (now (table .entry)) p i j (r .spots) ⌝ }
 {
-    let t = arcs_of(table, index, p, i, j);
-    let ins = t.ins;
-    let outs = t.outs;
-    let label = Label {
-        kind: 4,
-        a: p.send,
-        b: p.receive,
-    };
-    transition(out, h, label, &ins, t.inputs, &outs, t.outputs)
+    let t = spots_of(table, index, p, i, j);
+    let mut c = insert_spot(ins, 0, t.channel);
+    c = insert_spot(ins, c, t.heard);
+    c = insert_spot(ins, c, t.sent);
+    let mut o = words(outs, 0, ins, c);
+    o = insert_spot(outs, o, t.bound);
+    o = insert(outs, o, p.onsend);
+    o = insert(outs, o, p.onreceive);
+    c = insert_spot(ins, c, t.free);
+    c = insert(ins, c, p.sender);
+    c = insert(ins, c, p.receiver);
+    Sizes {
+        inputs: c,
+        outputs: o,
+        spots: t,
+    }
 }
 
-// A span of sent values for one channel value. From one to the next the places of the sent name and of the bound
-// name rise by 1, and the order of the arcs stays.
+// The value of a run where it is told, else the one that stays.
+fn value_of(moves: bool, v: usize, other: usize) -> usize
+    ensures { λ r. ⌜ r ≡ pick moves v other ⌝ }
+{
+    if moves {
+        return v;
+    }
+    other
+}
+
+// The number of a place that rises from one value of a run to the next, 2³² − 1 for one that stays.
+fn riser(moves: bool, x: u32) -> u32
+    ensures { λ r. ⌜ r ≡ pick moves x 4294967295 ⌝ }
+{
+    if moves {
+        return x;
+    }
+    4294967295
+}
+
+fn risers(way: Way, t: Spots) -> Risers
+    ensures { λ r. ⌜ r ≡ risersOf way t ⌝ }
+{
+    Risers {
+        a: riser(way.channels, t.channel),
+        b: riser(way.channels, t.heard),
+        c: riser(way.sents, t.sent),
+        d: riser(way.sents, t.bound),
+        e: riser(way.sents, t.free),
+    }
+}
+
+// The communications of a run. From one value to the next the places of the names that are told rise by 1, and the
+// order of the arcs stays.
 fn tell(
     table: &[u16],
     index: &[u32],
     out: &mut [u32],
     h: Heads,
     p: Pair,
-    i: usize,
+    way: Way,
     s: Span,
 ) -> Heads
-    requires { ⌜ Laid (now table) (now index) × Paired (now table) p
-        × Reads (now table) (channel (now table) (p .send)) i × Reads (now table) (channel (now table) (p .receive)) i
-        × Run (now table) p (s .low) (s .count)
-        × Inside (put (now table) (now out) h
-        (map (told (now table) (p .send) (p .receive) i) (from (s .low) (s .count)))) ⌝ }
+    requires { ⌜ Laid (now table) (now index) × Paired (now table) p × Telling (now table) p way (s .low) (s .count)
+        × Inside (put (now table) (now out) h (map (toldBy (now table) p way) (from (s .low) (s .count)))) ⌝ }
     ensures { λ r. ⌜ state (now (out .exit)) r
         ≡ put (now (table .entry)) (now (out .entry)) h
-        (map (told (now (table .entry)) (p .send) (p .receive) i) (from (s .low) (s .count))) ⌝ }
+        (map (toldBy (now (table .entry)) p way) (from (s .low) (s .count))) ⌝ }
 {
-    let publics = word16(table, 0);
-    let t = arcs_of(table, index, p, i, s.low);
-    let z = equals(table, index, p.sent, s.low);
-    let y = equals(table, index, p.bound, s.low);
+    let i = value_of(way.channels, s.low, way.other);
+    let j = value_of(way.sents, s.low, way.other);
+    let mut ins = [0u32; 8];
+    let mut outs = [0u32; 8];
+    let t = arcs_of(table, index, p, i, j, &mut ins, &mut outs);
     let label = Label {
         kind: 4,
         a: p.send,
         b: p.receive,
     };
-    if s.low < publics {
-        return series(out, h, label, t, Risers { a: z, b: y, c: z }, s.count);
+    if s.count == 1 {
+        return transition(out, h, label, &ins, t.inputs, &outs, t.outputs);
     }
-    let d = differs(table, index, p.bound, s.low);
-    series(out, h, label, t, Risers { a: z, b: y, c: d }, s.count)
+    let arcs = Arcs {
+        ins,
+        inputs: t.inputs,
+        outs,
+        outputs: t.outputs,
+    };
+    series(out, h, label, arcs, risers(way, t.spots), s.count)
 }
 
-// All sent values for one channel value.
-fn sent(table: &[u16], index: &[u32], out: &mut [u32], h: Heads, p: Pair, i: usize) -> Heads
-    requires { ⌜ Laid (now table) (now index) × Paired (now table) p
-        × Reads (now table) (channel (now table) (p .send)) i × Reads (now table) (channel (now table) (p .receive)) i
-        × Inside (put (now table) (now out) h (sentTold (now table) (p .send) (p .receive) i)) ⌝ }
+// The communications of all values, run by run.
+fn values_told(
+    table: &[u16],
+    index: &[u32],
+    out: &mut [u32],
+    h: Heads,
+    p: Pair,
+    way: Way,
+    x: Values,
+) -> Heads
+    requires { ⌜ Laid (now table) (now index) × Paired (now table) p × Told (now table) p way x
+        × Inside (put (now table) (now out) h (map (toldBy (now table) p way) (valuesIn x))) ⌝ }
     ensures { λ r. ⌜ state (now (out .exit)) r
-        ≡ put (now (table .entry)) (now (out .entry)) h (sentTold (now (table .entry)) (p .send) (p .receive) i) ⌝ }
+        ≡ put (now (table .entry)) (now (out .entry)) h (map (toldBy (now (table .entry)) p way) (valuesIn x)) ⌝ }
 {
-    let publics = word16(table, 0);
-    let privates = privates(index);
-    if p.sent == p.channel {
-        return communicate(table, index, out, h, p, i, i);
-    }
-    if p.sent < publics {
-        return communicate(table, index, out, h, p, i, p.sent);
-    }
-    let r = reach_of(table, p.sent);
     let mut q = h;
-    if r.low < r.high {
-        let s = Span {
-            low: r.low,
-            count: r.high - r.low,
-        };
-        q = tell(table, index, out, q, p, i, s);
-    }
-    if r.privates {
-        if 0 < privates {
-            let s = Span {
-                low: publics,
-                count: privates,
-            };
-            q = tell(table, index, out, q, p, i, s);
-        }
+    let mut left = x;
+    while !is_none(left) {
+        let s = first_run(left);
+        q = tell(table, index, out, q, p, way, s);
+        left = behind(left, s);
     }
     q
 }
 
-fn pair_up(table: &[u16], index: &[u32], out: &mut [u32], h: Heads, p: Pair) -> Heads
-    requires { ⌜ Laid (now table) (now index) × Paired (now table) p
+// The first values where the test holds, else the second.
+fn either(test: bool, x: Values, y: Values) -> Values
+    ensures { λ r. ⌜ r ≡ pick test x y ⌝ }
+{
+    if test {
+        return x;
+    }
+    y
+}
+
+// The communications of a send and a receive.
+fn pair_up(table: &[u16], index: &[u32], out: &mut [u32], h: Heads, p: Pair, c: Course) -> Heads
+    requires { ⌜ Laid (now table) (now index) × Paired (now table) p × Coursed (now table) (p .channel) (p .sent) c
         × Inside (put (now table) (now out) h (pairTold (now table) (p .send) (p .receive))) ⌝ }
     ensures { λ r. ⌜ state (now (out .exit)) r
         ≡ put (now (table .entry)) (now (out .entry)) h (pairTold (now (table .entry)) (p .send) (p .receive)) ⌝ }
 {
-    let publics = word16(table, 0);
-    let i = common(reach_of(table, p.channel), reach_of(table, p.heard));
-    let count = value_count(privates(index), i);
+    let both = common(reach_of(index, p.channel), reach_of(index, p.heard));
+    let shared = values_of(word16(table, 0), privates(index), both);
+    let inner = either(c.channels, shared, c.values);
+    let mut left = either(c.channels, c.values, shared);
     let mut q = h;
-    let mut k = 0;
-    while k < count {
-        q = sent(table, index, out, q, p, value_at(publics, i, k));
-        k += 1;
+    while !is_none(left) {
+        let way = Way {
+            channels: c.channels,
+            sents: c.sents,
+            other: first_value(left),
+        };
+        q = values_told(table, index, out, q, p, way, inner);
+        left = behind_one(left);
     }
     q
 }
 
-fn partners(table: &[u16], index: &[u32], out: &mut [u32], h: Heads, send: usize) -> Heads
-    requires { ⌜ Laid (now table) (now index)
-        × (send < branches (now table)) × (isSend (now table) send ≡ true)
+// How the communications of a send are gone through: a single sent value goes with all channel values.
+fn course_of(table: &[u16], index: &[u32], channel: usize, name: usize) -> Course
+    requires { ⌜ Laid (now table) (now index) ⌝ }
+    ensures { λ r. ⌜ Coursed (now (table .entry)) channel name r ⌝ }
+{
+    let publics = word16(table, 0);
+    let privates = privates(index);
+    if name == channel {
+        let values = Values {
+            set: 1,
+            low: 0,
+            end: 0,
+        };
+        return Course {
+            channels: true,
+            sents: true,
+            values,
+        };
+    }
+    let reach = reach_of(index, name);
+    let one = value_count(publics, privates, reach) == 1;
+    Course {
+        channels: one,
+        sents: !one,
+        values: values_of(publics, privates, reach),
+    }
+}
+
+// A send and a receive by what is told of them.
+fn pair_of(s: Side, r: Side) -> Pair
+    ensures { λ p. ⌜ p ≡ pairOf s r ⌝ }
+{
+    Pair {
+        send: s.branch as usize,
+        receive: r.branch as usize,
+        channel: s.channel as usize,
+        sent: s.name as usize,
+        heard: r.channel as usize,
+        bound: r.name as usize,
+        sender: s.place,
+        onsend: s.on,
+        receiver: r.place,
+        onreceive: r.on,
+    }
+}
+
+// The communications of a send with the receives of a set, which are all that it can meet.
+fn partners(
+    table: &[u16],
+    index: &[u32],
+    out: &mut [u32],
+    h: Heads,
+    send: u32,
+    set: u64,
+    pairs: &[u32],
+) -> Heads
+    requires { ⌜ Laid (now table) (now index) × Pairs (now table) (now index) (now pairs)
+        × (send < branches (now table)) × (set ≡ partnerSet (now table) (now index) send)
         × Inside (put (now table) (now out) h (withAll (now table) send)) ⌝ }
     ensures { λ r. ⌜ state (now (out .exit)) r
         ≡ put (now (table .entry)) (now (out .entry)) h (withAll (now (table .entry)) send) ⌝ }
 {
-    let branches = word16(table, 5);
-    let own = branch_thread(table, index, send);
+    let side = side_of(table, index, send);
+    let course = course_of(table, index, side.channel as usize, side.name as usize);
     let mut q = h;
-    let mut r = 0;
-    while r < branches {
-        if field4(table, 11, r, 0) == 2 {
-            if branch_thread(table, index, r) != own {
-                let p = Pair {
-                    send,
-                    receive: r,
-                    channel: field4(table, 11, send, 1),
-                    sent: field4(table, 11, send, 2),
-                    heard: field4(table, 11, r, 1),
-                    bound: field4(table, 11, r, 2),
-                    sender: node_start(index, home(index, send)) as u32,
-                    onsend: node_start(index, field4(table, 11, send, 3)) as u32,
-                    receiver: node_start(index, home(index, r)) as u32,
-                    onreceive: node_start(index, field4(table, 11, r, 3)) as u32,
-                };
-                q = pair_up(table, index, out, q, p);
-            }
-        }
-        r += 1;
+    let mut left = set;
+    while left != 0 {
+        let p = pair_of(side, receive_at(pairs, u64::trailing_zeros(left) as u16));
+        q = pair_up(table, index, out, q, p, course);
+        left = left & (left - 1);
     }
     q
 }
 
-pub(crate) fn communications(table: &[u16], index: &[u32], out: &mut [u32], h: Heads) -> Heads
-    requires { ⌜ Laid (now table) (now index)
+pub(crate) fn communications(
+    table: &[u16],
+    index: &[u32],
+    pairs: &[u32],
+    out: &mut [u32],
+    h: Heads,
+) -> Heads
+    requires { ⌜ Laid (now table) (now index) × Pairs (now table) (now index) (now pairs)
         × Inside (put (now table) (now out) h (allTold (now table))) ⌝ }
     ensures { λ r. ⌜ state (now (out .exit)) r
         ≡ put (now (table .entry)) (now (out .entry)) h (allTold (now (table .entry))) ⌝ }
@@ -244,8 +381,9 @@ pub(crate) fn communications(table: &[u16], index: &[u32], out: &mut [u32], h: H
     let mut q = h;
     let mut s = 0;
     while s < branches {
-        if field4(table, 11, s, 0) == 1 {
-            q = partners(table, index, out, q, s);
+        let set = word32(pairs, SETS + s) as u64;
+        if set != 0 {
+            q = partners(table, index, out, q, s as u32, set, pairs);
         }
         s += 1;
     }

@@ -2,7 +2,7 @@
 ghost use Rattle.places.specs.Places.{equals};
 ghost use Rattle.places.specs.Plan.{Laid};
 ghost use Rattle.places.specs.Inner.Plan.{Reads};
-ghost use Rattle.builder.specs.Inner.Parts.{Rising, Inserted, Placed};
+ghost use Rattle.builder.specs.Inner.Parts.{Rising, Inserted, Entered, Placed};
 use crate::layout::equals;
 use lists::word16;
 
@@ -47,4 +47,16 @@ pub(crate) fn insert_equals(
         return count;
     }
     insert(list, count, equals(table, index, name, v))
+}
+
+// Puts a place's number into the ascending first `count` numbers, if the net has the place, and returns how many there
+// are then.
+pub(crate) fn insert_spot(list: &mut [u32], count: usize, x: u32) -> usize
+    requires { ⌜ Rising (now list) count ⌝ }
+    ensures { λ r. ⌜ Entered x count (now (list .entry)) r (now (list .exit)) ⌝ }
+{
+    if x == 4294967295 {
+        return count;
+    }
+    insert(list, count, x)
 }

@@ -9,31 +9,35 @@ ghost use Rattle.places.specs.Plan.{Laid};
 ghost use Rattle.places.specs.Inner.Plan.{today, privatesOf, Holds, Differs};
 ghost use Rattle.builder.specs.Inner.Parts.{ValueAt, CountOf};
 use lists::word16;
-use places::layout::Reach;
+use places::count::publics_of;
 use places::lookup::free_start;
 use places::lookup::privates;
 use places::lookup::row_start;
-use scheme::fields::name_kind;
+use places::reach::Reach;
+use places::reach::has_privates;
+use places::reach::nth;
+use places::reach::rank;
+use places::reach::reach_of;
 
 // Value k of a name's reach.
 pub(crate) fn value_at(publics: usize, values: Reach, k: usize) -> usize
-    requires { ⌜ (values .low ≤ values .high) × (values .high ≤ 65536) × (publics < 65536) × (k < 131072) ⌝ }
+    requires { ⌜ (publics ≤ 64) × (k < 65536) ⌝ }
     ensures { λ r. ⌜ ValueAt publics values k r ⌝ }
 {
-    let count = values.high - values.low;
+    let count = rank(values.publics, publics);
     if k < count {
-        return values.low + k;
+        return nth(values.publics, k);
     }
     publics + (k - count)
 }
 
 // How many values a name's reach has.
-pub(crate) fn value_count(privates: usize, values: Reach) -> usize
-    requires { ⌜ (values .low ≤ values .high) × (values .high ≤ 65536) × (privates < 65536) ⌝ }
-    ensures { λ r. ⌜ CountOf privates values r ⌝ }
+pub(crate) fn value_count(publics: usize, privates: usize, values: Reach) -> usize
+    requires { ⌜ privates < 65536 ⌝ }
+    ensures { λ r. ⌜ CountOf publics privates values r ⌝ }
 {
-    let count = values.high - values.low;
-    if values.privates {
+    let count = rank(values.publics, publics);
+    if has_privates(values) {
         return count + privates;
     }
     count
@@ -45,10 +49,12 @@ pub(crate) fn equals(table: &[u16], index: &[u32], name: usize, v: usize) -> u32
     ensures { λ r. ⌜ r ≡ numberOf (scheme (now (table .entry))) (today (now (table .entry))) (equals name v) ⌝ }
 {
     let row = row_start(index, name);
-    if name_kind(table, name) == 0 {
-        return (row + (v - word16(table, 0))) as u32;
+    let r = reach_of(index, name);
+    let publics = word16(table, 0);
+    if v < publics {
+        return (row + rank(r.publics, v)) as u32;
     }
-    (row + v) as u32
+    (row + rank(r.publics, publics) + (v - publics)) as u32
 }
 
 // The number of [x≠v].
@@ -56,7 +62,9 @@ pub(crate) fn differs(table: &[u16], index: &[u32], name: usize, v: usize) -> u3
     requires { ⌜ Laid (now table) (now index) × Differs (now table) name v ⌝ }
     ensures { λ r. ⌜ r ≡ numberOf (scheme (now (table .entry))) (today (now (table .entry))) (differs name v) ⌝ }
 {
-    (row_start(index, name) + privates(index) + v) as u32
+    let r = reach_of(index, name);
+    let first = row_start(index, name) + publics_of(table, r) + privates(index);
+    (first + (v - word16(table, 0))) as u32
 }
 
 // The number of [*≠v].

@@ -4,7 +4,7 @@ ghost use Prim.Native.Nat.{_+_, _*_, _<_};
 ghost use Rattle.lists.specs.Lists.{word};
 ghost use Rattle.places.specs.Plan.{tokensAt, Laid};
 ghost use Rattle.places.specs.Answers.{sumsOf, netSums};
-ghost use Rattle.places.specs.Inner.Counting.{Few};
+ghost use Rattle.places.specs.Inner.Counting.{Few, Pairs};
 ghost use Rattle.builder.specs.Answer.{builtOutcome, laidOutcome, buildOutcome, sizedOutcome, sizeOutcome};
 
 mod chain;
@@ -13,12 +13,14 @@ mod insertion;
 mod layout;
 mod marking;
 mod nodes;
+mod spans;
 mod write;
 
 use places::Measured;
 use places::count::Totals;
 use places::lookup::SIZE;
 use places::lookup::token_count;
+use places::pairs::PAIRS;
 use table::Verdict;
 use write::Heads;
 
@@ -44,9 +46,16 @@ fn length_of(index: &[u32], t: Totals) -> usize
     8 + token_count(index) + 6 * t.transitions + t.inputs + t.outputs
 }
 
-// Writes the image of a table that is laid out.
-fn write_image(table: &[u16], index: &[u32], totals: Totals, out: &mut [u32]) -> Built
-    requires { ⌜ Laid (now table) (now index) × (sumsOf totals ≡ netSums (now table)) ⌝ }
+// Writes the image of a table that is laid out, with its pairs.
+fn write_image(
+    table: &[u16],
+    index: &[u32],
+    totals: Totals,
+    pairs: &[u32],
+    out: &mut [u32],
+) -> Built
+    requires { ⌜ Laid (now table) (now index) × (sumsOf totals ≡ netSums (now table))
+        × Pairs (now table) (now index) (now pairs) ⌝ }
     ensures { λ r. ⌜ builtOutcome r (now (out .exit)) ≡ laidOutcome (now (table .entry)) (now (out .entry)) ⌝ }
 {
     let words = length_of(index, totals);
@@ -61,7 +70,7 @@ fn write_image(table: &[u16], index: &[u32], totals: Totals, out: &mut [u32]) ->
         arc: base + 6 * totals.transitions,
     };
     let next = nodes::nodes(table, index, out, heads);
-    communications::communications(table, index, out, next);
+    communications::communications(table, index, pairs, out, next);
     Built::Words(words)
 }
 
@@ -70,8 +79,9 @@ pub fn build(table: &[u16], out: &mut [u32]) -> Built
     ensures { λ r. ⌜ builtOutcome r (now (out .exit)) ≡ buildOutcome (now (table .entry)) (now (out .entry)) ⌝ }
 {
     let mut index = [0u32; SIZE];
-    match places::measure(table, &mut index) {
-        Measured::Net(totals) => write_image(table, &index, totals, out),
+    let mut pairs = [0u32; PAIRS];
+    match places::measure(table, &mut index, &mut pairs) {
+        Measured::Net(totals) => write_image(table, &index, totals, &pairs, out),
         Measured::Refused(verdict) => Built::Refused(verdict),
         Measured::Short => Built::Room,
     }
@@ -82,7 +92,8 @@ pub fn size(table: &[u16]) -> Sized
     ensures { λ r. ⌜ sizedOutcome r ≡ sizeOutcome (now (table .entry)) ⌝ }
 {
     let mut index = [0u32; SIZE];
-    match places::measure(table, &mut index) {
+    let mut pairs = [0u32; PAIRS];
+    match places::measure(table, &mut index, &mut pairs) {
         Measured::Net(totals) => Sized::Words(length_of(&index, totals)),
         Measured::Refused(verdict) => Sized::Refused(verdict),
         // Never so: the lent words are enough for every table.

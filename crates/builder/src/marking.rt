@@ -13,13 +13,15 @@ use crate::insertion::insert;
 use crate::write::words;
 use lists::store32;
 use lists::word16;
+use places::count::publics_of;
+use places::layout::is_read;
 use places::lookup::free_start;
 use places::lookup::node_start;
 use places::lookup::privates;
 use places::lookup::row_start;
+use places::reach::reach_of;
 use scheme::fields::field1;
 use scheme::fields::field4;
-use scheme::fields::name_kind;
 
 fn count_up(out: &mut [u32], at: usize, first: usize, count: usize) -> usize
     requires { ⌜ (first + count ≤ 4294967296) × (at < 4294967296) ⌝ }
@@ -44,8 +46,9 @@ fn initial_rows(table: &[u16], index: &[u32], out: &mut [u32]) -> usize
     let mut at = 8;
     let mut x = publics;
     while x < end {
-        if name_kind(table, x) != 0 {
-            at = count_up(out, at, row_start(index, x) + publics + privates, privates);
+        if is_read(table, index, x) {
+            let held = publics_of(table, reach_of(index, x)) + privates;
+            at = count_up(out, at, row_start(index, x) + held, privates);
         }
         x += 1;
     }

@@ -13,7 +13,8 @@ ghost use Rattle.places.specs.Transitions.{releases, silents, ofNode};
 ghost use Rattle.places.specs.Inner.Arcs.{allDiffer, numbersOf};
 ghost use Rattle.builder.specs.Inner.Writing.{Inside};
 ghost use Rattle.places.specs.Inner.Plan.{today, privatesOf, controlOf};
-ghost use Rattle.builder.specs.Inner.Parts.{put, state, made};
+ghost use Rattle.builder.specs.Inner.Parts.{put, state, made, Filled};
+ghost use Rattle.table.specs.Causes.{cause};
 ghost use Rattle.places.specs.Plan.{Laid};
 use crate::chain::Chain;
 use crate::chain::Passed;
@@ -29,11 +30,11 @@ use crate::write::Label;
 use crate::write::go;
 use crate::write::transition;
 use lists::word16;
+use places::layout::is_read;
 use places::lookup::node_start;
 use places::lookup::privates;
 use scheme::fields::field3;
 use scheme::fields::field4;
-use scheme::fields::name_kind;
 
 fn silents(
     table: &[u16],
@@ -72,7 +73,7 @@ fn silents(
     q
 }
 
-// Puts the numbers of every [x≠v] into the list and returns how many there are.
+// Puts the numbers of every [x≠v] that there is into the list and returns how many there are.
 fn differences(table: &[u16], index: &[u32], list: &mut [u32], v: usize) -> usize
     requires { ⌜ Laid (now table) (now index) × (publics (now table) ≤ v)
         × (v < publics (now table) + privatesOf (now table)) × (40 ≤ length (now list)) ⌝ }
@@ -87,7 +88,7 @@ fn differences(table: &[u16], index: &[u32], list: &mut [u32], v: usize) -> usiz
     let mut count = 0;
     let mut x = publics;
     while x < end {
-        if name_kind(table, x) != 0 {
+        if is_read(table, index, x) {
             count = insert(list, count, differs(table, index, x, v));
         }
         x += 1;
@@ -95,26 +96,59 @@ fn differences(table: &[u16], index: &[u32], list: &mut [u32], v: usize) -> usiz
     count
 }
 
-// The node of a New, its place, and the place of the node behind it.
+// The node of a New, its place, the place of the node behind it, and how many rows it reads.
 pub struct Move {
     pub node: usize,
     pub from: u32,
     pub to: u32,
+    pub read: usize,
+}
+
+// Puts the numbers of every [x≠v] that there is into the list, given those of the first private value, and returns how
+// many there are: from one value to the next each number rises by 1.
+fn risen(table: &[u16], first: &[u32], count: usize, v: usize, list: &mut [u32]) -> usize
+    requires { ⌜ (cause (now table) ≡ 0) × (publics (now table) ≤ v)
+        × (v < publics (now table) + privatesOf (now table))
+        × Filled (now table) (now first) count (allDiffer (scheme (now table)) (publics (now table)))
+        × (40 ≤ length (now first)) × (40 ≤ length (now list)) ⌝ }
+    ensures { λ r. ⌜ (take r (now (list .exit))
+        ≡ numbersOf (scheme (now (table .entry))) (today (now (table .entry)))
+        (allDiffer (scheme (now (table .entry))) v))
+        × (r ≡ length (numbersOf (scheme (now (table .entry))) (today (now (table .entry)))
+        (allDiffer (scheme (now (table .entry))) v))) ⌝ }
+{
+    let rise = (v - word16(table, 0)) as u32;
+    let mut i = 0;
+    while i < count {
+        list[i] = first[i] + rise;
+        i += 1;
+    }
+    count
 }
 
 // New with one value.
-fn make(table: &[u16], index: &[u32], out: &mut [u32], h: Heads, m: Move, v: usize) -> Heads
+fn make(
+    table: &[u16],
+    index: &[u32],
+    out: &mut [u32],
+    h: Heads,
+    m: Move,
+    v: usize,
+    first: &[u32],
+) -> Heads
     requires { ⌜ Laid (now table) (now index) × (m .node < nodes (now table)) × (isNew (now table) (m .node) ≡ true)
         × (m .from ≡ controlOf (now table) (m .node))
         × (m .to ≡ controlOf (now table) (nodeSecond (now table) (m .node)))
         × (publics (now table) ≤ v) × (v < publics (now table) + privatesOf (now table))
-        × Inside (put (now table) (now out) h (made (now table) (m .node) v ∷ [])) ⌝ }
+        × Inside (put (now table) (now out) h (made (now table) (m .node) v ∷ []))
+        × Filled (now table) (now first) (m .read) (allDiffer (scheme (now table)) (publics (now table)))
+        × (40 ≤ length (now first)) ⌝ }
     ensures { λ r. ⌜ state (now (out .exit)) r
         ≡ put (now (table .entry)) (now (out .entry)) h (made (now (table .entry)) (m .node) v ∷ []) ⌝ }
 {
     let name = field3(table, 10, m.node, 1);
     let mut ins = [0u32; 40];
-    let mut i = differences(table, index, &mut ins, v);
+    let mut i = risen(table, first, m.read, v, &mut ins);
     let mut outs = ins;
     let mut o = insert_equals(table, index, &mut outs, i, name, v);
     o = insert(&mut outs, o, m.to);
@@ -138,15 +172,21 @@ fn news(table: &[u16], index: &[u32], out: &mut [u32], h: Heads, n: usize) -> He
 {
     let publics = word16(table, 0);
     let privates = privates(index);
+    if privates == 0 {
+        return h;
+    }
+    let mut first = [0u32; 40];
+    let read = differences(table, index, &mut first, publics);
     let m = Move {
         node: n,
         from: node_start(index, n) as u32,
         to: node_start(index, field3(table, 10, n, 2)) as u32,
+        read,
     };
     let mut q = h;
     let mut k = 0;
     while k < privates {
-        q = make(table, index, out, q, m, publics + k);
+        q = make(table, index, out, q, m, publics + k, &first);
         k += 1;
     }
     q

@@ -3,12 +3,13 @@ ghost use mathlib.Core.Path.{_≡_};
 ghost use mathlib.Core.List.{[], _∷_, map};
 ghost use Prim.Native.Nat.{_+_, _*_, _<_, _≤_};
 ghost use lib.ListN.{length, take};
+ghost use lib.Seq.{slice};
 ghost use Rattle.lists.specs.Lists.{word, range};
 ghost use Rattle.builder.specs.Inner.Writing.{writes, putOne, putAll, Inside, maskOf, sums, Steady};
 ghost use Rattle.places.specs.Plan.{placesAt, tokensAt};
 ghost use Rattle.places.specs.Answers.{sumsOf};
 ghost use Rattle.places.specs.Inner.Counting.{Few};
-ghost use Rattle.builder.specs.Inner.Parts.{state, arrow, risen, Short};
+ghost use Rattle.builder.specs.Inner.Parts.{state, arrow, risen, risersIn, Short};
 ghost use Rattle.places.specs.Inner.Plan.{headerOf};
 use lists::store32;
 use places::count::Totals;
@@ -36,11 +37,13 @@ pub struct Arcs {
     pub outputs: usize,
 }
 
-// The numbers of arcs that rise from one transition to the next.
+// The numbers of arcs that rise from one transition to the next; 2³² − 1 is the number of none.
 pub struct Risers {
     pub a: u32,
     pub b: u32,
     pub c: u32,
+    pub d: u32,
+    pub e: u32,
 }
 
 pub(crate) fn words(out: &mut [u32], at: usize, list: &[u32], count: usize) -> usize
@@ -51,6 +54,20 @@ pub(crate) fn words(out: &mut [u32], at: usize, list: &[u32], count: usize) -> u
     let mut i = 0;
     while i < count {
         store32(out, at + i, list[i]);
+        i += 1;
+    }
+    at + count
+}
+
+// As `words`, where there is room.
+fn lay(out: &mut [u32], at: usize, list: &[u32], count: usize) -> usize
+    requires { ⌜ (count ≤ length (now list)) × (at + count ≤ length (now out)) ⌝ }
+    ensures { λ r. ⌜ (r ≡ at + count)
+        × (now (out .exit) ≡ writes (now (out .entry)) at (take count (now (list .entry)))) ⌝ }
+{
+    let mut i = 0;
+    while i < count {
+        out[at + i] = list[i];
         i += 1;
     }
     at + count
@@ -99,8 +116,8 @@ pub(crate) fn transition(
     let place = h.place;
     let arc = h.arc;
     put_record(out, place, label, arc, inputs, outputs);
-    let middle = words(out, arc, ins, inputs);
-    let end = words(out, middle, outs, outputs);
+    let middle = lay(out, arc, ins, inputs);
+    let end = lay(out, middle, outs, outputs);
     Heads {
         place: place + 6,
         arc: end,
@@ -118,8 +135,8 @@ pub(crate) fn go(out: &mut [u32], h: Heads, kind: u32, a: usize, from: u32, to: 
 }
 
 // All bits for a number that rises, none for another.
-fn mask(x: u32, a: u32, b: u32, c: u32) -> u32
-    ensures { λ r. ⌜ r ≡ maskOf (a ∷ b ∷ c ∷ []) x ⌝ }
+fn mask(x: u32, a: u32, b: u32, c: u32, d: u32, e: u32) -> u32
+    ensures { λ r. ⌜ r ≡ maskOf (a ∷ b ∷ c ∷ d ∷ e ∷ []) x ⌝ }
 {
     if x == a {
         return 4294967295;
@@ -130,23 +147,66 @@ fn mask(x: u32, a: u32, b: u32, c: u32) -> u32
     if x == c {
         return 4294967295;
     }
+    if x == d {
+        return 4294967295;
+    }
+    if x == e {
+        return 4294967295;
+    }
     0
 }
 
-fn masks_of(list: &[u32; 16], a: u32, b: u32, c: u32) -> [u32; 16]
+fn masks_of(list: &[u32; 16], a: u32, b: u32, c: u32, d: u32, e: u32) -> [u32; 16]
     requires { ⌜ length (now list) ≡ 16 ⌝ }
-    ensures { λ r. ⌜ r ≡ map (maskOf (a ∷ b ∷ c ∷ [])) (now (list .entry)) ⌝ }
+    ensures { λ r. ⌜ r ≡ map (maskOf (a ∷ b ∷ c ∷ d ∷ e ∷ [])) (now (list .entry)) ⌝ }
 {
     let mut masks = [0u32; 16];
     let mut k = 0;
     while k < 16 {
-        masks[k] = mask(list[k], a, b, c);
+        masks[k] = mask(list[k], a, b, c, d, e);
         k += 1;
     }
     masks
 }
 
-// Writes the first `count` numbers of a list, those with a mask raised by t.
+// Writes four numbers of a list from number i on, those with a mask raised by t.
+fn four(out: &mut [u32], at: usize, list: &[u32; 16], masks: &[u32; 16], i: usize, t: u32)
+    requires { ⌜ (i + 4 ≤ 16) × (at + i + 4 ≤ length (now out)) × Steady (now list) (now masks) (i + 4)
+        × (t < 65536) ⌝ }
+    ensures { λ r. ⌜ now (out .exit)
+        ≡ writes (now (out .entry)) (at + i) (slice i (i + 4) (sums t (now (list .entry)) (now (masks .entry)))) ⌝ }
+{
+    out[at + i] = list[i] + (masks[i] & t);
+    out[at + i + 1] = list[i + 1] + (masks[i + 1] & t);
+    out[at + i + 2] = list[i + 2] + (masks[i + 2] & t);
+    out[at + i + 3] = list[i + 3] + (masks[i + 3] & t);
+}
+
+// Writes those from number `first` on up to `count`.
+fn rest(
+    out: &mut [u32],
+    at: usize,
+    list: &[u32; 16],
+    masks: &[u32; 16],
+    first: usize,
+    count: usize,
+    t: u32,
+) -> usize
+    requires { ⌜ (count ≤ 16) × (first ≤ count) × (at + count ≤ length (now out))
+        × Steady (now list) (now masks) count × (t < 65536) ⌝ }
+    ensures { λ r. ⌜ (r ≡ at + count)
+        × (now (out .exit) ≡ writes (now (out .entry)) (at + first)
+        (slice first count (sums t (now (list .entry)) (now (masks .entry))))) ⌝ }
+{
+    let mut i = first;
+    while i < count {
+        out[at + i] = list[i] + (masks[i] & t);
+        i += 1;
+    }
+    at + count
+}
+
+// Writes the first `count` numbers of a list, those with a mask raised by t, four at a time.
 fn raised(
     out: &mut [u32],
     at: usize,
@@ -161,15 +221,15 @@ fn raised(
         (take count (sums t (now (list .entry)) (now (masks .entry))))) ⌝ }
 {
     let mut i = 0;
-    while i < count {
-        out[at + i] = list[i] + (masks[i] & t);
-        i += 1;
+    while i + 4 <= count {
+        four(out, at, list, masks, i, t);
+        i += 4;
     }
-    at + count
+    rest(out, at, list, masks, i, count, t)
 }
 
 // Transitions of one label that follow one another: the first has the given arcs, and from one to the next those of
-// three numbers rise by 1.
+// given numbers rise by 1.
 pub(crate) fn series(
     out: &mut [u32],
     h: Heads,
@@ -179,10 +239,10 @@ pub(crate) fn series(
     count: usize,
 ) -> Heads
     requires { ⌜ (label .a < 65536) × (label .b < 65536) × (count < 65536) × Short arcs
-        × Inside (putAll (risen (label .kind) (label .a) (label .b) arcs (rise .a ∷ rise .b ∷ rise .c ∷ []))
+        × Inside (putAll (risen (label .kind) (label .a) (label .b) arcs (risersIn rise))
         (state (now out) h) (range count)) ⌝ }
     ensures { λ r. ⌜ state (now (out .exit)) r
-        ≡ putAll (risen (label .kind) (label .a) (label .b) arcs (rise .a ∷ rise .b ∷ rise .c ∷ []))
+        ≡ putAll (risen (label .kind) (label .a) (label .b) arcs (risersIn rise))
         (state (now (out .entry)) h) (range count) ⌝ }
 {
     let ins = arcs.ins;
@@ -193,7 +253,9 @@ pub(crate) fn series(
     let a = rise.a;
     let b = rise.b;
     let c = rise.c;
-    let masks = masks_of(&list, a, b, c);
+    let d = rise.d;
+    let e = rise.e;
+    let masks = masks_of(&list, a, b, c, d, e);
     let mut place = h.place;
     let mut arc = h.arc;
     let mut t = 0;

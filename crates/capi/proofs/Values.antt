@@ -25,7 +25,7 @@ use Rattle.net.specs.Firing.{isMarking, fire}
 use Rattle.net.specs.Firing as Net
 use Rattle.net.specs.Image.{placeCount}
 use Rattle.net.specs.Looking.{looked, shown, look}
-use Rattle.places.specs.Held.{valuesFor}
+use Rattle.places.specs.Reach.{valuesFor}
 use Rattle.places.specs.Places.{places}
 use Rattle.places.specs.Image.{imageOf}
 use Rattle.builder.specs.Answer as Build

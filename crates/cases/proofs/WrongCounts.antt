@@ -8,7 +8,8 @@ use lib.ListN.{length}
 use Rattle.lists.specs.Lists.{same, range, some, keep, flat, total}
 use Rattle.scheme.specs.Scheme.{Scheme, Node, stop, choice, new, call, scheme}
 use Rattle.table.specs.Causes.{cause}
-use Rattle.places.specs.Held.{largest, heldCounts, mostHeld, valuesFor}
+use Rattle.places.specs.Held.{largest, heldCounts, mostHeld}
+use Rattle.places.specs.Reach.{valuesFor}
 use Rattle.cases.specs.Cases.{tableE, handedOn, neverCalled}
 use Rattle.cases.proofs.Computing.{everything}
 

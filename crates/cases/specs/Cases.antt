@@ -1,5 +1,5 @@
--- The starred cases of document 01 (Table E and its listing), a definition that calls itself and the number of private values (document 02, Items 1 and 3), as
--- one table, and what is asked in each, by the definitions that the promises cite.
+-- The starred cases of document 01 (Table E and its listing), a definition that calls itself, the number of private values and the values that can arrive
+-- (document 02, Items 1, 3 and 4), as one table, and what is asked in each, by the definitions that the promises cite.
 use mathlib.Core.Path.{_≡_}
 use mathlib.Core.Option.{Option, none, some}
 use mathlib.Core.List.{List, [], _∷_, _++_}
@@ -10,9 +10,9 @@ use Rattle.scheme.specs.Scheme.{scheme}
 use Rattle.table.specs.Causes.{cause}
 use Rattle.net.specs.Firing as Firing
 use Rattle.net.specs.Firing.{Ending, limitReached, nothingEnabled, initialMarking}
-use Rattle.places.specs.Held.{valuesFor}
+use Rattle.places.specs.Reach.{valuesFor}
 use Rattle.places.specs.Places as Places
-use Rattle.places.specs.Places.{Place, equals, control}
+use Rattle.places.specs.Places.{Place, equals, differs, free, control}
 use Rattle.places.specs.Image.{imageOf}
 use Rattle.builder.specs.Answer.{buildOutcome}
 use Rattle.readback.specs.Answers.{readOutcome}
@@ -90,14 +90,14 @@ sending name next = 1 ∷ 0 ∷ name ∷ next ∷ 2 ∷ 0 ∷ 2 ∷ 4 ∷ []
 abbrev pub tableE : List ℕ
 tableE = withPublics 1 (sending 1 2)
 
--- the listing's numbers, as words
+-- its image; document 01's listing has a place and a transition more, of a value that cannot arrive
 abbrev pub imageE : List ℕ
 imageE =
-    16 ∷ 9 ∷ 24 ∷ 23 ∷ 6 ∷ 8 ∷ 14 ∷ 68 ∷ 5 ∷ 6 ∷ 7 ∷ 8 ∷ 9 ∷ 13
-    ∷ 2 ∷ 0 ∷ 1 ∷ 68 ∷ 3 ∷ 3 ∷ 2 ∷ 0 ∷ 1 ∷ 74 ∷ 3 ∷ 3 ∷ 1 ∷ 2 ∷ 1 ∷ 80 ∷ 2 ∷ 2 ∷ 1 ∷ 2 ∷ 1 ∷ 84 ∷ 2 ∷ 2 ∷ 1 ∷ 4 ∷ 2 ∷ 88 ∷ 2 ∷ 1
-    ∷ 1 ∷ 4 ∷ 2 ∷ 91 ∷ 2 ∷ 2 ∷ 1 ∷ 4 ∷ 2 ∷ 95 ∷ 2 ∷ 2 ∷ 4 ∷ 0 ∷ 1 ∷ 99 ∷ 4 ∷ 4 ∷ 4 ∷ 0 ∷ 1 ∷ 107 ∷ 4 ∷ 4
-    ∷ 5 ∷ 7 ∷ 9 ∷ 0 ∷ 5 ∷ 10 ∷ 6 ∷ 8 ∷ 9 ∷ 1 ∷ 6 ∷ 10 ∷ 0 ∷ 11 ∷ 7 ∷ 12 ∷ 1 ∷ 11 ∷ 8 ∷ 12 ∷ 2 ∷ 14 ∷ 15 ∷ 3 ∷ 14 ∷ 5 ∷ 15 ∷ 4 ∷ 14 ∷ 6 ∷ 15
-    ∷ 0 ∷ 5 ∷ 10 ∷ 13 ∷ 0 ∷ 3 ∷ 11 ∷ 14 ∷ 1 ∷ 6 ∷ 10 ∷ 13 ∷ 1 ∷ 4 ∷ 11 ∷ 14 ∷ []
+    15 ∷ 8 ∷ 22 ∷ 22 ∷ 6 ∷ 8 ∷ 14 ∷ 62 ∷ 4 ∷ 5 ∷ 6 ∷ 7 ∷ 8 ∷ 12
+    ∷ 2 ∷ 0 ∷ 1 ∷ 62 ∷ 3 ∷ 3 ∷ 2 ∷ 0 ∷ 1 ∷ 68 ∷ 3 ∷ 3 ∷ 1 ∷ 2 ∷ 1 ∷ 74 ∷ 2 ∷ 2 ∷ 1 ∷ 2 ∷ 1 ∷ 78 ∷ 2 ∷ 2
+    ∷ 1 ∷ 4 ∷ 2 ∷ 82 ∷ 2 ∷ 2 ∷ 1 ∷ 4 ∷ 2 ∷ 86 ∷ 2 ∷ 2 ∷ 4 ∷ 0 ∷ 1 ∷ 90 ∷ 4 ∷ 4 ∷ 4 ∷ 0 ∷ 1 ∷ 98 ∷ 4 ∷ 4
+    ∷ 4 ∷ 6 ∷ 8 ∷ 0 ∷ 4 ∷ 9 ∷ 5 ∷ 7 ∷ 8 ∷ 1 ∷ 5 ∷ 9 ∷ 0 ∷ 10 ∷ 6 ∷ 11 ∷ 1 ∷ 10 ∷ 7 ∷ 11 ∷ 2 ∷ 13 ∷ 4 ∷ 14 ∷ 3 ∷ 13 ∷ 5 ∷ 14
+    ∷ 0 ∷ 4 ∷ 9 ∷ 12 ∷ 0 ∷ 2 ∷ 10 ∷ 13 ∷ 1 ∷ 5 ∷ 9 ∷ 12 ∷ 1 ∷ 3 ∷ 10 ∷ 13 ∷ []
 
 -- "`0 0 1 1 1 0 0 13 13 17 18 21 21 0 0 0 0 0 0 0 0`", with its node
 abbrev pub oneNode : ℕ → List ℕ
@@ -185,12 +185,45 @@ privateCases =
     ∷ case neverCalled privates (number 2)
     ∷ []
 
+-- p(x).0 alone: nothing is sent, so x has no value
+abbrev pub unheard : List ℕ
+unheard =
+    1 ∷ 1 ∷ 1 ∷ 1 ∷ 2 ∷ 1 ∷ 0 ∷ 13 ∷ 14 ∷ 18 ∷ 19 ∷ 25 ∷ 29 ∷ 1 ∷ 0 ∷ 0 ∷ 0 ∷ 0 ∷ 0 ∷ 1 ∷ 0 ∷ 1 ∷ 0 ∷ 0 ∷ 0 ∷ 2 ∷ 0 ∷ 1 ∷ 1 ∷ []
+
+-- p⟨p⟩.0 + p(x).0: what its own thread sends does not come to x
+abbrev pub ownThread : List ℕ
+ownThread =
+    1 ∷ 1 ∷ 1 ∷ 1 ∷ 3 ∷ 2 ∷ 0 ∷ 13 ∷ 14 ∷ 18 ∷ 19 ∷ 28 ∷ 36 ∷ 1 ∷ 0 ∷ 0 ∷ 0 ∷ 0 ∷ 0 ∷ 1 ∷ 0 ∷ 2 ∷ 0 ∷ 0 ∷ 0 ∷ 0 ∷ 0 ∷ 0 ∷ 1 ∷ 0 ∷ 0 ∷ 1
+    ∷ 2 ∷ 0 ∷ 1 ∷ 2 ∷ []
+
+-- ν r.r⟨p⟩.0 beside ν s.s(x).0: r and s are never one name
+abbrev pub neverMeet : List ℕ
+neverMeet =
+    1 ∷ 3 ∷ 2 ∷ 2 ∷ 6 ∷ 2 ∷ 0 ∷ 13 ∷ 16 ∷ 24 ∷ 26 ∷ 44 ∷ 52 ∷ 0 ∷ 0 ∷ 1 ∷ 0 ∷ 0 ∷ 0 ∷ 0 ∷ 1 ∷ 3 ∷ 0 ∷ 0 ∷ 0 ∷ 1 ∷ 2 ∷ 1 ∷ 1 ∷ 1 ∷ 0 ∷ 1 ∷ 0 ∷ 0 ∷ 0
+    ∷ 2 ∷ 2 ∷ 4 ∷ 1 ∷ 1 ∷ 1 ∷ 0 ∷ 0 ∷ 0 ∷ 1 ∷ 1 ∷ 0 ∷ 2 ∷ 2 ∷ 2 ∷ 3 ∷ 5 ∷ []
+
+-- which values can arrive (document 02, Item 4)
+abbrev pub arrivingCases : List Case
+arrivingCases =
+    -- no place for a value outside a name's reach: x has no row, and its control and release places stay
+    case unheard (builds 9) (buffer 0 (3 ∷ 0 ∷ 0 ∷ 0 ∷ 1 ∷ 8 ∷ 9 ∷ 9 ∷ 0 ∷ []))
+    ∷ case ownThread places (listed (control 0 0 ∷ control 1 0 ∷ control 2 0 ∷ control 2 1 ∷ []))
+    ∷ case ownThread (builds 9) (buffer 0 (4 ∷ 0 ∷ 0 ∷ 0 ∷ 1 ∷ 8 ∷ 9 ∷ 9 ∷ 0 ∷ []))
+    -- channels meet on private values only where a restricted name is in both reaches; [*≠n] keeps its N places
+    ∷ case neverMeet privates (number 3)
+    ∷ case neverMeet places (listed (equals 1 1 ∷ equals 1 2 ∷ equals 1 3 ∷ equals 2 1 ∷ equals 2 2 ∷ equals 2 3 ∷ free 1 ∷ free 2 ∷ free 3 ∷ control 0 0
+    ∷ control 1 0 ∷ control 2 0 ∷ control 2 1 ∷ control 3 0 ∷ control 4 0 ∷ control 5 0 ∷ control 5 1 ∷ control 5 2 ∷ []))
+    -- a formal has the values of its argument
+    ∷ case handedOn places (listed (equals 0 0 ∷ equals 0 1 ∷ equals 1 0 ∷ equals 1 1 ∷ differs 1 0 ∷ differs 1 1 ∷ free 0 ∷ free 1 ∷ control 0 0 ∷ control 1 0
+    ∷ control 1 1 ∷ control 1 2 ∷ control 2 0 ∷ control 3 0 ∷ control 3 1 ∷ []))
+    ∷ []
+
 -- all of them: those of document 01, then the others
 abbrev pub cases : List Case
 cases =
-    -- "E in 115 words builds, in 114 gives 10."
-    case tableE (builds 115) (buffer 0 imageE)
-    ∷ case tableE (builds 114) (buffer 10 (replicate 114 0))
+    -- "E in 115 words builds, in 114 gives 10.": with only the values that can arrive (document 02, Item 4) 106 and 105
+    case tableE (builds 106) (buffer 0 imageE)
+    ∷ case tableE (builds 105) (buffer 10 (replicate 105 0))
     -- "Its first 12 words 1, first 13 words 3."
     ∷ case (take 12 tableE) checks (number 1)
     ∷ case (take 13 tableE) checks (number 3)
@@ -203,16 +236,16 @@ cases =
     -- "gives `1 0 0 0 1 8 9 9 0`; its node made 3 0 0: 9."
     ∷ case (oneNode 0) (builds 9) (buffer 0 (1 ∷ 0 ∷ 0 ∷ 0 ∷ 1 ∷ 8 ∷ 9 ∷ 9 ∷ 0 ∷ []))
     ∷ case (oneNode 3) checks (number 9)
-    -- "E at first: 7 gives 15, 9 gives 14."
-    ∷ case tableE (fires [] 7) (number 15)
-    ∷ case tableE (fires [] 9) (number 14)
+    -- "E at first: 7 gives 15, 9 gives 14.": the transition that was 7 is 6, and there are 8
+    ∷ case tableE (fires [] 6) (number 15)
+    ∷ case tableE (fires [] 8) (number 14)
     -- "After 0, or 1, the state reads 1 3 1 65535."
     ∷ case tableE (reads (0 ∷ [])) (buffer 0 (1 ∷ 3 ∷ 1 ∷ 65535 ∷ []))
     ∷ case tableE (reads (1 ∷ [])) (buffer 0 (1 ∷ 3 ∷ 1 ∷ 65535 ∷ []))
-    -- "Run from the initial marking with limit 5 and 5 history words: 0 7 2 5, count 4, nothing enabled; limit 4: limit reached."
-    ∷ case tableE (runs 5 5) (ran nothingEnabled 4 (0 ∷ 7 ∷ 2 ∷ 5 ∷ []))
-    ∷ case tableE (runs 4 5) (ran limitReached 4 (0 ∷ 7 ∷ 2 ∷ 5 ∷ []))
-    ∷ rewritingCases ++ privateCases
+    -- "Run from the initial marking with limit 5 and 5 history words: 0 7 2 5, count 4, nothing enabled; limit 4: limit reached.": 0 6 2 4 by the new numbers
+    ∷ case tableE (runs 5 5) (ran nothingEnabled 4 (0 ∷ 6 ∷ 2 ∷ 4 ∷ []))
+    ∷ case tableE (runs 4 5) (ran limitReached 4 (0 ∷ 6 ∷ 2 ∷ 4 ∷ []))
+    ∷ rewritingCases ++ privateCases ++ arrivingCases
 
 -- every case has its answer
 abbrev pub AllRight : List Case → Type 0

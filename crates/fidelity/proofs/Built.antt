@@ -1,31 +1,31 @@
 -- Firing by number on a built net: a number that fires follows the plain process, and no number is refused with 16.
-use Prim.Native.Nat.{ℕ, zero, suc, _+_, _-_, _≤_, _<_}
+use Prim.Native.Nat.{ℕ, _≤_, _<_}
 use mathlib.Core.Path.{_≡_, refl, sym, ap, _∙_, subst}
-use mathlib.Core.Logic.{_≢_, _⊎_, inl, inr}
-use mathlib.Core.Bool.{Bool, true, false, not, _&&_, _||_, true≢false, false≢true}
+use mathlib.Core.Logic.{_⊎_, inl, inr}
+use mathlib.Core.Bool.{Bool, true, false, _||_}
 use mathlib.Core.List.{List, [], _∷_, map}
 use native.Mathlib.Omega.{arith}
 use native.Mathlib.Decide.{decLe}
-use lib.ListN.{length, getD, replicate, length-map}
-use Rattle.lists.specs.Lists.{pick, positions, every, ascends}
-use Rattle.lists.proofs.Tests.{and-intro, or-true}
+use lib.ListN.{length, getD, length-map}
+use Rattle.lists.specs.Lists.{positions, every, ascends}
+use Rattle.lists.proofs.Tests.{and-intro}
 use Rattle.scheme.specs.Scheme.{Scheme}
 use Rattle.table.specs.Accepted.{Accepted}
 use Rattle.process.specs.States.{State, start}
 use Rattle.process.specs.Steps.{isOpen}
 use Rattle.process.specs.Labels.{stepOf}
-use Rattle.net.specs.Image.{Label, labelAt, labelOf, inputsAt, outputsAt, transitionCount, isBookkeeping}
+use Rattle.net.specs.Image.{Label, labelAt, labelOf, isBookkeeping}
 use Rattle.net.specs.Firing as Firing
-use Rattle.net.specs.Firing.{Step, made, refused, step, isEnabled, hasContact, put, moved, initialMarking}
+use Rattle.net.specs.Firing.{made, refused, step, isEnabled, initialMarking}
 use Rattle.net.specs.Net.{Net, Transition, transitionAt, blank, encode, ascending, isAscending}
 use Rattle.net.proofs.Steps.{step-off, step-made}
-use Rattle.net.proofs.Encode.{transition-count, label-at, inputs-at, outputs-at, step-at, step-past, initial-marking}
+use Rattle.net.proofs.Encode.{label-at, step-at, step-past, initial-marking}
 use Rattle.places.specs.Values.{Values}
 use Rattle.places.specs.Places.{places, isInitial}
 use Rattle.places.specs.Transitions.{Description, skip, isInput, isOutput, descriptions}
 use Rattle.places.specs.Image.{transitionOf, netWith}
 use Rattle.readback.specs.Configurations.{Configuration}
-use Rattle.fidelity.specs.Inner.Marks.{mark, after, Fits, Enabled, WellFormed, Shaped}
+use Rattle.fidelity.specs.Inner.Marks.{after, Fits, WellFormed, Shaped}
 use Rattle.fidelity.specs.Inner.Shapes.{Described, EnoughValues}
 use Rattle.fidelity.specs.Inner.Standing.{advanced, Shows, markingOf, Stands}
 use Rattle.fidelity.specs.Inner.Runs.{quiet, stepNamed}
@@ -142,7 +142,7 @@ module _ (S : Scheme) (U : Values) (A : Accepted S) (E : EnoughValues S U) where
   pub fired-shows : (c : Configuration) (s : State) → Shows S U c s → (k : ℕ) → k < length (descriptions S U) → Fits S (descriptionAt k) c
       → Shows S U (after S (descriptionAt k) c) (advanced S (labelAt image k) s)
   fired-shows c s R k l f =
-      subst (λ (λ′ : Label). Shows S U (after S (descriptionAt k) c) (advanced S λ′ s)) (sym (label-is k l)) (Following.step S U A c s R (described-at k l) f)
+      subst (λ (λ′ : Label). Shows S U (after S (descriptionAt k) c) (advanced S λ′ s)) (sym (label-is k l)) (Following.step S U A E c s R (described-at k l) f)
 
   pub fired-lawful : (c : Configuration) (s : State) → Shows S U c s → (k : ℕ) → k < length (descriptions S U) → Fits S (descriptionAt k) c
       → (isBookkeeping (labelAt image k .kind) || isOpen S s (stepOf S (labelAt image k .kind) (labelAt image k .a) (labelAt image k .b))) ≡ true

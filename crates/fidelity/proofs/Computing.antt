@@ -13,8 +13,9 @@ use Rattle.net.specs.Image.{headerRight, recordRight}
 use Rattle.net.specs.Net.{recordsFrom, encode}
 use Rattle.net.specs.Firing as Firing
 use Rattle.net.specs.Firing.{isMarking, isEnabled, hasContact, step, inTurn, initialMarking, searchFrom, lowestEnabled, runFrom}
-use Rattle.places.specs.Values.{valuesOf, privateValuesOf}
-use Rattle.places.specs.Held.{largest, heldCounts, mostHeld, privateCount, valuesFor}
+use Rattle.places.specs.Values.{valuesOf, privateValuesOf, shares}
+use Rattle.places.specs.Held.{largest, heldCounts, mostHeld, privateCount}
+use Rattle.places.specs.Reach.{overlaps, isSent, passes, isPassed, comes, tabled, look, isNew, rounds, reachTable, valuesFor}
 use Rattle.places.specs.Places.{controls, controlPlaces, row, rows, places}
 use Rattle.places.specs.Transitions.{isInput, isOutput, releases, copies, descriptions}
 use Rattle.places.specs.Image.{netWith, netOf, imageOf}
@@ -50,7 +51,8 @@ unfolding newNames receivedNames formalNames boundRight bindingRight usable bran
 scopes = tt
 
 unfoldable pub nets : Unit {0}
-unfolding largest heldCounts mostHeld privateCount valuesFor valuesOf privateValuesOf controls controlPlaces row rows places
+unfolding largest heldCounts mostHeld privateCount overlaps isSent passes isPassed comes tabled look isNew rounds reachTable valuesFor
+    valuesOf privateValuesOf shares controls controlPlaces row rows places
     isInput isOutput releases copies descriptions netWith netOf imageOf
 nets = tt
 

@@ -3,7 +3,7 @@
 use Prim.Native.Nat.{ℕ, zero, suc, _+_, _≤_, _<_}
 use mathlib.Core.Path.{_≡_, refl, sym, _∙_}
 use mathlib.Core.Logic.{_≢_, _⊎_, inl, inr}
-use mathlib.Core.Bool.{Bool, true, false, _&&_, _||_, true≢false, false≢true}
+use mathlib.Core.Bool.{Bool, true, false, _&&_, _||_, true≢false}
 use mathlib.Core.Option.{Option, none, some}
 use mathlib.Core.List.{List, [], _∷_}
 use native.Mathlib.Decide.{ℕ-discrete}
@@ -14,7 +14,7 @@ use Rattle.lists.proofs.Tests.{same-self, same-no}
 use Rattle.process.specs.States.{put}
 use Rattle.fidelity.specs.Inner.Marks.{holds, given}
 use Rattle.places.specs.Inner.Holding.{count}
-use Rattle.places.proofs.Tallies.{sum, sum-le, sum-add, count-same}
+use Rattle.places.proofs.Tallies.{sum, sum-add, count-same}
 use Rattle.fidelity.proofs.Basics.{holds-eq, holds-some, put-self, put-other}
 
 -- either v is nobody's value, or some name has it
@@ -80,29 +80,6 @@ count-two f g lo (suc n) h = go (f (lo + n)) refl (g (lo + n)) refl (count-two f
     go true p false q ih = rw (p, q) (omega arith)
     go false p true q ih = rw (p, q) (omega arith)
     go false p false q ih = rw (p, q) (omega arith)
-
-pub count-most : (f : ℕ → Bool) (lo n : ℕ) → count f lo n ≤ n
-count-most f lo n = let h : count f lo n + count (λ x. false) lo n ≤ n = count-two f (λ x. false) lo n (λ x p. refl) in omega arith
-
-pub sum-lt : (f g : ℕ → ℕ) (y n : ℕ) → y < n → f y < g y → ((x : ℕ) → x < n → f x ≤ g x) → sum f n < sum g n
-unfolding sum
-sum-lt f g y zero l s h = absurd (omega arith)
-sum-lt f g y (suc n) l s h = go (ℕ-discrete y n) (λ k. sum-lt f g y n k s (λ x m. h x (omega arith)))
-  where
-    go : Dec (y ≡ n) → (y < n → sum f n < sum g n) → f n + sum f n < g n + sum g n
-    go (yes p) ih = let q : f n < g n = rw p at s in omega (arith, sum-le f g n (λ x m. h x (omega arith)))
-    go (no p) ih = omega (arith, ih (omega arith), h n (omega arith))
-
-pub count-le : (f g : ℕ → Bool) (lo n : ℕ) → ((x : ℕ) → lo ≤ x → x < lo + n → f x ≡ true → g x ≡ true) → count f lo n ≤ count g lo n
-unfolding count
-count-le f g lo zero h = omega arith
-count-le f g lo (suc n) h = go (f (lo + n)) refl (g (lo + n)) refl (count-le f g lo n (λ x a b. h x a (omega arith)))
-  where
-    go : (a : Bool) → f (lo + n) ≡ a → (b : Bool) → g (lo + n) ≡ b → count f lo n ≤ count g lo n
-        → bit (f (lo + n)) + count f lo n ≤ bit (g (lo + n)) + count g lo n
-    go true p true q ih = rw (p, q) (omega arith)
-    go true p false q ih = absurd (false≢true (sym q ∙ h (lo + n) (omega arith) (omega arith) p))
-    go false p b q ih = rw p (omega arith)
 
 count-or : (f g : ℕ → Bool) (lo n : ℕ) → count (λ x. f x || g x) lo n ≤ count f lo n + count g lo n
 unfolding count

@@ -1,58 +1,56 @@
--- The values suffice: every value for every name that is not restricted, and there are more private values than names held where a thread is at a New.
+-- The values suffice: the reaches are closed under the flow of names, and there are more private values than names held where a thread is at a New.
 use Prim.Native.Nat.{ℕ, suc, _+_, _≤_, _<_}
 use mathlib.Core.Path.{_≡_, refl, sym, _∙_}
-use mathlib.Core.Logic.{inl, inr}
-use mathlib.Core.Bool.{true, false, not, _&&_}
+use mathlib.Core.Bool.{true, _&&_}
 use mathlib.Core.List.{List, [], _∷_, _++_}
 use native.Mathlib.Omega.{arith}
-use lib.Dec.{ltb, leb}
+use lib.Dec.{ltb}
 use lib.ListN.{length, getD}
-use borrow.Author.Tests.{lt-ltb, le-leb, ltb-true, leb-true}
-use Rattle.lists.specs.Lists as Lists
+use borrow.Author.Tests.{lt-ltb, ltb-true, leb-true}
 use Rattle.lists.specs.Lists.{same, member}
-use Rattle.lists.proofs.Tests.{and-left, and-right, or-true, same-true}
+use Rattle.lists.proofs.Tests.{and-intro, and-left, and-right, same-true}
 use Rattle.lists.proofs.Members.{member-getD}
-use Rattle.scheme.specs.Scheme.{Scheme, Node, stop, choice, new, call}
+use Rattle.scheme.specs.Scheme.{Scheme, Node, stop, choice, new, call, send, receive}
 use Rattle.table.specs.Accepted.{Accepted}
 use Rattle.places.specs.Values.{Values}
-use Rattle.places.specs.Places.{controls}
-use Rattle.places.specs.Held.{mostHeld, privateCount, valuesFor}
+use Rattle.places.specs.Places.{controls, common}
+use Rattle.places.specs.Held.{mostHeld}
+use Rattle.places.specs.Reach.{valuesFor}
 use Rattle.places.specs.Inner.Holding.{count}
+use Rattle.places.proofs.Tallies.{sum-lt, count-le}
+use Rattle.places.proofs.Arriving.{privates-are, carried, own, copied}
+use Rattle.places.proofs.Arriving as Arriving
 use Rattle.places.proofs.Few.{first-place, first-length, held-most, private-sum}
 use Rattle.readback.specs.Configurations.{Spot, spot, Configuration, heldHere, isSpot}
 use Rattle.fidelity.specs.Inner.Marks.{given, isPlace, allows, Takes, WellFormed}
 use Rattle.fidelity.specs.Inner.Shapes.{EnoughValues}
-use Rattle.fidelity.proofs.Counting.{sum-lt, count-le, count-member, owned-all}
+use Rattle.fidelity.proofs.Tables.{send-present, receive-present}
+use Rattle.fidelity.proofs.Counting.{count-member, owned-all}
+use Rattle.fidelity.proofs.Listed.{takes-member, bound-values}
 
 module _ (S : Scheme) (A : Accepted S) where
   abbrev U : Values
   U = valuesFor S
 
-  privates-are : U .privates ≡ privateCount S
-  unfolding valuesFor
-  privates-are = refl
-
   -- ---- values
 
-  free-allows : (x v : ℕ) → S .restricted x ≡ false → v < S .publics + U .privates → allows S U x v ≡ true
-  unfolding allows valuesFor
-  free-allows x v f l = rw (f, lt-ltb v (S .publics + U .privates) l)
+  -- what is in the reach of x is in the reach of y: so are the values
+  flows : (x y v : ℕ) → S .publics ≤ y → ((o : ℕ) → U .origins x o ≡ true → U .origins y o ≡ true) → Takes S U x v → allows S U y v ≡ true
+  flows x y v l flow t = bound-values S U A y v l (carried S x y v l flow (takes-member S U A x v t))
 
-  pub makes : (x v : ℕ) → S .restricted x ≡ true → S .publics ≤ v → v < S .publics + U .privates → allows S U x v ≡ true
-  unfolding allows valuesFor
-  makes x v r p l = rw (lt-ltb v (S .publics + U .privates) l, le-leb (S .publics) v p) (or-true (not (S .restricted x)))
+  pub met : (s a z l r e y m i o : ℕ) → S .branch s ≡ send a z l → S .branch r ≡ receive e y m → (S .thread (S .home s) ≡ S .thread (S .home r) → ⊥)
+      → member i (common S U a e) ≡ true → U .origins z o ≡ true → U .origins y o ≡ true
+  met s a z l r e y m i o hs hr df =
+      Arriving.met S A s a z l r e y m i o hs hr df (A .branch-inside s (send-present S A s a z l hs)) (A .branch-inside r (receive-present S A r e y m hr))
 
-  allows-below : (x v : ℕ) → allows S U x v ≡ true → v < S .publics + U .privates
+  pub makes : (r v : ℕ) → S .restricted r ≡ true → S .publics ≤ v → v < S .publics + U .privates → allows S U r v ≡ true
   unfolding allows
-  allows-below x v h = ltb-true v (S .publics + U .privates) (and-left (ltb v (S .publics + U .privates)) (U .reach x v) h)
+  makes r v h lo hi =
+      and-intro (ltb v (S .publics + U .privates)) (U .reach r v) (lt-ltb v (S .publics + U .privates) hi) (Arriving.makes S A r v h lo)
 
   pub private : (x v : ℕ) → S .restricted x ≡ true → allows S U x v ≡ true → S .publics ≤ v
-  unfolding allows valuesFor
-  private x v r h = leb-true (S .publics) v (and-right (ltb v (S .publics + U .privates)) (leb (S .publics) v) (rw r at h))
-
-  takes-below : (x v : ℕ) → Takes S U x v → v < S .publics + U .privates
-  takes-below x v (inl (lo, hi, al)) = allows-below x v al
-  takes-below x v (inr (l, e)) = omega arith
+  unfolding allows
+  private x v r h = Arriving.private S A x v r (and-right (ltb v (S .publics + U .privates)) (U .reach x v) h)
 
   -- ---- N
 
@@ -74,7 +72,7 @@ module _ (S : Scheme) (A : Accepted S) where
   room c W n r l h p =
       omega (
         arith,
-        privates-are,
+        privates-are S,
         private-sum S A r (A .new-restricted n r l h),
         owned-all (λ x. given (c .value x)) (S .nameThread) (S .publics) (S .bounds) (S .threads) (λ x a b. A .name-thread x a b),
         sum-lt (λ θ. count (λ x. same (S .nameThread x) θ && given (c .value x)) (S .publics) (S .bounds)) (mostHeld S) (S .thread n) (S .threads)
@@ -120,9 +118,12 @@ module _ (S : Scheme) (A : Accepted S) where
   pub enough-values : EnoughValues S (valuesFor S)
   enough-values = record {
     copies =
-        λ n d j v h l tk. free-allows (getD (S .formals d) j 0) v (A .formal-free d (getD (S .formals d) j 0) (member-getD (S .formals d) j l))
-        (takes-below (getD (S .arguments n) j 0) v tk);
-    meets = λ s a z l r e y m i j hs hr df ic tz. free-allows y j (A .receive-free r e y m hr) (takes-below z j tz);
+        λ n d j v h l tk. flows (getD (S .arguments n) j 0) (getD (S .formals d) j 0) v
+        (A .formal-name d (getD (S .formals d) j 0) (member-getD (S .formals d) j l) .low) (λ o. copied S A n d j o h l) tk;
+    copied = copied S A;
+    meets = λ s a z l r e y m i j hs hr df ic tz. flows z y j (A .receive-name r e y m hr .low) (λ o. met s a z l r e y m i o hs hr df ic) tz;
+    met = met;
+    own = own S A;
     makes = makes;
     private = private;
     room = room;

@@ -2,24 +2,27 @@
 use Prim.Native.Nat.{ℕ, _+_, _≤_, _<_}
 use mathlib.Core.Path.{_≡_, refl, sym, _∙_}
 use mathlib.Core.Logic.{_≢_, inl, inr}
-use mathlib.Core.Bool.{Bool, true, false, true≢false}
+use mathlib.Core.Bool.{Bool, true, false, _&&_, true≢false}
 use mathlib.Core.Option.{some}
 use mathlib.Core.List.{[], _∷_}
-use native.Mathlib.Decide.{decLe}
+use native.Mathlib.Decide.{decLe, decLt}
 use native.Mathlib.Omega.{arith}
+use lib.Dec.{ltb}
 use borrow.Author.Tests.{lt-ltb, le-ltb}
-use Rattle.lists.specs.Lists.{pick, same, member}
-use Rattle.lists.proofs.Tests.{same-self, same-true, same-no}
+use Rattle.lists.specs.Lists.{pick, same, from, member}
+use Rattle.lists.proofs.Tests.{or-right, same-self, same-true, same-no}
+use Rattle.lists.proofs.Ranges.{member-from}
 use Rattle.scheme.specs.Scheme.{Scheme, choice, new, send, receive}
 use Rattle.table.specs.Accepted.{NameOf, Usable, Accepted}
 use Rattle.process.specs.States.{State}
 use Rattle.process.specs.Steps.{Step, newStep, communication, isOpen}
 use Rattle.process.specs.Labels.{labelOf}
-use Rattle.places.specs.Values.{Values}
+use Rattle.places.specs.Values.{Values, shares}
 use Rattle.places.specs.Places.{common}
 use Rattle.places.specs.Transitions.{test, Description, making, communicating}
+use Rattle.places.proofs.Tallies.{some-intro}
 use Rattle.readback.specs.Configurations.{Spot, spot, Configuration}
-use Rattle.fidelity.specs.Inner.Marks.{stay, pass, Fits, WellFormed, Takes}
+use Rattle.fidelity.specs.Inner.Marks.{stay, pass, Fits, WellFormed, Sourced, Takes, Meets}
 use Rattle.fidelity.specs.Inner.Shapes.{pair, onward}
 use Rattle.fidelity.specs.Inner.Shapes.{Described, is-new, is-call, is-copy, is-release, is-ending, is-silent, is-communication, EnoughValues}
 use Rattle.fidelity.specs.Inner.Standing.{shown, Shows}
@@ -125,11 +128,27 @@ module _ (S : Scheme) (U : Values) (A : Accepted S) (E : EnoughValues S U) where
       unused v lo fr x (yes px) q = fr x px (W .allowed x v px q .0) q
       unused v lo fr x (no nx) q = let e : x ≡ v = cc (W .publics x (omega arith)) in omega arith
 
-  pub fire-com : (c : Configuration) → WellFormed S U c → (g r a z l x y m : ℕ) → S .branch g ≡ send a z l → S .branch r ≡ receive x y m
+  -- channels with one value can meet: a private value stems from one restricted name, in both reaches
+  meeting-values : (c : Configuration) → Sourced S U c → (a x i : ℕ) → c .value a ≡ some i → c .value x ≡ some i → Meets S U a x i
+  unfolding shares
+  meeting-values c Q a x i ea ex = go (decLt i (S .publics))
+    where
+      go : Dec (i < S .publics) → Meets S U a x i
+      go (yes l) = rw (lt-ltb i (S .publics) l)
+      go (no n) =
+          let lo : S .publics ≤ i = omega arith in
+          let o : ℕ = Q .origin i in
+          let (pa, re) = Q .stems a i lo ea in
+          let (px, rx) = Q .stems x i lo ex in
+          or-right (ltb i (S .publics)) (shares S U a x)
+          (some-intro (λ o. S .restricted o && (U .origins a o && U .origins x o)) o (from (S .publics) (S .bounds))
+          (member-from o (S .publics) (S .bounds) (A .restricted-bound o re .0) (A .restricted-bound o re .1)) (rw (re, pa, px)))
+
+  pub fire-com : (c : Configuration) → WellFormed S U c → Sourced S U c → (g r a z l x y m : ℕ) → S .branch g ≡ send a z l → S .branch r ≡ receive x y m
       → S .thread (S .home g) ≢ S .thread (S .home r)
       → c .at (S .thread (S .home g)) ≡ spot (S .home g) 0 → c .at (S .thread (S .home r)) ≡ spot (S .home r) 0 → c .value a ≡ c .value x
       → Fireable c (communication g r)
-  fire-com c W g r a z l x y m hs hr df ps pr equal =
+  fire-com c W Q g r a z l x y m hs hr df ps pr equal =
       let (i, ei, ti) = usable-value S U A E c W (S .home g) a (A .send-usable g a z l hs .0) (λ e. rw (ps, held-first S U A (S .home g) a) e) in
       let (j, ej, tj) = usable-value S U A E c W (S .home g) z (A .send-usable g a z l hs .1) (λ e. rw (ps, held-first S U A (S .home g) z) e) in
       let (i′, ei′, ti′) = usable-value S U A E c W (S .home r) x (A .receive-usable r x y m hr) (λ e. rw (pr, held-first S U A (S .home r) x) e) in
@@ -159,7 +178,7 @@ module _ (S : Scheme) (U : Values) (A : Accepted S) (E : EnoughValues S U) where
           let q : i′ ≡ i = cc in
           let own : z ≡ a → j ≡ i = λ e. self e in
           let tx : Takes S U x i = rw q at ti′ in
-          let im : member i (common S U a x) ≡ true = takes-common S U A a x i ti tx in record {
+          let im : member i (common S U a x) ≡ true = takes-common S U A a x i ti tx (meeting-values c Q a x i ei (sym equal ∙ ei)) in record {
             firing = communicating S U g a z l r x y m i j;
             described = is-communication g a z l r x y m i j hs hr df im tj (E .meets g a z l r x y m i j hs hr df im tj) own;
             fits = record {

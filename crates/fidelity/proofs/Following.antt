@@ -19,14 +19,15 @@ use Rattle.process.specs.Steps.{arrived, called, received, silently, newly, cal
 use Rattle.places.specs.Values.{Values}
 use Rattle.places.specs.Transitions.{Description, making, communicating}
 use Rattle.readback.specs.Configurations.{Spot, spot, Configuration, nodeShownAt, nodeShown, nameShown}
-use Rattle.fidelity.specs.Inner.Marks.{stay, pass, ends, motion, after, Fits, WellFormed}
+use Rattle.fidelity.specs.Inner.Marks.{stay, pass, ends, motion, after, Fits, WellFormed, Sourced}
 use Rattle.fidelity.specs.Inner.Shapes.{single, pair, chain, onward, entering, copyingAt, releasingAt, ending, goingBy}
-use Rattle.fidelity.specs.Inner.Shapes.{Described, is-new, is-call, is-copy, is-release, is-ending, is-silent, is-communication}
+use Rattle.fidelity.specs.Inner.Shapes.{Described, is-new, is-call, is-copy, is-release, is-ending, is-silent, is-communication, EnoughValues}
 use Rattle.fidelity.specs.Inner.Standing.{shown, advanced, Shows}
 use Rattle.fidelity.proofs.Basics.{none-some, put-self, put-other}
 use Rattle.fidelity.proofs.Tables.{no-thread}
 use Rattle.fidelity.proofs.Firing.{well-formed-after}
 use Rattle.fidelity.proofs.Shapes.{shaped}
+use Rattle.fidelity.proofs.Sources.{sourced-after}
 use Rattle.fidelity.proofs.Shown.{ending-shown, silent-shown, new-shown, call-shown, copy-shown, release-shown, communication-shown}
 use Rattle.fidelity.proofs.Alike.{alike-other, alike-new, alike-from}
 use Rattle.fidelity.proofs.Labels.{new-advanced, silent-advanced, call-advanced, communication-advanced}
@@ -71,12 +72,14 @@ module _ (S : Scheme) (U : Values) (A : Accepted S) where
   read-fresh e b h none v q = absurd (none-some refl q)
   read-fresh e b h (some x) v q = h x v q
 
-  module _ (c : Configuration) (s : State) (R : Shows S U c s) where
+  module _ (E : EnoughValues S U) (c : Configuration) (s : State) (R : Shows S U c s) where
     -- the state is kept
-    kept : (t : Description) → WellFormed S U (after S t c) → ((ϑ : ℕ) → nodeShown S (ends (motion S (t .moves) ϑ) (c .at ϑ)) ≡ s .node ϑ)
+    kept : (t : Description) → WellFormed S U (after S t c) → Sourced S U (after S t c) →
+        ((ϑ : ℕ) → nodeShown S (ends (motion S (t .moves) ϑ) (c .at ϑ)) ≡ s .node ϑ)
         → ((x : ℕ) → shown S (after S t c) x ≡ shown S c x) → Shows S U (after S t c) s
-    kept t W n v = record {
+    kept t W Q n v = record {
       formed = W;
+      sourced = Q;
       nodes = n;
       alike = alike-from (shown S c) (shown S (after S t c)) (s .value) v (R .alike);
       public = R .public;
@@ -84,12 +87,13 @@ module _ (S : Scheme) (U : Values) (A : Accepted S) where
     }
 
     -- names read other names
-    moved : (t : Description) (to : ℕ → ℕ) (G : ℕ → Option ℕ) → WellFormed S U (after S t c)
+    moved : (t : Description) (to : ℕ → ℕ) (G : ℕ → Option ℕ) → WellFormed S U (after S t c) → Sourced S U (after S t c)
         → ((ϑ : ℕ) → nodeShown S (ends (motion S (t .moves) ϑ) (c .at ϑ)) ≡ to ϑ)
         → ((x : ℕ) → shown S (after S t c) x ≡ valueOf (shown S c) (G x)) → ((x : ℕ) → x < S .publics → G x ≡ some x)
         → Shows S U (after S t c) (record { node = to; value = λ x. valueOf (s .value) (G x); counter = s .counter })
-    moved t to G W n v p = record {
+    moved t to G W Q n v p = record {
       formed = W;
+      sourced = Q;
       nodes = n;
       alike =
           alike-from (λ x. valueOf (shown S c) (G x)) (shown S (after S t c)) (λ x. valueOf (s .value) (G x)) v
@@ -107,7 +111,7 @@ module _ (S : Scheme) (U : Values) (A : Accepted S) where
     ending-step : (k j v : ℕ) (va : Described S U (ending S U k j v)) → S .node k ≡ stop → Fits S (ending S U k j v) c
         → Shows S U (after S (ending S U k j v) c) s
     ending-step k j v va h f =
-        kept (ending S U k j v) (well-formed-after S U c (ending S U k j v) (R .formed) (shaped S U A va) f)
+        kept (ending S U k j v) (well-formed-after S U c (ending S U k j v) (R .formed) (shaped S U A va) f) (sourced-after S U A E c (R .sourced) va f)
         (keep-nodes (c .at) (s .node) (S .thread k) (spot k j) (spot k (suc j)) (R .nodes)
         (f .stands (S .thread k) (spot k j) (spot k (suc j)) (rw (same-self (S .thread k)))) (rw h))
         (ending-shown S U A c k j v h (R .formed) (shaped S U A va) f)
@@ -116,6 +120,7 @@ module _ (S : Scheme) (U : Values) (A : Accepted S) where
         → Shows S U (after S (copyingAt S U d k j v) c) s
     copy-step k d j v va h l f =
         kept (copyingAt S U d k j v) (well-formed-after S U c (copyingAt S U d k j v) (R .formed) (shaped S U A va) f)
+        (sourced-after S U A E c (R .sourced) va f)
         (keep-nodes (c .at) (s .node) (S .thread k) (spot k (suc j)) (onward S d k (suc j)) (R .nodes)
         (f .stands (S .thread k) (spot k (suc j)) (onward S d k (suc j)) (rw (same-self (S .thread k)))) (node-onward k d (suc j) h ∙ rw h))
         (copy-shown S U A k d h c j v l (R .formed) (shaped S U A va) f)
@@ -125,6 +130,7 @@ module _ (S : Scheme) (U : Values) (A : Accepted S) where
     release-step k d j v va h l f =
         let i : ℕ = suc (length (S .formals d) + j) in
         kept (releasingAt S U d k j v) (well-formed-after S U c (releasingAt S U d k j v) (R .formed) (shaped S U A va) f)
+        (sourced-after S U A E c (R .sourced) va f)
         (keep-nodes (c .at) (s .node) (S .thread k) (spot k i) (onward S d k i) (R .nodes)
         (f .stands (S .thread k) (spot k i) (onward S d k i) (rw (same-self (S .thread k)))) (node-onward k d i h ∙ rw h))
         (release-shown S U A k d h c j v l (R .formed) (shaped S U A va) f)
@@ -134,6 +140,7 @@ module _ (S : Scheme) (U : Values) (A : Accepted S) where
     silent-step b l va h f =
         let θ : ℕ = S .thread (S .home b) in
         moved (goingBy S U b l) (put (s .node) θ l) (arrived S θ l) (well-formed-after S U c (goingBy S U b l) (R .formed) (shaped S U A va) f)
+        (sourced-after S U A E c (R .sourced) va f)
         (single-nodes (c .at) (s .node) θ (spot (S .home b) 0) (spot l 0) l (R .nodes) (node-first l))
         (silent-shown S U A c b l h (R .formed) (shaped S U A va) f) (λ x p. public-arrived θ l x (A .thread-inside (S .home b)) p)
 
@@ -141,7 +148,7 @@ module _ (S : Scheme) (U : Values) (A : Accepted S) where
         → Shows S U (after S (entering S U d k) c) (calling S k d s)
     call-step k d va h f =
         moved (entering S U d k) (put (s .node) (S .thread k) (S .root d)) (called S k d)
-        (well-formed-after S U c (entering S U d k) (R .formed) (shaped S U A va) f)
+        (well-formed-after S U c (entering S U d k) (R .formed) (shaped S U A va) f) (sourced-after S U A E c (R .sourced) va f)
         (single-nodes (c .at) (s .node) (S .thread k) (spot k 0) (onward S d k 0) (S .root d) (R .nodes) (node-onward k d 0 h))
         (call-shown S U A k d h c (R .formed) (shaped S U A va) f) (λ x p. rw (public-thread x (S .thread k) p (A .thread-inside k)))
 
@@ -152,7 +159,7 @@ module _ (S : Scheme) (U : Values) (A : Accepted S) where
     unfolding put
     communication-step b a z l r x y m i j va hs hr df f =
         moved (communicating S U b a z l r x y m i j) (put (put (s .node) θ l) η m) (received S θ z l η y m)
-        (well-formed-after S U c (communicating S U b a z l r x y m i j) (R .formed) (shaped S U A va) f)
+        (well-formed-after S U c (communicating S U b a z l r x y m i j) (R .formed) (shaped S U A va) f) (sourced-after S U A E c (R .sourced) va f)
         nodes (communication-shown S U A b a z l r x y m hs hr df c i j (R .formed) (shaped S U A va) f) publics
       where
         θ : ℕ
@@ -186,6 +193,7 @@ module _ (S : Scheme) (U : Values) (A : Accepted S) where
         → Shows S U (after S (making S U k r l v) c) (newly S (S .thread k) r l s)
     new-step k r l v va h f = record {
       formed = well-formed-after S U c (making S U k r l v) (R .formed) (shaped S U A va) f;
+      sourced = sourced-after S U A E c (R .sourced) va f;
       nodes = single-nodes (c .at) (s .node) θ (spot k 0) (spot l 0) l (R .nodes) (node-first l);
       alike =
           alike-from (λ x. valueOf (put (shown S c) r (some v)) (arrived S θ l x)) (shown S (after S (making S U k r l v) c))
@@ -217,14 +225,14 @@ module _ (S : Scheme) (U : Values) (A : Accepted S) where
         below y w (no p) q = let e : w < s .counter = R .fresh y w (sym (put-other (s .value) r (some (s .counter)) y p) ∙ q) in omega arith
 
   -- each firing is bookkeeping, or the process step that its label names
-  pub step : {t : Description} (c : Configuration) (s : State) → Shows S U c s → Described S U t → Fits S t c
+  pub step : (E : EnoughValues S U) {t : Description} (c : Configuration) (s : State) → Shows S U c s → Described S U t → Fits S t c
       → Shows S U (after S t c) (advanced S (t .label) s)
-  step c s R (is-new k r l v h p re) f = rw (new-advanced S k r l s h) (new-step c s R k r l v (is-new k r l v h p re) h f)
-  step c s R (is-call k d h) f = rw (call-advanced S k d s h) (call-step c s R k d (is-call k d h) h f)
-  step c s R (is-copy k d j v h l t re) f = copy-step c s R k d j v (is-copy k d j v h l t re) h l f
-  step c s R (is-release k d j v h l re p) f = release-step c s R k d j v (is-release k d j v h l re p) h l f
-  step c s R (is-ending k j v km h l re p) f = ending-step c s R k j v (is-ending k j v km h l re p) h f
-  step c s R (is-silent b l h) f = rw (silent-advanced S b l s h) (silent-step c s R b l (is-silent b l h) h f)
-  step c s R (is-communication b a z l r x y m i j hs hr df im tz re own) f =
+  step E c s R (is-new k r l v h p re) f = rw (new-advanced S k r l s h) (new-step E c s R k r l v (is-new k r l v h p re) h f)
+  step E c s R (is-call k d h) f = rw (call-advanced S k d s h) (call-step E c s R k d (is-call k d h) h f)
+  step E c s R (is-copy k d j v h l t re) f = copy-step E c s R k d j v (is-copy k d j v h l t re) h l f
+  step E c s R (is-release k d j v h l re p) f = release-step E c s R k d j v (is-release k d j v h l re p) h l f
+  step E c s R (is-ending k j v km h l re p) f = ending-step E c s R k j v (is-ending k j v km h l re p) h f
+  step E c s R (is-silent b l h) f = rw (silent-advanced S b l s h) (silent-step E c s R b l (is-silent b l h) h f)
+  step E c s R (is-communication b a z l r x y m i j hs hr df im tz re own) f =
       rw (communication-advanced S b a z l r x y m s hs hr df)
-      (communication-step c s R b a z l r x y m i j (is-communication b a z l r x y m i j hs hr df im tz re own) hs hr df f)
+      (communication-step E c s R b a z l r x y m i j (is-communication b a z l r x y m i j hs hr df im tz re own) hs hr df f)

@@ -6,6 +6,7 @@ pub mod Tables
 pub mod Firing
 pub mod Shapes
 pub mod Shown
+pub mod Sources
 pub mod Alike
 pub mod Labels
 pub mod Following

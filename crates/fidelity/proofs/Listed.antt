@@ -2,7 +2,7 @@
 use Prim.Native.Nat.{ℕ, zero, suc, _+_, _≤_, _<_}
 use mathlib.Core.Path.{_≡_, refl, sym, _∙_}
 use mathlib.Core.Logic.{_⊎_, inl, inr}
-use mathlib.Core.Bool.{Bool, true, false, _&&_}
+use mathlib.Core.Bool.{Bool, true, false, _&&_, _||_}
 use mathlib.Core.List.{List, [], _∷_, map}
 use native.Mathlib.Omega.{arith}
 use native.Mathlib.Nat.{not-suc-le-zero, le-of-suc-le-suc}
@@ -15,12 +15,12 @@ use Rattle.lists.proofs.Ranges.{member-from, from-member}
 use Rattle.lists.proofs.Members.{member-here, one-member, member-keep}
 use Rattle.scheme.specs.Scheme.{Scheme, stop, call, send, receive}
 use Rattle.table.specs.Accepted.{NameOf, Usable, Accepted}
-use Rattle.places.specs.Values.{Values, valuesOf}
-use Rattle.places.specs.Places.{controls, common}
+use Rattle.places.specs.Values.{Values, valuesOf, shares}
+use Rattle.places.specs.Places.{controls, common, isCommon}
 use Rattle.places.specs.Transitions.{move, Description, on, releasing, releases, copying, copies, calling}
 use Rattle.readback.specs.Configurations.{spot}
 use Rattle.fidelity.specs.Inner.Elements.{Element}
-use Rattle.fidelity.specs.Inner.Marks.{allows, Takes}
+use Rattle.fidelity.specs.Inner.Marks.{allows, Takes, Meets}
 use Rattle.fidelity.specs.Inner.Shapes.{chain, onward, entering, copyingAt, releasingAt, ending}
 use Rattle.fidelity.proofs.Elements.{no-element, element-left, element-right, append-element, element-map, map-element}
 use Rattle.fidelity.proofs.Elements.{element-member, member-element}
@@ -67,22 +67,23 @@ module _ (S : Scheme) (U : Values) (A : Accepted S) where
   member-takes n x v (inl l) m = inr (l, public-values x v l m)
   member-takes n x v (inr h) m = let nm : NameOf S (S .thread n) x = A .held-name n x h in inl (nm .low, nm .high, bound-values x v (nm .low) m)
 
-  -- a common channel value is a value of both channels
+  -- a common channel value is a value of both channels that can meet
   pub common-takes : (s a z l r e y m i : ℕ) → S .branch s ≡ send a z l → S .branch r ≡ receive e y m → member i (common S U a e) ≡ true
-      → Takes S U a i × Takes S U e i
+      → Takes S U a i × Takes S U e i × Meets S U a e i
   common-takes s a z l r e y m i hs hr h =
-      let c : (member i (valuesOf S U e) && member i (valuesOf S U a)) ≡ true =
-      sym (member-keep (λ v. member v (valuesOf S U e)) i (valuesOf S U a)) ∙ h in (
-        member-takes (S .home s) a i (A .send-usable s a z l hs .0) (and-right (member i (valuesOf S U e)) (member i (valuesOf S U a)) c),
-        member-takes (S .home r) e i (A .receive-usable r e y m hr) (and-left (member i (valuesOf S U e)) (member i (valuesOf S U a)) c),
+      let c : (isCommon S U a e i && member i (valuesOf S U a)) ≡ true = sym (member-keep (isCommon S U a e) i (valuesOf S U a)) ∙ h in
+      let b : isCommon S U a e i ≡ true = and-left (isCommon S U a e i) (member i (valuesOf S U a)) c in (
+        member-takes (S .home s) a i (A .send-usable s a z l hs .0) (and-right (isCommon S U a e i) (member i (valuesOf S U a)) c),
+        member-takes (S .home r) e i (A .receive-usable r e y m hr) (and-left (member i (valuesOf S U e)) (ltb i (S .publics) || shares S U a e) b),
+        and-right (member i (valuesOf S U e)) (ltb i (S .publics) || shares S U a e) b,
       )
 
-  -- and a value of both is common
-  pub takes-common : (a e i : ℕ) → Takes S U a i → Takes S U e i → member i (common S U a e) ≡ true
-  takes-common a e i ta te =
-      member-keep (λ v. member v (valuesOf S U e)) i (valuesOf S U a)
-      ∙ and-intro (member i (valuesOf S U e)) (member i (valuesOf S U a))
-      (takes-member e i te) (takes-member a i ta)
+  -- and a value of both that can meet is common
+  pub takes-common : (a e i : ℕ) → Takes S U a i → Takes S U e i → Meets S U a e i → member i (common S U a e) ≡ true
+  takes-common a e i ta te mt =
+      member-keep (isCommon S U a e) i (valuesOf S U a)
+      ∙ and-intro (isCommon S U a e i) (member i (valuesOf S U a))
+      (and-intro (member i (valuesOf S U e)) (ltb i (S .publics) || shares S U a e) (takes-member e i te) mt) (takes-member a i ta)
 
   -- ---- releases and copies
 

@@ -28,7 +28,8 @@ use Rattle.fidelity.proofs.Basics.{asks-nothing}
 use Rattle.fidelity.proofs.Tables.{chosen, send-present, receive-present, silent-node, send-node, receive-node, formal-name}
 use Rattle.fidelity.proofs.Labels.{silent-named, call-named}
 use Rattle.places.proofs.Tallies.{distinct-count}
-use Rattle.fidelity.proofs.Counting.{count-two, count-most}
+use Rattle.places.proofs.Tallies.{count-most}
+use Rattle.fidelity.proofs.Counting.{count-two}
 use Rattle.fidelity.proofs.Settling.{single-stands, Settled, settle}
 use Rattle.fidelity.proofs.Fireable.{choice-shown, Fireable, fire-new, fire-com}
 
@@ -160,7 +161,7 @@ module _ (S : Scheme) (U : Values) (A : Accepted S) (E : EnoughValues S U) where
       run = run-append (σ .run) (τ .run);
       quietly = quiet-append (σ .firings) (τ .firings) (σ .quietly) (τ .quietly);
       few = rw (length-append (σ .firings) (τ .firings)) (omega (arith, σ .size, τ .size, shared));
-      fireable = fire-com S U A E d W g r a z l x y m hs hr df ps (τ .there) equal;
+      fireable = fire-com S U A E d W (τ .shows .sourced) g r a z l x y m hs hr df ps (τ .there) equal;
     }
       where
         shared : names θ + names η ≤ S .bounds

@@ -17,7 +17,7 @@ use Rattle.process.specs.States.{valueOf}
 use Rattle.process.specs.StateWords.{stateWords}
 use Rattle.net.specs.Firing.{isMarking}
 use Rattle.places.specs.Values.{Values}
-use Rattle.places.specs.Held.{valuesFor}
+use Rattle.places.specs.Reach.{valuesFor}
 use Rattle.places.specs.Places.{places}
 use Rattle.readback.specs.Configurations.{Configuration, nodeShown, stateShown}
 use Rattle.readback.specs.Reading.{configuration, readBack, words}

@@ -1,16 +1,15 @@
 -- The chain of a call can be finished: bookkeeping of its thread alone brings the thread to the called root and keeps the state.
-use Prim.Native.Nat.{ℕ, zero, suc, _+_, _-_, _≤_, _<_}
+use Prim.Native.Nat.{ℕ, zero, suc, _+_, _-_, _<_}
 use mathlib.Core.Path.{_≡_, refl, sym, ap, _∙_}
-use mathlib.Core.Logic.{_≢_, _⊎_, inl, inr}
-use mathlib.Core.Bool.{Bool, true, false, not, _&&_, _||_, true≢false, false≢true}
-use mathlib.Core.Option.{Option, none, some}
-use mathlib.Core.List.{List, [], _∷_, _++_}
-use native.Mathlib.Decide.{decLe, decLt}
+use mathlib.Core.Logic.{_≢_, inl, inr}
+use mathlib.Core.Bool.{true, false, true≢false}
+use mathlib.Core.Option.{some}
+use mathlib.Core.List.{List, [], _∷_}
+use native.Mathlib.Decide.{decLt}
 use native.Mathlib.Omega.{arith}
-use lib.Dec.{ltb}
 use lib.ListN.{length, take, drop, getD}
 use borrow.Author.Tests.{lt-ltb, le-ltb}
-use Rattle.lists.specs.Lists.{pick, same, member}
+use Rattle.lists.specs.Lists.{member}
 use Rattle.lists.proofs.Tests.{or-right, or-true, same-self, same-no}
 use Rattle.lists.proofs.Members.{member-getD, member-head, distinct-earlier}
 use Rattle.scheme.specs.Scheme.{Scheme, call}
@@ -137,7 +136,7 @@ module _ (S : Scheme) (U : Values) (A : Accepted S) (E : EnoughValues S U) where
   cons-settled : (c : Configuration) (s : State) (θ : ℕ) (a b q : Spot) (n : ℕ) → Shows S U c s → Next c θ a b
       → ((t : Description) → ((ϑ : ℕ) → motion S (t .moves) ϑ ≡ single θ a b ϑ) → Shows S U (after S t c) s → Settled (after S t c) s θ q n)
       → Settled c s θ q (suc n)
-  cons-settled c s θ a b q n R (t, va, bk, f, m) next = before (next t m (rw (quiet-advanced t s bk) at (step S U A c s R va f)))
+  cons-settled c s θ a b q n R (t, va, bk, f, m) next = before (next t m (rw (quiet-advanced t s bk) at (step S U A E c s R va f)))
     where
       before : Settled (after S t c) s θ q n → Settled c s θ q (suc n)
       before σ = record {

@@ -401,4 +401,4 @@ module _ (S : Scheme) (U : Values) (A : Accepted S) where
   shaped (is-ending n j v km h l re p) = ending-shaped n j v km h l re p
   shaped (is-silent b l h) = silent-shaped b l h
   shaped (is-communication s a z l r x y m i j hs hr df im tz re own) =
-      let (ta, tx) = common-takes S U A s a z l r x y m i hs hr im in communication-shaped s a z l r x y m hs hr df i j ta tx tz re
+      let (ta, tx, mt) = common-takes S U A s a z l r x y m i hs hr im in communication-shaped s a z l r x y m hs hr df i j ta tx tz re

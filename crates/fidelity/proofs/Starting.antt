@@ -1,26 +1,25 @@
 -- The start: its configuration is well-formed and shows the starting state, and the places initially marked are its marking.
-use Prim.Native.Nat.{ℕ, zero, suc, _+_, _-_, _≤_, _<_}
+use Prim.Native.Nat.{ℕ, _+_, _≤_, _<_}
 use mathlib.Core.Path.{_≡_, refl, sym, ap, _∙_}
-use mathlib.Core.Logic.{_≢_, _⊎_, inl, inr}
-use mathlib.Core.Bool.{Bool, true, false, not, _&&_, true≢false, false≢true}
-use mathlib.Core.Option.{Option, none, some}
-use mathlib.Core.List.{List, [], _∷_}
+use mathlib.Core.Logic.{inl}
+use mathlib.Core.Bool.{Bool, true, false, _&&_, false≢true}
+use mathlib.Core.Option.{none, some}
+use mathlib.Core.List.{[]}
 use native.Mathlib.Decide.{decLe}
 use native.Mathlib.Omega.{arith}
 use lib.Dec.{ltb}
-use borrow.Author.Tests.{lt-ltb, le-ltb, ltb-true, ltb-false}
+use borrow.Author.Tests.{lt-ltb, le-ltb, ltb-true}
 use Rattle.lists.specs.Lists as Lists
 use Rattle.lists.specs.Lists.{pick, same, range, member}
-use Rattle.lists.proofs.Tests.{not-true-false, both-ways, and-left, and-right, and-intro, same-self, same-true, same-yes, same-sym}
+use Rattle.lists.proofs.Tests.{not-true-false, both-ways, and-left, and-right, and-intro, same-true, same-yes, same-sym}
 use Rattle.scheme.specs.Scheme.{Scheme}
 use Rattle.scheme.specs.Kinds.{isStop}
 use Rattle.table.specs.Accepted.{NameOf, Accepted}
 use Rattle.process.specs.States.{start, valueOf}
 use Rattle.places.specs.Values.{Values}
 use Rattle.places.specs.Places.{Place, equals, differs, free, control, isInitial}
-use Rattle.readback.specs.Configurations.{spot, Configuration}
-use Rattle.fidelity.specs.Inner.Elements.{Element}
-use Rattle.fidelity.specs.Inner.Marks.{isHeld, mark, Exists, exists-equals, exists-differs, exists-free, exists-control, WellFormed}
+use Rattle.readback.specs.Configurations.{spot}
+use Rattle.fidelity.specs.Inner.Marks.{isHeld, mark, Exists, exists-equals, exists-differs, WellFormed}
 use Rattle.fidelity.specs.Inner.Standing.{source, shown, Shows}
 use Rattle.fidelity.specs.Inner.Starting.{startConfiguration}
 use Rattle.fidelity.proofs.Basics.{none-some}
@@ -96,6 +95,7 @@ module _ (S : Scheme) (U : Values) (A : Accepted S) where
   unfolding start
   start-shows = record {
     formed = start-formed;
+    sourced = record { origin = λ v. 0; stems = λ x v l h. let (m, e) = own-value x v h in absurd (omega arith) };
     nodes = λ θ. node-first S U A (first θ);
     alike = alike-from (start S .value) (shown S (startConfiguration S)) (start S .value) start-shown (alike-self (start S .value));
     public = public-self;

@@ -19,7 +19,7 @@ use Rattle.net.specs.Firing.{Outcome, made, refused, step, inTurn}
 use Rattle.net.specs.Firing as Firing
 use Rattle.net.proofs.Steps.{turn-made, turn-refused}
 use Rattle.places.specs.Values.{Values}
-use Rattle.places.specs.Held.{valuesFor}
+use Rattle.places.specs.Reach.{valuesFor}
 use Rattle.places.specs.Image.{netOf, imageOf}
 use Rattle.places.specs.Transitions.{descriptions}
 use Rattle.readback.specs.Configurations.{Configuration}

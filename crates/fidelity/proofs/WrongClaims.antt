@@ -18,7 +18,7 @@ use Rattle.net.specs.Image.{transitionCount}
 use Rattle.net.specs.Net.{encode}
 use Rattle.net.specs.Firing.{initialMarking}
 use Rattle.places.specs.Values.{Values}
-use Rattle.places.specs.Held.{valuesFor}
+use Rattle.places.specs.Reach.{valuesFor}
 use Rattle.places.specs.Transitions.{Description, releases, copies, calling, ofNode, ofPair}
 use Rattle.places.specs.Image.{transitionOf, netOf, imageOf}
 use Rattle.readback.specs.Reading.{readBack, words}

@@ -5,7 +5,7 @@ use Prim.Native.Nat.{ℕ}
 use Rattle.lists.specs.Lists.{word}
 use Rattle.scheme.specs.Scheme.{scheme, new}
 use Rattle.net.specs.Firing as Firing
-use Rattle.places.specs.Held.{valuesFor}
+use Rattle.places.specs.Reach.{valuesFor}
 use Rattle.places.specs.Places.{control}
 use Rattle.places.specs.Rows.{numberOf}
 use Rattle.places.specs.Image.{imageOf}

@@ -1,25 +1,22 @@
 -- Counts only grow, so a part of a sum is as small as the whole; and one turn of the loops that count.
-use mathlib.Core.Path.{_≡_, refl, sym, ap, subst, _∙_}
+use mathlib.Core.Path.{_≡_, refl, ap, subst, _∙_}
 use mathlib.Core.Bool.{Bool, true, false, not, _&&_}
 use mathlib.Core.List.{List, [], _∷_, map}
 use Prim.Native.Nat.{ℕ, _+_, _-_, _≤_, _<_}
 use native.Mathlib.Omega.{arith}
-use lib.Dec.{ltb}
-use lib.ListN.{length, take}
-use lib.Seq.{slice, getD-take, length-take-le}
-use Rattle.lists.specs.Lists.{pick, same, word, from, range, member}
+use lib.ListN.{length}
+use lib.Seq.{slice}
+use Rattle.lists.specs.Lists.{pick, same, word, from, range}
 use Rattle.lists.proofs.Ranges.{from-more, from-done, from-whole}
-use Rattle.lists.proofs.Members.{member-getD}
 use Rattle.lists.proofs.Tests.{same-yes, same-no}
 use Rattle.lists.proofs.Slices.{slice-step, slice-none}
-use Rattle.scheme.specs.Words.{publics, branches, branchKind, isStop, isChoice, isNew, isSilent, isSend, isReceive, nodeFirst, nodeSecond}
+use Rattle.scheme.specs.Words.{branches, branchKind, isStop, isChoice, isNew, isSilent, isSend, isReceive, nodeFirst, nodeSecond}
 use Rattle.scheme.specs.Words.{channel, branchName, argumentsOf}
 use Rattle.scheme.specs.Owners.{held, branchThread}
-use Rattle.scheme.specs.Scheme.{scheme}
-use Rattle.places.specs.Inner.Plan.{privatesOf, freeNames}
+use Rattle.places.specs.Inner.Plan.{privatesOf, values, readNames}
 use Rattle.places.specs.Answers.{Sums}
 use Rattle.places.specs.Inner.Counting.{Few, addTimes, over, releaseSums, copySums, silentSums, nodeSums}
-use Rattle.places.specs.Inner.Counting.{pairSums, partnerSums, sendSums}
+use Rattle.places.specs.Inner.Counting.{boundBit, publicCount, privateCount, pairSums, partnerSums, sendSums}
 
 pub silent-yes : (w : List ℕ) (s : Sums) (b : ℕ) → branchKind w b ≡ 0 → silentSums w s b ≡ addTimes s 1 1 1
 unfolding silentSums
@@ -131,26 +128,17 @@ module _ (step : Sums → ℕ → Sums) where
       → all ≡ over step t (slice (i + 1) e xs)
   part-on all s t xs i e x h l k q r = h ∙ part-more s xs i e l k ∙ rw (r, q)
 
-pub taken-member : (xs : List ℕ) (i e : ℕ) → i < e → e ≤ length xs → member (word xs i) (take e xs) ≡ true
-taken-member xs i e l k =
-    ap (λ (x : ℕ). member x (take e xs)) (sym (getD-take e xs i 0 l)) ∙ member-getD (take e xs) i (omega (arith, length-take-le e xs k))
-
 -- ---- the steps of the counts
 
 module _ (w : List ℕ) where
   pub release-grows : (s : Sums) (z : ℕ) → Grows s (releaseSums w s z)
   unfolding releaseSums
-  release-grows s z =
-      grows-pick (scheme w .restricted z) s (addTimes s (privatesOf w) 2 2) (addTimes (addTimes s (publics w) 2 1) (privatesOf w) 2 2)
-      (grows-times s (privatesOf w) 2 2) (grows-twice s (publics w) 2 1 (privatesOf w) 2 2)
+  release-grows s z = grows-twice s (publicCount w (values w z)) 2 1 (privateCount w (values w z)) 2 2
 
   pub copy-grows : (s : Sums) (a : ℕ) → Grows s (copySums w s a)
   unfolding copySums
   copy-grows s a =
-      grows-pick (ltb a (publics w)) s (addTimes s 1 1 2)
-      (pick (scheme w .restricted a) (addTimes s (privatesOf w) 3 3) (addTimes (addTimes s (publics w) 2 3) (privatesOf w) 3 3)) (grows-times s 1 1 2)
-      (grows-pick (scheme w .restricted a) s (addTimes s (privatesOf w) 3 3) (addTimes (addTimes s (publics w) 2 3) (privatesOf w) 3 3)
-      (grows-times s (privatesOf w) 3 3) (grows-twice s (publics w) 2 3 (privatesOf w) 3 3))
+      grows-twice s (publicCount w (values w a)) (boundBit w a + 1) (boundBit w a + 2) (privateCount w (values w a)) (boundBit w a + 2) (boundBit w a + 2)
 
   pub silent-grows : (s : Sums) (b : ℕ) → Grows s (silentSums w s b)
   unfolding silentSums
@@ -161,7 +149,7 @@ module _ (w : List ℕ) where
   node-grows s n =
       grows-pick (isStop w n) s _ _ (over-grows (releaseSums w) release-grows s (held w n))
       (grows-pick (isChoice w n) s _ _ (over-grows (silentSums w) silent-grows s (from (nodeFirst w n) (nodeSecond w n)))
-      (grows-pick (isNew w n) s _ _ (grows-times s (privatesOf w) (freeNames w + 2) (freeNames w + 2))
+      (grows-pick (isNew w n) s _ _ (grows-times s (privatesOf w) (readNames w + 2) (readNames w + 2))
       (grows-on s called _
       (grows-on s (addTimes s 1 1 1) called (grows-times s 1 1 1) (over-grows (copySums w) copy-grows (addTimes s 1 1 1) (argumentsOf w n)))
       (over-grows (releaseSums w) release-grows called (held w n)))))

@@ -1,6 +1,6 @@
--- How many arcs each kind of transition has, for today's values: what a first pass over the descriptions adds up.
+-- How many arcs each kind of transition has, for the values in force: what a first pass over the descriptions adds up.
 use mathlib.Core.Path.{_≡_, refl, sym, ap, _∙_}
-use mathlib.Core.Bool.{Bool, true, false, not}
+use mathlib.Core.Bool.{Bool, true, false, not, _&&_, true≢false}
 use mathlib.Core.List.{List, [], _∷_, _++_, List·Memᴰ, List·Memᴰ·head}
 use Prim.Native.Nat.{ℕ, suc, _+_, _-_, _≤_, _<_}
 use native.Mathlib.Decide.{decLt, decLe}
@@ -16,13 +16,14 @@ use Rattle.lists.proofs.Standing.{keep-in, number-in}
 use Rattle.scheme.specs.Scheme.{Scheme}
 use Rattle.table.specs.Accepted.{Accepted}
 use Rattle.places.specs.Values.{Values, valuesOf}
-use Rattle.places.specs.Held.{valuesFor}
+use Rattle.places.specs.Reach.{valuesFor, hasPrivates}
 use Rattle.places.specs.Places.{Place, equals, differs, free, control, controls, places}
 use Rattle.places.specs.Rows.{numberOf, IsBound, Exists, has-equals, has-differs, has-free, has-control}
 use Rattle.places.specs.Transitions.{Description, isInput, isOutput, on, releasing, copying, making}
 use Rattle.places.specs.Inner.Arcs.{reachedPlaces, exists, numbersOf}
 use Rattle.places.proofs.Rows.{number-unique}
-use Rattle.places.proofs.Today.{private-reached, otherNames}
+use Rattle.places.proofs.Arriving.{makes}
+use Rattle.places.proofs.ReachRows.{private-reach}
 use Rattle.places.proofs.Sorted.{insert-new}
 use Rattle.places.proofs.Numbers.{exists-has, has-exists}
 use Rattle.places.proofs.Initial.{some-control}
@@ -75,7 +76,7 @@ module _ (S : Scheme) (U : Values) where
             (omega (arith, some-control S U m));
       }
 
--- ---- today's values
+-- ---- the values in force
 
 module _ (S : Scheme) (ok : Accepted S) where
   abbrev U : Values
@@ -96,8 +97,11 @@ module _ (S : Scheme) (ok : Accepted S) where
   free-has : (v : ℕ) → S .publics ≤ v → v < S .publics + U .privates → Exists S U (free v)
   free-has v l u = has-free (l, omega arith)
 
-  differs-has : (x v : ℕ) → IsBound S U x → S .restricted x ≡ false → S .publics ≤ v → v < S .publics + U .privates → Exists S U (differs x v)
-  differs-has x v b r l u = has-differs b r (l, omega arith) (private-reached S x v l)
+  differs-has : (x v : ℕ) → IsBound S U x → S .restricted x ≡ false → S .publics ≤ v → member v (valuesOf S U x) ≡ true → Exists S U (differs x v)
+  differs-has x v b r l m = go (value-exists S U x v b m)
+    where
+      go : Exists S U (equals x v) → Exists S U (differs x v)
+      go (has-equals c u q) = has-differs b r (l, u) q
 
   -- [x=v] is there where x is bound, [x≠v] where v is private
   pub equals-bit : (x v : ℕ) → x < S .publics + S .bounds → member v (valuesOf S U x) ≡ true → exists S U (equals x v) ≡ leb (S .publics) x
@@ -107,11 +111,11 @@ module _ (S : Scheme) (ok : Accepted S) where
       go (yes l) = has-exists S U (equals x v) (value-exists S U x v (l, u) m) ∙ sym (le-leb (S .publics) x l)
       go (no l) = let h : x < S .publics = omega arith in equals-public S U x v h ∙ sym (lt-leb (S .publics) x h)
 
-  pub differs-bit : (x v : ℕ) → IsBound S U x → S .restricted x ≡ false → v < S .publics + U .privates → exists S U (differs x v) ≡ leb (S .publics) v
-  differs-bit x v b r u = go (decLe (S .publics) v)
+  pub differs-bit : (x v : ℕ) → IsBound S U x → S .restricted x ≡ false → member v (valuesOf S U x) ≡ true → exists S U (differs x v) ≡ leb (S .publics) v
+  differs-bit x v b r m = go (decLe (S .publics) v)
     where
       go : Dec (S .publics ≤ v) → exists S U (differs x v) ≡ leb (S .publics) v
-      go (yes l) = has-exists S U (differs x v) (differs-has x v b r l u) ∙ sym (le-leb (S .publics) v l)
+      go (yes l) = has-exists S U (differs x v) (differs-has x v b r l m) ∙ sym (le-leb (S .publics) v l)
       go (no l) = let h : v < S .publics = omega arith in differs-public S U x v h ∙ sym (lt-leb (S .publics) v h)
 
   -- ---- releases
@@ -128,7 +132,7 @@ module _ (S : Scheme) (ok : Accepted S) where
 
         there : S .publics ≤ v → (c : Bool) → S .restricted z ≡ c → Exists S U (pick c (free v) (differs z v))
         there p true r = free-has v p (value-below z v b i)
-        there p false r = differs-has z v b r p (value-below z v b i)
+        there p false r = differs-has z v b r p i
 
         go : Dec (S .publics ≤ v) → length (outputs (releasing S U n m k z v)) ≡ 1 + bit (leb (S .publics) v)
         go (yes p) =
@@ -141,7 +145,7 @@ module _ (S : Scheme) (ok : Accepted S) where
   -- ---- copies: f from a
 
   module _ (n m k f a v : ℕ) (l : n < S .nodes) (u : m < S .nodes) (h : k < controls S n) (b : IsBound S U f) (r : S .restricted f ≡ false)
-      (c : a < S .publics + S .bounds) (d : a ≡ f → ⊥) (i : member v (valuesOf S U a) ≡ true) (w : v < S .publics + U .privates) where
+      (c : a < S .publics + S .bounds) (d : a ≡ f → ⊥) (i : member v (valuesOf S U a) ≡ true) (w : member v (valuesOf S U f) ≡ true) where
     pub copy-inputs : length (inputs (copying S U n m k f a v)) ≡ 1 + (bit (leb (S .publics) a) + bit (leb (S .publics) v))
     copy-inputs =
         ap (λ (xs : List ℕ). length xs) (copying-inputs S U n m k f a v r (has-control l h))
@@ -157,14 +161,10 @@ module _ (S : Scheme) (ok : Accepted S) where
         apart : exists S U (equals a v) ≡ true → List·Memᴰ (equals a v) (differs f v ∷ []) → ⊥
         apart e (List·Memᴰ·head q) = let z : _≡_ {A = ℕ} 0 1 = cc in omega arith
 
-    reached-value : U .reach f v ≡ true
-    unfolding valuesFor
-    reached-value = rw r
-
     pub copy-outputs : length (outputs (copying S U n m k f a v)) ≡ 2 + bit (leb (S .publics) a)
     copy-outputs =
         let next = next-place S U n k m l u in
-        let e : exists S U (equals f v) ≡ true = has-exists S U (equals f v) (has-equals b (omega arith) reached-value) in
+        let e : exists S U (equals f v) ≡ true = has-exists S U (equals f v) (value-exists S U f v b w) in
         ap (λ (xs : List ℕ). length xs) (copying-outputs S U n k m (next .place) (next .goes) (next .has) f a v r)
         ∙ length-append (numbersOf S U (equals a v ∷ equals f v ∷ [])) (numberOf S U (next .place) ∷ [])
         ∙ rw (
@@ -180,25 +180,42 @@ module _ (S : Scheme) (ok : Accepted S) where
 
   -- ---- New
 
-  differ-count : (v : ℕ) → S .publics ≤ v → v < S .publics + U .privates → length (differNumbers S U v (S .publics) (S .bounds)) ≡ otherNames S
+  -- the names whose rows it reads: those that may hold private values
+  abbrev pub isRead : ℕ → Bool
+  isRead x = not (S .restricted x) && hasPrivates S x
+
+  abbrev pub readRows : ℕ
+  readRows = length (keep isRead (from (S .publics) (S .bounds)))
+
+  differ-count : (v : ℕ) → S .publics ≤ v → v < S .publics + U .privates → length (differNumbers S U v (S .publics) (S .bounds)) ≡ readRows
   unfolding differNumbers
   differ-count v l u =
       length-map (keep (λ x. exists S U (differs x v)) (from (S .publics) (S .bounds))) (λ x. numberOf S U (differs x v))
-      ∙ ap (λ (xs : List ℕ). length xs) (keep-same (λ x. exists S U (differs x v)) (λ x. not (S .restricted x)) (from (S .publics) (S .bounds)) each)
+      ∙ ap (λ (xs : List ℕ). length xs) (keep-same (λ x. exists S U (differs x v)) isRead (from (S .publics) (S .bounds)) each)
     where
-      each : (x : ℕ) → member x (from (S .publics) (S .bounds)) ≡ true → exists S U (differs x v) ≡ not (S .restricted x)
-      each x m = go (S .restricted x) refl
+      each : (x : ℕ) → member x (from (S .publics) (S .bounds)) ≡ true → exists S U (differs x v) ≡ isRead x
+      each x m = go (S .restricted x) refl (hasPrivates S x) refl
         where
-          go : (b : Bool) → S .restricted x ≡ b → exists S U (differs x v) ≡ not b
-          go true r = differs-restricted S U x v r
-          go false r = has-exists S U (differs x v) (differs-has x v (from-member x (S .publics) (S .bounds) m) r l u)
+          yes : S .restricted x ≡ false → U .reach x v ≡ true → exists S U (differs x v) ≡ true
+          yes r q = has-exists S U (differs x v) (has-differs (from-member x (S .publics) (S .bounds) m) r (l, u) q)
+
+          no : U .reach x v ≡ false → exists S U (differs x v) ≡ true → ⊥
+          no q e = gone (exists-has S U (differs x v) e)
+            where
+              gone : Exists S U (differs x v) → ⊥
+              gone (has-differs b r p e) = true≢false (sym e ∙ q)
+
+          go : (b : Bool) → S .restricted x ≡ b → (c : Bool) → hasPrivates S x ≡ c → exists S U (differs x v) ≡ (not b && c)
+          go true r c e = differs-restricted S U x v r
+          go false r true e = yes r (private-reach S x v l ∙ e)
+          go false r false e = not-true-false (exists S U (differs x v)) (no (private-reach S x v l ∙ e))
 
   module _ (n r k v : ℕ) (l : n < S .nodes) (u : k < S .nodes) (h : S .restricted r ≡ true) (b : IsBound S U r) (p : S .publics ≤ v)
       (q : v < S .publics + U .privates) where
     first-has : (n : ℕ) → n < S .nodes → Exists S U (control n 0)
     first-has n l = has-control {n = n} {k = 0} l (omega (arith, some-control S U n))
 
-    pub new-inputs : length (inputs (making S U n r k v)) ≡ otherNames S + 2
+    pub new-inputs : length (inputs (making S U n r k v)) ≡ readRows + 2
     new-inputs =
         let D = differNumbers S U v (S .publics) (S .bounds) in
         ap (λ (xs : List ℕ). length xs) (making-inputs S U n r k v h (p, omega arith) (first-has n l))
@@ -209,12 +226,12 @@ module _ (S : Scheme) (ok : Accepted S) where
           differ-count v p q,
         )
 
-    pub new-outputs : length (outputs (making S U n r k v)) ≡ otherNames S + 2
+    pub new-outputs : length (outputs (making S U n r k v)) ≡ readRows + 2
     new-outputs =
         let low = differNumbers S U v (S .publics) (r - S .publics) in
         let high = differNumbers S U v (r + 1) (S .publics + S .bounds - (r + 1)) in
         ap (λ (xs : List ℕ). length xs)
-        (making-outputs S U n r k v h b (has-equals b (omega arith) (private-reached S r v p)) (first-has k u))
+        (making-outputs S U n r k v h b (has-equals b (omega arith) (makes S ok r v h p)) (first-has k u))
         ∙ omega (
           arith,
           length-append (low ++ (numberOf S U (equals r v) ∷ high)) (numberOf S U (control k 0) ∷ []),

@@ -13,7 +13,7 @@ use Rattle.net.specs.Firing.{put, initialMarking, step, stepOf}
 use Rattle.net.specs.Net.{Transition, blank, transitionAt, ascending, isAscending, encode}
 use Rattle.net.proofs.Encode
 use Rattle.places.specs.Values.{Values}
-use Rattle.places.specs.Held.{valuesFor}
+use Rattle.places.specs.Reach.{valuesFor}
 use Rattle.places.specs.Places.{places, isInitial}
 use Rattle.places.specs.Transitions.{Description, isInput, isOutput, descriptions}
 use Rattle.places.specs.Image.{transitionOf, netWith, netOf, imageOf}

@@ -135,40 +135,46 @@ held-known w x k n l = held-right w (k .accepted) x (k .right) n l
 
 -- ---- control places of a node
 
-module _ (w x : List ℕ) (k : Known w x) (n : ℕ) (l : n < nodes w) where
+module _ (w : List ℕ) (h : cause w ≡ 0) (n : ℕ) (l : n < nodes w) where
   abbrev Counts : ℕ → Type 0
   Counts r = (r ≡ controls (scheme w) n) × (r ≤ 65)
 
   counts : (r : ℕ) → r ≡ controls (scheme w) n → Counts r
-  counts r e = (e, omega (arith, e, controls-few w (k .accepted) n))
+  counts r e = (e, omega (arith, e, controls-few w h n))
 
-  held-length : (before after : List ℕ) (r : ℕ) → HeldNames (heldAt w x n) before r after → r ≡ length (scheme w .held n)
-  held-length before after r q = q .count ∙ ap (λ (xs : List ℕ). length xs) (held-known w x k n l ∙ sym (held-of w (k .accepted) n))
-
-  pub count-stop : (before after : List ℕ) (r : ℕ) → nodeKind w n ≡ 0 → HeldNames (heldAt w x n) before r after → Counts (1 + r)
+  pub stop-counts : (r : ℕ) → nodeKind w n ≡ 0 → r ≡ length (scheme w .held n) → Counts (1 + r)
   unfolding controls
-  count-stop before after r e q =
-      counts (1 + r) (rw (stop-node w (k .accepted) n l e) (omega (arith, held-length before after r q)))
+  stop-counts r e q = counts (1 + r) (rw (stop-node w h n l e) (omega (arith, q)))
 
-  pub count-call : (before after : List ℕ) (f r : ℕ) → nodeKind w n ≡ 3 → f ≡ formalCount w (nodeFirst w n)
-      → HeldNames (heldAt w x n) before r after → Counts (1 + f + r)
+  pub call-counts : (f r : ℕ) → nodeKind w n ≡ 3 → f ≡ formalCount w (nodeFirst w n) → r ≡ length (scheme w .held n) → Counts (1 + f + r)
   unfolding controls formals
-  count-call before after f r e g q =
+  call-counts f r e g q =
       let d = nodeFirst w n in
       let z : length (scheme w .formals d) ≡ f =
-      ap (λ (xs : List ℕ). length xs) (formals-of w (k .accepted) d (called-inside w (k .accepted) n l e))
-      ∙ from-length _ (formalCount w d) ∙ sym g in
-      counts (1 + f + r) (rw (call-node w (k .accepted) n l e) (omega (arith, held-length before after r q, z)))
+      ap (λ (xs : List ℕ). length xs) (formals-of w h d (called-inside w h n l e)) ∙ from-length _ (formalCount w d) ∙ sym g in
+      counts (1 + f + r) (rw (call-node w h n l e) (omega (arith, q, z)))
 
   pub count-one : (nodeKind w n ≡ 0 → ⊥) → (nodeKind w n ≡ 3 → ⊥) → Counts 1
   unfolding controls
   count-one a b = go (true-or-false (isChoice w n)) (true-or-false (isNew w n))
     where
       go : (isChoice w n ≡ true) ⊎ (isChoice w n ≡ false) → (isNew w n ≡ true) ⊎ (isNew w n ≡ false) → Counts 1
-      go (inl e) f = counts 1 (rw (choice-node w (k .accepted) n l (same-true (nodeKind w n) 1 e)))
-      go (inr e) (inl f) = counts 1 (rw (new-node w (k .accepted) n l (same-true (nodeKind w n) 2 f)))
+      go (inl e) f = counts 1 (rw (choice-node w h n l (same-true (nodeKind w n) 1 e)))
+      go (inr e) (inl f) = counts 1 (rw (new-node w h n l (same-true (nodeKind w n) 2 f)))
       go (inr e) (inr f) =
-          absurd (b (other-call w (k .accepted) n l a (no 1 e) (no 2 f)))
+          absurd (b (other-call w h n l a (no 1 e) (no 2 f)))
         where
           no : (j : ℕ) → same (nodeKind w n) j ≡ false → nodeKind w n ≡ j → ⊥
           no j e q = false-true e (same-yes (nodeKind w n) j q)
+
+-- the same by the names as they are listed
+module _ (w x : List ℕ) (k : Known w x) (n : ℕ) (l : n < nodes w) where
+  held-length : (before after : List ℕ) (r : ℕ) → HeldNames (heldAt w x n) before r after → r ≡ length (scheme w .held n)
+  held-length before after r q = q .count ∙ ap (λ (xs : List ℕ). length xs) (held-known w x k n l ∙ sym (held-of w (k .accepted) n))
+
+  pub count-stop : (before after : List ℕ) (r : ℕ) → nodeKind w n ≡ 0 → HeldNames (heldAt w x n) before r after → Counts w (k .accepted) n l (1 + r)
+  count-stop before after r e q = stop-counts w (k .accepted) n l r e (held-length before after r q)
+
+  pub count-call : (before after : List ℕ) (f r : ℕ) → nodeKind w n ≡ 3 → f ≡ formalCount w (nodeFirst w n)
+      → HeldNames (heldAt w x n) before r after → Counts w (k .accepted) n l (1 + f + r)
+  count-call before after f r e g q = call-counts w (k .accepted) n l f r e g (held-length before after r q)

@@ -1,4 +1,4 @@
--- How many arcs a communication has, for today's values.
+-- How many arcs a communication has, for the values in force.
 use mathlib.Core.Path.{_≡_, sym, ap, _∙_}
 use mathlib.Core.Bool.{true, false}
 use mathlib.Core.List.{List, [], _∷_, List·Memᴰ, List·Memᴰ·head, List·Memᴰ·tail}
@@ -13,15 +13,17 @@ use Rattle.lists.proofs.Tests.{false-true}
 use Rattle.scheme.specs.Scheme.{Scheme, send, receive, present}
 use Rattle.table.specs.Accepted.{Accepted, NameOf, Usable}
 use Rattle.places.specs.Values.{Values, valuesOf}
-use Rattle.places.specs.Held.{valuesFor}
-use Rattle.places.specs.Places.{Place, equals, differs, control, places}
-use Rattle.places.specs.Rows.{has-equals, has-control}
+use Rattle.places.specs.Reach.{valuesFor}
+use Rattle.places.specs.Places.{Place, equals, differs, control, places, common}
+use Rattle.places.specs.Rows.{has-control}
 use Rattle.places.specs.Transitions.{Description, isInput, isOutput, communicating}
 use Rattle.places.specs.Inner.Arcs.{exists, numbersOf}
 use Rattle.places.proofs.Numbers.{has-exists}
 use Rattle.places.proofs.Initial.{some-control}
 use Rattle.places.proofs.Split.{numbers-none, numbers-tail, numbers-swap, numbers-twice}
 use Rattle.places.proofs.Explicit.{communicating-inputs, communicating-outputs}
+use Rattle.places.proofs.Arriving.{carried, met}
+use Rattle.places.proofs.ByKind.{value-exists}
 use Rattle.places.proofs.ArcCounts.{numbers-step, equals-bit, differs-bit}
 
 module _ (S : Scheme) (ok : Accepted S) where
@@ -108,8 +110,14 @@ module _ (S : Scheme) (ok : Accepted S) where
         let tr : S .thread m ≡ S .thread (S .home r) = rw receives at (ok .next-thread r pr) in
         two-controls l m ls lr (λ q. differ (sym ts ∙ q ∙ tr))
 
+    -- a sent value may be held by the receive's name
+    pub sent-held : (i j : ℕ) → member i (common S U a e) ≡ true → member j (valuesOf S U z) ≡ true → member j (valuesOf S U y) ≡ true
+    sent-held i j ic jz =
+        carried S z y j (ny .low)
+        (λ o. met S ok s a z l r e y m i o sends receives differ (ok .branch-inside s (rw sends)) (ok .branch-inside r (rw receives)) ic) jz
+
     module _ (i j : ℕ) (ia : member i (valuesOf S U a) ≡ true) (ie : member i (valuesOf S U e) ≡ true) (jz : member j (valuesOf S U z) ≡ true)
-        (low : j < S .publics + U .privates) where
+        (jy : member j (valuesOf S U y) ≡ true) where
       abbrev bound : ℕ → ℕ
       bound x = bit (leb (S .publics) x)
 
@@ -123,11 +131,10 @@ module _ (S : Scheme) (ok : Accepted S) where
       bit-z = equals-bit S ok z j (usable-below (S .home s) z uz) jz
 
       bit-y : exists S U (differs y j) ≡ leb (S .publics) j
-      bit-y = differs-bit S ok y j (ny .low, ny .high) free-y low
+      bit-y = differs-bit S ok y j (ny .low, ny .high) free-y jy
 
       given-y : exists S U (equals y j) ≡ true
-      unfolding valuesFor
-      given-y = has-exists S U (equals y j) (has-equals (ny .low, ny .high) low (rw free-y))
+      given-y = has-exists S U (equals y j) (value-exists S U y j (ny .low, ny .high) jy)
 
       pub communication-inputs : (z ≡ a → ⊥)
           → length (inputs (communicating S U s a z l r e y m i j)) ≡ 2 + (bound a + (bound e + (bound z + bound j)))
@@ -196,7 +203,7 @@ module _ (S : Scheme) (ok : Accepted S) where
           three h (List·Memᴰ·head q) = not-y z uz (cc)
 
     -- "A name sent on itself has only j=i."
-    module _ (i : ℕ) (is : z ≡ a) (ia : member i (valuesOf S U a) ≡ true) (ie : member i (valuesOf S U e) ≡ true) (low : i < S .publics + U .privates) where
+    module _ (i : ℕ) (is : z ≡ a) (ia : member i (valuesOf S U a) ≡ true) (ie : member i (valuesOf S U e) ≡ true) (iy : member i (valuesOf S U y) ≡ true) where
       abbrev bound′ : ℕ → ℕ
       bound′ x = bit (leb (S .publics) x)
 
@@ -229,7 +236,7 @@ module _ (S : Scheme) (ok : Accepted S) where
             numbers-none S U,
             bit-a′,
             bit-e′,
-            differs-bit S ok y i (ny .low, ny .high) free-y low,
+            differs-bit S ok y i (ny .low, ny .high) free-y iy,
           ) (omega arith)
         where
           one : exists S U (equals e i) ≡ true → List·Memᴰ (equals e i) (equals a i ∷ differs y i ∷ []) → ⊥
@@ -240,8 +247,7 @@ module _ (S : Scheme) (ok : Accepted S) where
           two h (List·Memᴰ·head q) = let w : _≡_ {A = ℕ} 0 1 = cc in omega arith
 
       given-y′ : exists S U (equals y i) ≡ true
-      unfolding valuesFor
-      given-y′ = has-exists S U (equals y i) (has-equals (ny .low, ny .high) low (rw free-y))
+      given-y′ = has-exists S U (equals y i) (value-exists S U y i (ny .low, ny .high) iy)
 
       pub self-outputs : length (outputs (communicating S U s a z l r e y m i i)) ≡ 3 + (bound′ e + bound′ a)
       self-outputs =

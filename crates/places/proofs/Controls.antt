@@ -13,12 +13,12 @@ use Rattle.scheme.specs.Scheme.{Scheme, Node, stop, choice, new, call, scheme}
 use Rattle.table.specs.Causes.{cause}
 use Rattle.table.specs.Accepted.{Accepted}
 use Rattle.table.proofs.Accepted.{accepted}
-use Rattle.places.specs.Held.{valuesFor}
+use Rattle.places.specs.Reach.{valuesFor, hasPrivates}
 use Rattle.places.specs.Places.{controlsAt, controls}
 use Rattle.places.specs.Rows.{rowLength, freeStart, controlStart}
 use Rattle.places.specs.Inner.Plan.{today, privatesOf, controlOf}
 use Rattle.places.proofs.Rows.{free-start, control-first, control-next}
-use Rattle.places.proofs.Today.{row-length-today}
+use Rattle.places.proofs.ReachRows.{publics-few, row-size}
 use Rattle.places.proofs.Weights.{held-few}
 use Rattle.places.proofs.Few.{private-few}
 
@@ -41,11 +41,22 @@ module _ (S : Scheme) (ok : Accepted S) where
       go (call d) = omega (arith, held, ok .few-formals d, ok .few-bounds)
 
   row-few : (x : ℕ) → S .publics ≤ x → rowLength S (valuesFor S) x ≤ 96
-  row-few x h = rw (row-length-today S x h) (go (S .restricted x))
+  row-few x h =
+      omega (
+        arith,
+        row-size S x h,
+        publics-few S x,
+        picked (hasPrivates S x) (S .restricted x),
+        as-many,
+        ok .few-bounds,
+        ok .few-publics,
+      )
     where
-      go : (b : Bool) → pick b (valuesFor S .privates) (S .publics + 2 * valuesFor S .privates) ≤ 96
-      go true = omega (arith, as-many, ok .few-bounds)
-      go false = omega (arith, as-many, ok .few-bounds, ok .few-publics)
+      picked : (a b : Bool) → pick a (valuesFor S .privates) 0 + pick b 0 (pick a (valuesFor S .privates) 0) ≤ 2 * valuesFor S .privates
+      picked true true = omega arith
+      picked true false = omega arith
+      picked false true = omega arith
+      picked false false = omega arith
 
   rows-few : freeStart S (valuesFor S) ≤ 3072
   rows-few =

@@ -25,7 +25,8 @@ use Rattle.table.specs.Known.{Known}
 use Rattle.table.specs.Accepted.{Accepted}
 use Rattle.table.proofs.Accepted.{accepted}
 use Rattle.places.specs.Places.{controlsAt, controls}
-use Rattle.places.specs.Held.{namesAt, heldCounts, mostHeld, privateCount, valuesFor}
+use Rattle.places.specs.Held.{namesAt, heldCounts, mostHeld, privateCount}
+use Rattle.places.specs.Reach.{valuesFor}
 use Rattle.places.specs.Inner.Plan.{privatesOf, freeNames}
 use Rattle.places.specs.Inner.Holding.{heldMostAt, heldMost, HeldBelow, NoneHeld, MostsHeld}
 use Rattle.places.proofs.Tallies.{largest-least}
@@ -119,7 +120,7 @@ module _ (S : Scheme) (ok : Accepted S) where
   most-small n = go (S .node n)
     where
       h : length (S .held n) ≤ 32
-      h = omega (arith, held-few S (record { privates = 0; reach = λ x v. true }) ok (omega arith) n, ok .few-bounds)
+      h = omega (arith, held-few S (record { privates = 0; origins = λ x o. true; reach = λ x v. true }) ok (omega arith) n, ok .few-bounds)
 
       go : (ν : Node) → heldMostAt S n ν ≤ 64
       go stop = omega (arith, h)
@@ -209,7 +210,7 @@ module _ (w : List ℕ) (h : cause w ≡ 0) where
   pub held-small : (n : ℕ) → length (scheme w .held n) ≤ 32
   held-small n =
       let ok = accepted w h in
-      omega (arith, held-few (scheme w) (record { privates = 0; reach = λ x v. true }) ok (omega arith) n, ok .few-bounds)
+      omega (arith, held-few (scheme w) (record { privates = 0; origins = λ x o. true; reach = λ x v. true }) ok (omega arith) n, ok .few-bounds)
 
 module _ (w x : List ℕ) (k : Known w x) where
   abbrev owners : List ℕ
@@ -280,33 +281,21 @@ module _ (w : List ℕ) (h : cause w ≡ 0) (n : ℕ) (l : n < nodes w) (r : ℕ
       go (no a) (no b) (yes c) = rw (new-node w h n l c) q
       go (no a) (no b) (no c) = absurd (d (other-call w h n l a b c))
 
--- ---- one pass over the nodes
-
--- the nodes below n: how many names each holds, and the most of each thread
-pub record Passed (S : Scheme) (n : ℕ) (lent held most : List ℕ) : Type 0 where
-  pub as-long : length held ≡ length lent
-  pub below : HeldBelow S n held
-  pub raised : Raised S n most
+-- ---- how many names each node holds
 
 module _ (S : Scheme) (ok : Accepted S) where
-  pub passed-none : (lent most : List ℕ) → 256 ≤ length lent → NoneHeld most → Passed S 0 lent lent most
-  passed-none lent most l e =
-      record { as-long = refl; below = record { room = l; told = λ m u. absurd (omega arith) }; raised = raised-none S ok most e }
+  pub below-none : (held : List ℕ) → 256 ≤ length held → HeldBelow S 0 held
+  below-none held l = record { room = l; told = λ m u. absurd (omega arith) }
 
-  pub passed-more : (n t r m : ℕ) (lent held most : List ℕ) → n < S .nodes → Passed S n lent held most → r ≡ length (S .held n) → t ≡ S .thread n
-      → m ≡ heldMost S n → Passed S (n + 1) lent (set held n r) (set most t (pick (ltb (word most t) m) m (word most t)))
-  passed-more n t r m lent held most l p q e g = record {
-    as-long = length-set held n r ∙ p .as-long;
-    below = record { room = omega (arith, length-set held n r, p .below .room); told = told };
-    raised = raised-more S ok n t m most l (p .raised) e g;
-  }
+  pub below-next : (n r : ℕ) (held : List ℕ) → n < S .nodes → HeldBelow S n held → r ≡ length (S .held n) → HeldBelow S (n + 1) (set held n r)
+  below-next n r held l p q = record { room = omega (arith, length-set held n r, p .room); told = told }
     where
       told : (k : ℕ) → k < n + 1 → word (set held n r) k ≡ length (S .held k)
       told k u = go (ℕ-discrete k n)
         where
           go : Dec (k ≡ n) → word (set held n r) k ≡ length (S .held k)
-          go (yes d) = rw (d, getD-set-same held n r 0 (omega (arith, p .below .room, ok .few-nodes))) q
-          go (no d) = getD-set-other held n k r 0 d ∙ p .below .told k (omega arith)
+          go (yes d) = rw (d, getD-set-same held n r 0 (omega (arith, p .room, ok .few-nodes))) q
+          go (no d) = getD-set-other held n k r 0 d ∙ p .told k (omega arith)
 
 -- ---- restricted names, and the sum
 

@@ -1,85 +1,78 @@
 -- Names of a table as the code reads them: whether one is restricted, the values that one may hold, where its row starts.
 use mathlib.Core.Path.{_≡_, refl, sym, ap, _∙_}
-use mathlib.Core.Bool.{Bool, true, false, not}
-use mathlib.Core.List.{List, [], _∷_, _++_, append-nil}
+use mathlib.Core.Bool.{Bool, true, false, not, _&&_}
+use mathlib.Core.List.{List, []}
 use Prim.Native.Nat.{ℕ, suc, _+_, _-_, _*_, _≤_, _<_}
 use native.Mathlib.Omega.{arith}
 use lib.Dec.{eqb}
 use lib.ListN.{length, getD, length-append, List·getD-append}
 use lib.Seq.{getD-append-add}
-use native.Mathlib.Decide.{decLt}
 use borrow.Author.Tests.{le-leb, lt-leb, lt-ltb, le-ltb, eq-eqb, ne-eqb}
 use Rattle.lists.specs.Lists.{pick, same, word, from, range, keep, member}
 use Rattle.lists.proofs.Ranges.{from-append, from-member, from-more, from-done, from-length, from-getD}
-use Rattle.lists.proofs.Members.{keep-append, keep-all, keep-none, keep-yes, keep-no}
+use Rattle.lists.proofs.Members.{keep-append, keep-yes, keep-no}
 use Rattle.scheme.specs.Words.{publics, bounds, names, nameKind}
 use Rattle.scheme.specs.Scheme.{Scheme, scheme}
-use Rattle.places.specs.Values.{valuesOf}
-use Rattle.places.specs.Held.{valuesFor}
+use Rattle.table.specs.Causes.{cause}
+use Rattle.table.specs.Accepted.{Accepted}
+use Rattle.table.proofs.Accepted.{accepted}
+use Rattle.places.specs.Reach.{hasPrivates}
+use Rattle.places.specs.Sets.{bitAt}
 use Rattle.places.specs.Places.{equals, differs, free}
 use Rattle.places.specs.Rows.{rowLength, numberOf}
-use Rattle.places.specs.Plan.{privatesAt, freeAt, rowsIn, Laid}
-use Rattle.places.specs.Reaches.{reach, reachOf}
-use Rattle.places.specs.Inner.Plan.{today, privatesOf, values, freeNames, Holds, Differs, reached, Lists}
-use Rattle.places.specs.declared.layout.Reach.{Reach}
-use Rattle.places.proofs.Rows.{values-bound}
-use Rattle.places.proofs.Plans.{row-is, privates-are, free-is}
-use Rattle.places.proofs.Today.{equals-number, equals-restricted, differs-number, row-length-today}
+use Rattle.places.specs.Plan.{restrictedIn, freeAt, Reached, Laid}
+use Rattle.places.specs.Reaches.{publicWord, restrictedWord}
+use Rattle.places.specs.Inner.Plan.{today, privatesOf, values, rowOf, freeNames, readNames, Holds, Differs, reached}
+use Rattle.places.specs.declared.reach.Reach.{Reach}
+use Rattle.places.proofs.Plans.{reach-told, free-is}
+use Rattle.places.proofs.ReachRows.{publicsOf, values-are, restricted-alone, restricted-yes, private-member, value-small, row-size}
+use Rattle.places.proofs.ReachRows.{equals-public, equals-private, differs-private}
+use Rattle.places.proofs.Reaches.{publics-kept, privates-told}
 
 -- ---- a reach as a list
 
 module _ (p n : ℕ) (r : Reach) where
-  pub reached-all : r .privates ≡ true → (r .high - r .low) + n ≡ length (reached p n r)
-  unfolding reached
-  reached-all e =
-      rw e (sym (length-append (from (r .low) (r .high - r .low)) (from p n) ∙ rw (from-length (r .low) (r .high - r .low), from-length p n)))
+  abbrev pub publicPart : List ℕ
+  publicPart = keep (bitAt (r .publics)) (range p)
 
-  pub reached-publics : r .privates ≡ false → (r .high - r .low) ≡ length (reached p n r)
+  pub reached-count : length (reached p n r) ≡ length publicPart + pick (not (same (r .restricted) 0)) n 0
   unfolding reached
-  reached-publics e = rw e (sym (simp append-nil (from-length (r .low) (r .high - r .low))))
-
-  pub reached-few : length (reached p n r) ≤ (r .high - r .low) + n
-  reached-few = go (r .privates) refl
+  reached-count = length-append publicPart (pick (not (same (r .restricted) 0)) (from p n) []) ∙ rw (go (not (same (r .restricted) 0)))
     where
-      go : (b : Bool) → r .privates ≡ b → length (reached p n r) ≤ (r .high - r .low) + n
-      go true e = omega (arith, reached-all e)
-      go false e = omega (arith, reached-publics e)
+      go : (b : Bool) → length (pick b (from p n) []) ≡ pick b n 0
+      go true = from-length p n
+      go false = refl
 
-  pub reached-low : (k : ℕ) → k < r .high - r .low → r .low + k ≡ getD (reached p n r) k 0
+  pub reached-low : (k : ℕ) → k < length publicPart → getD publicPart k 0 ≡ getD (reached p n r) k 0
   unfolding reached
-  reached-low k h =
-      sym (List·getD-append (from (r .low) (r .high - r .low)) (pick (r .privates) (from p n) []) 0 k (omega (arith, from-length (r .low) (r .high - r .low)))
-      ∙ from-getD (r .low) (r .high - r .low) k h)
+  reached-low k h = sym (List·getD-append publicPart (pick (not (same (r .restricted) 0)) (from p n) []) 0 k h)
 
-  reached-behind : (k : ℕ) → r .high - r .low ≤ k → r .privates ≡ true → k - (r .high - r .low) < n → p + (k - (r .high - r .low)) ≡ getD (reached p n r) k 0
+  reached-at : (k : ℕ) → getD (reached p n r) (length publicPart + k) 0 ≡ getD (pick (not (same (r .restricted) 0)) (from p n) []) k 0
   unfolding reached
-  reached-behind k h e l =
-      let f = from (r .low) (r .high - r .low) in
-      let s : length f ≡ r .high - r .low = from-length (r .low) (r .high - r .low) in
-      let q : length f + (k - (r .high - r .low)) ≡ k = omega arith in
-      sym (ap (λ (i : ℕ). getD (f ++ pick (r .privates) (from p n) []) i 0) (sym q)
-      ∙ getD-append-add f (pick (r .privates) (from p n) []) (k - (r .high - r .low)) 0
-      ∙ rw e (from-getD p n (k - (r .high - r .low)) l))
+  reached-at k = getD-append-add publicPart (pick (not (same (r .restricted) 0)) (from p n) []) k 0
 
-  pub reached-high : (k : ℕ) → r .high - r .low ≤ k → k < length (reached p n r) → p + (k - (r .high - r .low)) ≡ getD (reached p n r) k 0
-  reached-high k h l = go (r .privates) refl
+  pub reached-high : (k : ℕ) → length publicPart ≤ k → k < length (reached p n r) → p + (k - length publicPart) ≡ getD (reached p n r) k 0
+  reached-high k h l = go (not (same (r .restricted) 0)) refl
     where
-      go : (b : Bool) → r .privates ≡ b → p + (k - (r .high - r .low)) ≡ getD (reached p n r) k 0
-      go false e = absurd (omega (arith, reached-publics e))
-      go true e = reached-behind k h e (omega (arith, reached-all e))
+      go : (b : Bool) → not (same (r .restricted) 0) ≡ b → p + (k - length publicPart) ≡ getD (reached p n r) k 0
+      go false e = let c : length (reached p n r) ≡ length publicPart + 0 = reached-count ∙ rw e in absurd (omega arith)
+      go true e =
+          let c : length (reached p n r) ≡ length publicPart + n = reached-count ∙ rw e in
+          let q : length publicPart + (k - length publicPart) ≡ k = omega arith in
+          sym (ap (λ (i : ℕ). getD (reached p n r) i 0) (sym q) ∙ reached-at (k - length publicPart) ∙ rw e
+          (from-getD p n (k - length publicPart) (omega arith)))
+
+-- the first numbers of a set are those below any bound
+pub nth-below : (p : ℕ → Bool) (a b k : ℕ) → a ≤ b → k < length (keep p (range a)) → getD (keep p (range b)) k 0 ≡ getD (keep p (range a)) k 0
+nth-below p a b k h l =
+    let e : b ≡ a + (b - a) = omega arith in
+    let z : 0 + a ≡ a = omega arith in
+    ap (λ (n : ℕ). getD (keep p (range n)) k 0) e
+    ∙ rw (from-append 0 a (b - a), z, keep-append p (range a) (from a (b - a))) (List·getD-append (keep p (range a)) (keep p (from a (b - a))) 0 k l)
 
 module _ (w : List ℕ) where
   abbrev S : Scheme
   S = scheme w
-
-  -- the scheme's counts are the table's
-  publics-of : S .publics ≡ publics w
-  unfolding scheme
-  publics-of = refl
-
-  counts-of : S .publics + today w .privates ≡ publics w + privatesOf w
-  unfolding scheme
-  counts-of = refl
 
   pub public-free : (x : ℕ) → x < publics w → S .restricted x ≡ false
   unfolding scheme
@@ -98,103 +91,6 @@ module _ (w : List ℕ) where
 
   pub kind-free : (x k : ℕ) → publics w ≤ x → x < names w → k ≡ nameKind w x → (k ≡ 0 → ⊥) → S .restricted x ≡ false
   kind-free x k h l e z = sym (kind-tells x k h l e) ∙ ne-eqb k 0 z
-
-  -- ---- the values of a name
-
-  pub values-public : (x : ℕ) → x < publics w → values w x ≡ x ∷ []
-  unfolding valuesOf scheme
-  values-public x h = rw (lt-ltb x (publics w) h)
-
-  all-values : (x : ℕ) → publics w ≤ x → values w x ≡ keep (today w .reach x) (range (publics w) ++ from (publics w) (privatesOf w))
-  all-values x h =
-      let z : 0 + publics w ≡ publics w = omega arith in
-      values-bound S (today w) x (rw publics-of h)
-      ∙ ap (λ (k : ℕ). keep (today w .reach x) (range k)) counts-of
-      ∙ ap (keep (today w .reach x)) (from-append 0 (publics w) (privatesOf w) ∙ rw z)
-
-  pub values-restricted : (x : ℕ) → publics w ≤ x → S .restricted x ≡ true → values w x ≡ from (publics w) (privatesOf w)
-  unfolding valuesFor scheme
-  values-restricted x h r =
-      all-values x h ∙ keep-append (today w .reach x) (range (publics w)) (from (publics w) (privatesOf w))
-      ∙ rw (keep-none (today w .reach x) (range (publics w)) below, keep-all (today w .reach x) (from (publics w) (privatesOf w)) above)
-    where
-      below : (z : ℕ) → member z (range (publics w)) ≡ true → today w .reach x z ≡ false
-      below z m = rw (r, lt-leb (publics w) z (omega (arith, from-member z 0 (publics w) m)))
-
-      above : (z : ℕ) → member z (from (publics w) (privatesOf w)) ≡ true → today w .reach x z ≡ true
-      above z m = rw (r, le-leb (publics w) z (omega (arith, from-member z (publics w) (privatesOf w) m)))
-
-  pub values-free : (x : ℕ) → publics w ≤ x → S .restricted x ≡ false → values w x ≡ range (publics w) ++ from (publics w) (privatesOf w)
-  unfolding valuesFor scheme
-  values-free x h r = all-values x h ∙ keep-all (today w .reach x) (range (publics w) ++ from (publics w) (privatesOf w)) (λ z m. reached-free z)
-    where
-      reached-free : (z : ℕ) → today w .reach x z ≡ true
-      reached-free z = rw r
-
-  -- ---- a value that a bound name may hold
-
-  pub restricted-private : (x v : ℕ) → Holds w x v → S .restricted x ≡ true → (publics w ≤ v) × (v < publics w + privatesOf w)
-  restricted-private x v h r =
-      from-member v (publics w) (privatesOf w) (ap (member v) (sym (values-restricted x (h .low) r)) ∙ h .value)
-
-  pub free-value : (x v : ℕ) → Holds w x v → S .restricted x ≡ false → v < publics w + privatesOf w
-  free-value x v h r =
-      let z : 0 + publics w ≡ publics w = omega arith in
-      let e : values w x ≡ range (publics w + privatesOf w) =
-      values-free x (h .low) r ∙ sym (from-append 0 (publics w) (privatesOf w) ∙ rw z) in
-      omega (arith, from-member v 0 (publics w + privatesOf w) (ap (member v) (sym e) ∙ h .value))
-
-  pub held-value : (x v : ℕ) → Holds w x v → v < publics w + privatesOf w
-  held-value x v h = go (S .restricted x) refl
-    where
-      go : (b : Bool) → S .restricted x ≡ b → v < publics w + privatesOf w
-      go true e = restricted-private x v h e .1
-      go false e = free-value x v h e
-
-  -- ---- as a reach
-
-  reach-public : (x : ℕ) → x < publics w → Lists (publics w) (privatesOf w) (reach x (x + 1) false) (values w x)
-  unfolding reached from
-  reach-public x h =
-      let one : x + 1 - x ≡ 1 = omega arith in
-      record { is = rw one (sym (values-public x h)); order = omega arith; inside = omega arith }
-
-  reach-restricted : (x : ℕ) → publics w ≤ x → S .restricted x ≡ true → Lists (publics w) (privatesOf w) (reach 0 0 true) (values w x)
-  unfolding reached from
-  reach-restricted x h r = record { is = sym (values-restricted x h r); order = omega arith; inside = omega arith }
-
-  reach-free : (x : ℕ) → publics w ≤ x → S .restricted x ≡ false → Lists (publics w) (privatesOf w) (reach 0 (publics w) true) (values w x)
-  unfolding reached
-  reach-free x h r =
-      let z : publics w - 0 ≡ publics w = omega arith in
-      record { is = rw z (sym (values-free x h r)); order = omega arith; inside = omega arith }
-
-  -- whatever the number
-  pub reach-lists : (x : ℕ) → Lists (publics w) (privatesOf w) (reachOf S x) (values w x)
-  unfolding reachOf scheme
-  reach-lists x = go (decLt x (publics w))
-    where
-      side : (b : Bool) → S .restricted x ≡ b → publics w ≤ x
-          → Lists (publics w) (privatesOf w) (pick b (reach 0 0 true) (reach 0 (publics w) true)) (values w x)
-      side true e h = reach-restricted x h e
-      side false e h = reach-free x h e
-
-      go : Dec (x < publics w) → Lists (publics w) (privatesOf w) (reachOf S x) (values w x)
-      go (yes l) = rw (lt-ltb x (publics w) l) (reach-public x l)
-      go (no d) = rw (le-ltb x (publics w) (omega arith)) (side (S .restricted x) refl (omega arith))
-
-  -- as the code tells the cases apart
-  pub reach-of-public : (x p : ℕ) → p ≡ publics w → x < p → reach x (x + 1) false ≡ reachOf S x
-  unfolding reachOf
-  reach-of-public x p e h = rw (publics-of, lt-ltb x (publics w) (omega (arith, e)))
-
-  pub reach-of-restricted : (x : ℕ) → publics w ≤ x → S .restricted x ≡ true → reach 0 0 true ≡ reachOf S x
-  unfolding reachOf
-  reach-of-restricted x h r = rw (publics-of, le-ltb x (publics w) h, r)
-
-  pub reach-of-free : (x p : ℕ) → p ≡ publics w → publics w ≤ x → S .restricted x ≡ false → reach 0 p true ≡ reachOf S x
-  unfolding reachOf
-  reach-of-free x p e h r = rw (publics-of, le-ltb x (publics w) h, r, e)
 
   -- ---- free names, counted from x on
 
@@ -219,30 +115,105 @@ module _ (w : List ℕ) where
   unfolding keep
   free-done x e h = rw (from-done x e h)
 
+  -- ---- those that may hold private values, counted from x on
+
+  abbrev pub isRead : ℕ → Bool
+  isRead x = not (S .restricted x) && hasPrivates S x
+
+  pub read-more : (x e : ℕ) → x < e → isRead x ≡ true
+      → length (keep isRead (from x (e - x))) ≡ suc (length (keep isRead (from (x + 1) (e - (x + 1)))))
+  read-more x e h r = rw (from-more x e h) (ap (λ (l : List ℕ). length l) (keep-yes isRead x (from (x + 1) (e - (x + 1))) r))
+
+  pub read-skip : (x e : ℕ) → x < e → isRead x ≡ false → length (keep isRead (from x (e - x))) ≡ length (keep isRead (from (x + 1) (e - (x + 1))))
+  read-skip x e h r = rw (from-more x e h) (ap (λ (l : List ℕ). length l) (keep-no isRead x (from (x + 1) (e - (x + 1))) r))
+
+  pub read-start : (p e : ℕ) → p ≡ publics w → e ≡ p + bounds w → readNames w ≡ 0 + length (keep isRead (from p (e - p)))
+  read-start p e h k =
+      let d : e - p ≡ bounds w = omega arith in
+      let r : readNames w ≡ length (keep isRead (from p (e - p))) = rw (d, h) in
+      omega (arith, r)
+
+  pub read-done : (x e : ℕ) → e ≤ x → length (keep isRead (from x (e - x))) ≡ 0
+  unfolding keep
+  read-done x e h = rw (from-done x e h)
+
+module _ (w : List ℕ) (ok : cause w ≡ 0) where
+  abbrev S′ : Scheme
+  S′ = scheme w
+
+  abbrev A : Accepted S′
+  A = accepted w ok
+
+  pub values-restricted : (x : ℕ) → S′ .restricted x ≡ true → values w x ≡ from (publics w) (privatesOf w)
+  unfolding scheme
+  values-restricted x r = values-are S′ A x ∙ rw (restricted-alone S′ A x r, restricted-yes S′ A x r)
+
+  -- ---- a value that a bound name may hold
+
+  pub restricted-private : (x v : ℕ) → Holds w x v → S′ .restricted x ≡ true → (publics w ≤ v) × (v < publics w + privatesOf w)
+  restricted-private x v h r = from-member v (publics w) (privatesOf w) (ap (member v) (sym (values-restricted x r)) ∙ h .value)
+
+  pub held-value : (x v : ℕ) → Holds w x v → v < publics w + privatesOf w
+  unfolding scheme
+  held-value x v h = value-small S′ A x v (h .value)
+
+  -- a name that may hold a private value may hold them all
+  pub private-held : (x v : ℕ) → member v (values w x) ≡ true → publics w ≤ v → hasPrivates S′ x ≡ true
+  unfolding scheme
+  private-held x v m l = sym (private-member S′ A x v l (value-small S′ A x v m)) ∙ m
+
   -- ---- rows
 
-  pub row-length : (x : ℕ) → publics w ≤ x → rowLength S (today w) x ≡ pick (S .restricted x) (privatesOf w) (publics w + 2 * privatesOf w)
-  row-length x h =
-      row-length-today S x (rw publics-of h)
-      ∙ ap (λ (p : ℕ). pick (S .restricted x) (privatesOf w) (p + 2 * privatesOf w)) publics-of
+  pub row-restricted : (x : ℕ) → publics w ≤ x → S′ .restricted x ≡ true → privatesOf w ≡ rowLength S′ (today w) x
+  unfolding scheme
+  row-restricted x h r = sym (row-size S′ x h ∙ rw (restricted-alone S′ A x r, restricted-yes S′ A x r, r) (omega arith))
+
+  pub row-private : (x c n : ℕ) → publics w ≤ x → S′ .restricted x ≡ false → c ≡ length (keep (bitAt (publicWord w x)) (range (publics w))) → n ≡ privatesOf w
+      → not (same (restrictedWord w x) 0) ≡ true → c + 2 * n ≡ rowLength S′ (today w) x
+  unfolding scheme
+  row-private x c n h r e f p =
+      let q : hasPrivates S′ x ≡ true = sym (privates-told w ok x) ∙ p in
+      sym (row-size S′ x h ∙ rw (q, r) (omega (arith, e, f, ap (λ (l : List ℕ). length l) (publics-kept w ok x (publics w) (omega arith)))))
+
+  pub row-public : (x c : ℕ) → publics w ≤ x → c ≡ length (keep (bitAt (publicWord w x)) (range (publics w))) → not (same (restrictedWord w x) 0) ≡ false
+      → c ≡ rowLength S′ (today w) x
+  unfolding scheme
+  row-public x c h e p =
+      let q : hasPrivates S′ x ≡ false = sym (privates-told w ok x) ∙ p in
+      sym (row-size S′ x h ∙ rw q (go (S′ .restricted x)))
+    where
+      go : (b : Bool) → length (publicsOf S′ x) + 0 + pick b 0 0 ≡ c
+      go true = omega (arith, e, ap (λ (l : List ℕ). length l) (publics-kept w ok x (publics w) (omega arith)))
+      go false = omega (arith, e, ap (λ (l : List ℕ). length l) (publics-kept w ok x (publics w) (omega arith)))
+
+  -- as it is found
+  pub read-tells : (x : List ℕ) → Reached w x → (y : ℕ) (r : Bool) → r ≡ (not (S′ .restricted y) && not (same (word (restrictedIn x) y) 0)) → r ≡ isRead w y
+  read-tells x K y r e =
+      let f = ap (λ (z : Reach). not (same (z .restricted) 0)) (reach-told w x K y) ∙ privates-told w ok y in
+      e ∙ ap (λ (b : Bool). not (S′ .restricted y) && b) f
 
   -- ---- places
 
-  module _ (x : List ℕ) (L : Laid w x) where
-    pub equals-of-restricted : (y v row p : ℕ) → row ≡ word (rowsIn x) y → p ≡ publics w → Holds w y v → S .restricted y ≡ true
-        → row + (v - p) ≡ numberOf S (today w) (equals y v)
-    equals-of-restricted y v row p e q h r =
-        let l = restricted-private y v h r .0 in
-        let n = equals-restricted S y v r (rw publics-of l) in
-        omega (arith, n, publics-of, q, row-is w x L y (h .low) (h .high), e)
+  pub equals-of-public : (y v row k : ℕ) → row ≡ rowOf w y → k ≡ length (keep (bitAt (publicWord w y)) (range v)) → v < publics w
+      → row + k ≡ numberOf S′ (today w) (equals y v)
+  unfolding scheme
+  equals-of-public y v row k e q l =
+      sym (equals-public S′ y v (omega arith) ∙ omega (arith, e, q, ap (λ (l : List ℕ). length l) (publics-kept w ok y v (omega arith))))
 
-    pub equals-of-free : (y v row : ℕ) → row ≡ word (rowsIn x) y → Holds w y v → S .restricted y ≡ false → row + v ≡ numberOf S (today w) (equals y v)
-    equals-of-free y v row e h r = sym (equals-number S y v r ∙ rw (sym (row-is w x L y (h .low) (h .high)), sym e))
+  pub equals-of-private : (y v row k : ℕ) → row ≡ rowOf w y → k ≡ length (keep (bitAt (publicWord w y)) (range (publics w))) → publics w ≤ v
+      → Holds w y v → row + k + (v - publics w) ≡ numberOf S′ (today w) (equals y v)
+  unfolding scheme
+  equals-of-private y v row k e q l h =
+      sym (equals-private S′ y v l (private-held y v (h .value) l)
+      ∙ omega (arith, e, q, ap (λ (l : List ℕ). length l) (publics-kept w ok y (publics w) (omega arith))))
 
-    pub differs-of : (y v row n : ℕ) → row ≡ word (rowsIn x) y → n ≡ word x privatesAt → Differs w y v → row + n + v ≡ numberOf S (today w) (differs y v)
-    differs-of y v row n e q h =
-        let d = differs-number S y v (rw publics-of (h .low)) (h .free) in
-        omega (arith, d, row-is w x L y (h .low) (h .high), e, publics-of, q, privates-are w x L, h .private)
+  pub differs-of : (y v row k n : ℕ) → row ≡ rowOf w y → k ≡ length (keep (bitAt (publicWord w y)) (range (publics w))) → n ≡ privatesOf w → Differs w y v
+      → row + k + n + (v - publics w) ≡ numberOf S′ (today w) (differs y v)
+  unfolding scheme
+  differs-of y v row k n e q f h =
+      sym (differs-private S′ y v (h .low) (h .reads)
+      ∙ omega (arith, e, q, f, ap (λ (l : List ℕ). length l) (publics-kept w ok y (publics w) (omega arith))))
 
-    pub free-of : (v f p : ℕ) → f ≡ word x freeAt → p ≡ publics w → publics w ≤ v → f + (v - p) ≡ numberOf S (today w) (free v)
-    free-of v f p e q h = rw (e, free-is w x L, q, publics-of)
+  pub free-of : (x : List ℕ) (L : Laid w x) (v f p : ℕ) → f ≡ word x freeAt → p ≡ publics w → f + (v - p) ≡ numberOf S′ (today w) (free v)
+  unfolding scheme
+  free-of x L v f p e q = rw (e, free-is w x L, q)

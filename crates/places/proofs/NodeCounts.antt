@@ -8,12 +8,12 @@ use lib.Dec.{ltb, leb}
 use lib.ListN.{length, take, drop, length-append}
 use lib.Seq.{sets, sets-eq, length-sets, take-at}
 use borrow.Author.Tests.{lt-ltb, le-ltb, le-leb, lt-leb}
-use Rattle.lists.specs.Lists.{pick, bit, same, from, range, keep, member}
-use Rattle.lists.proofs.Tests.{bit-small, same-yes, same-no}
+use Rattle.lists.specs.Lists.{pick, bit, same, word, from, range, keep, member}
+use Rattle.lists.proofs.Tests.{and-right, and-false, bit-small, same-yes, same-no}
 use Rattle.lists.proofs.Ranges.{from-length, from-member}
-use Rattle.lists.proofs.Members.{keep-append, keep-all, keep-none}
+use Rattle.lists.proofs.Members.{keep-append, keep-all, keep-none, member-keep}
 use Rattle.scheme.specs.Words.{publics, nodes, branches, nodeKind, nodeFirst, nodeSecond, formalCount, argument, argumentsOf}
-use Rattle.scheme.specs.Words.{channel, branchName, branchKind}
+use Rattle.scheme.specs.Words.{channel, branchName, branchKind, isReceive}
 use Rattle.scheme.specs.Owners.{held, branchThread}
 use Rattle.scheme.specs.Index.{heldAt, HeldNames}
 use Rattle.scheme.specs.Scheme.{scheme}
@@ -21,16 +21,20 @@ use Rattle.table.specs.Causes.{cause}
 use Rattle.table.specs.Known.{Known}
 use Rattle.table.proofs.Accepted.{accepted}
 use Rattle.places.specs.Places.{common}
-use Rattle.places.specs.Inner.Plan.{today, privatesOf, values, freeNames, Lists, reached}
+use Rattle.places.specs.Inner.Plan.{today, privatesOf, values, readNames, Lists, reached}
 use Rattle.places.specs.Answers.{Sums, sums}
 use Rattle.places.specs.Inner.Counting.{Few, addTimes, over, releaseSums, copySums, silentSums, nodeSums, boundBit, publicCount, privateCount}
 use Rattle.places.specs.Inner.Counting.{pairSums, partnerSums, sendSums, allSums}
-use Rattle.places.specs.Reaches.{reachOf, commonReach}
-use Rattle.places.specs.declared.layout.Reach.{Reach}
+use Rattle.places.specs.Plan.{privatesAt, reachIn, Laid}
+use Rattle.places.specs.Reaches.{commonReach}
+use Rattle.places.specs.Sets.{bitAt}
+use Rattle.places.specs.declared.reach.Reach.{Reach}
 use Rattle.places.proofs.ByWords.{held-known, held-of}
 use Rattle.places.proofs.Controls
 use Rattle.places.proofs.Weights.{held-few}
-use Rattle.places.proofs.Reaches.{common-lists}
+use Rattle.places.proofs.Plans
+use Rattle.places.proofs.Plans.{reach-is}
+use Rattle.places.proofs.Reaches.{reach-lists, common-lists}
 use Rattle.places.proofs.Adding.{over-few, few-part, grows-times, release-grows, copy-grows, send-grows}
 
 -- ---- names that a node holds, in a buffer of 64 words
@@ -89,7 +93,7 @@ module _ (w : List ℕ) (h : cause w ≡ 0) (n : ℕ) (l : n < nodes w) (s : Sum
   unfolding nodeSums
   choice-sums e = rw (no-kind 1 0 e (λ q. omega arith), same-yes (nodeKind w n) 1 e)
 
-  pub new-sums : nodeKind w n ≡ 2 → nodeSums w s n ≡ addTimes s (privatesOf w) (freeNames w + 2) (freeNames w + 2)
+  pub new-sums : nodeKind w n ≡ 2 → nodeSums w s n ≡ addTimes s (privatesOf w) (readNames w + 2) (readNames w + 2)
   unfolding nodeSums
   new-sums e = rw (no-kind 2 0 e (λ q. omega arith), no-kind 2 1 e (λ q. omega arith), same-yes (nodeKind w n) 2 e)
 
@@ -101,7 +105,7 @@ module _ (w : List ℕ) (h : cause w ≡ 0) (n : ℕ) (l : n < nodes w) (s : Sum
     pub chosen : (f g : ℕ) → f ≡ nodeFirst w n → g ≡ nodeSecond w n → k ≡ 1 → nodeSums w s n ≡ over (silentSums w) s (from f (f + g - f))
     chosen f g is-f is-g e = let c : f + g - f ≡ g = omega arith in rw (c, is-f, is-g) (choice-sums (sym is ∙ e))
 
-    pub made : (p m : ℕ) → p ≡ privatesOf w → m ≡ freeNames w → k ≡ 2 → nodeSums w s n ≡ addTimes s p (m + 2) (m + 2)
+    pub made : (p m : ℕ) → p ≡ privatesOf w → m ≡ readNames w → k ≡ 2 → nodeSums w s n ≡ addTimes s p (m + 2) (m + 2)
     made p m is-p is-m e = rw (is-p, is-m) (new-sums (sym is ∙ e))
 
     pub other-kind : (i : ℕ) → (k ≡ i → ⊥) → nodeKind w n ≡ i → ⊥
@@ -133,41 +137,43 @@ arguments-are w n first second f a b c =
 
 module _ (p n : ℕ) (r : Reach) (vs : List ℕ) (l : Lists p n r vs) where
   abbrev low-part : List ℕ
-  low-part = from (r .low) (r .high - r .low)
+  low-part = keep (bitAt (r .publics)) (range p)
+
+  abbrev high-part : List ℕ
+  high-part = pick (not (same (r .restricted) 0)) (from p n) []
 
   low-below : (v : ℕ) → member v low-part ≡ true → v < p
-  low-below v m = omega (arith, from-member v (r .low) (r .high - r .low) m, l .order, l .inside)
+  low-below v m =
+      omega (arith, from-member v 0 p (and-right (bitAt (r .publics) v) (member v (range p)) (sym (member-keep (bitAt (r .publics)) v (range p)) ∙ m)))
 
-  kept : (q : ℕ → Bool) → keep q vs ≡ keep q low-part ++ keep q (pick (r .privates) (from p n) [])
+  kept : (q : ℕ → Bool) → keep q vs ≡ keep q low-part ++ keep q high-part
   unfolding reached
-  kept q = ap (keep q) (sym (l .is)) ∙ keep-append q low-part (pick (r .privates) (from p n) [])
+  kept q = ap (keep q) (sym (l .is)) ∙ keep-append q low-part high-part
 
-  pub reach-publics : length (keep (λ v. ltb v p) vs) ≡ r .high - r .low
+  pub reach-publics : length (keep (λ v. ltb v p) vs) ≡ length low-part
   unfolding keep
   reach-publics =
       ap (λ (xs : List ℕ). length xs) (kept (λ v. ltb v p))
-      ∙ rw (keep-all (λ v. ltb v p) low-part (λ v m. lt-ltb v p (low-below v m)), none (r .privates))
-      (simp append-nil (from-length (r .low) (r .high - r .low)))
+      ∙ rw (keep-all (λ v. ltb v p) low-part (λ v m. lt-ltb v p (low-below v m)), none (not (same (r .restricted) 0))) (simp append-nil)
     where
       none : (b : Bool) → keep (λ v. ltb v p) (pick b (from p n) []) ≡ []
       none true = keep-none (λ v. ltb v p) (from p n) (λ v m. le-ltb v p (from-member v p n m .0))
       none false = refl
 
-  pub reach-privates : length (keep (λ v. leb p v) vs) ≡ pick (r .privates) n 0
+  pub reach-privates : length (keep (λ v. leb p v) vs) ≡ pick (not (same (r .restricted) 0)) n 0
   unfolding keep
   reach-privates =
       ap (λ (xs : List ℕ). length xs) (kept (λ v. leb p v))
-      ∙ rw (keep-none (λ v. leb p v) low-part (λ v m. lt-leb p v (low-below v m))) (go (r .privates))
+      ∙ rw (keep-none (λ v. leb p v) low-part (λ v m. lt-leb p v (low-below v m))) (go (not (same (r .restricted) 0)))
     where
       go : (b : Bool) → length (keep (λ v. leb p v) (pick b (from p n) [])) ≡ pick b n 0
       go true = ap (λ (xs : List ℕ). length xs) (keep-all (λ v. leb p v) (from p n) (λ v m. le-leb p v (from-member v p n m .0))) ∙ from-length p n
       go false = refl
 
-  pub reach-length : length vs ≡ (r .high - r .low) + pick (r .privates) n 0
+  pub reach-length : length vs ≡ length low-part + pick (not (same (r .restricted) 0)) n 0
   unfolding reached
   reach-length =
-      ap (λ (xs : List ℕ). length xs) (sym (l .is)) ∙ length-append low-part (pick (r .privates) (from p n) [])
-      ∙ rw (from-length (r .low) (r .high - r .low), go (r .privates))
+      ap (λ (xs : List ℕ). length xs) (sym (l .is)) ∙ length-append low-part high-part ∙ rw (go (not (same (r .restricted) 0)))
     where
       go : (b : Bool) → length (pick b (from p n) []) ≡ pick b n 0
       go true = from-length p n
@@ -192,51 +198,71 @@ module _ {s all : Sums} {n i o m j p : ℕ} (e : Twice s all n i o m j p) where
   pub both-added : (u v : Sums) → u ≡ addTimes s n i o → v ≡ addTimes u m j p → v ≡ all
   both-added u v q r = r ∙ rw q (sym (e .is))
 
--- what the code has read of them: channels a and e, the name z that is sent, the values x of both channels, whether the channels are bound, and how many
--- of the values are private
-pub record Read (w : List ℕ) (b r a z e : ℕ) (x : Reach) (ba be v : ℕ) : Type 0 where
+-- the values of a name whose reach is read
+pub values-read : (w x : List ℕ) → Laid w x → (z : ℕ) (r : Reach) → r ≡ reachIn x z → Lists (publics w) (privatesOf w) r (values w z)
+values-read w x L z r e = rw (e, reach-is w x L z) (reach-lists w (L .accepted) z)
+
+-- ---- the releases of a name, the copies of an argument: what the code has counted of the values, c public and v private ones
+
+module _ (w : List ℕ) (h : cause w ≡ 0) (x : List ℕ) (L : Laid w x) (z : ℕ) (r : Reach) (c v : ℕ) (er : r ≡ reachIn x z)
+    (ec : c ≡ length (keep (bitAt (r .publics)) (range (publics w)))) (ev : v ≡ pick (not (same (r .restricted) 0)) (word x privatesAt) 0) where
+  values-listed : Lists (publics w) (privatesOf w) r (values w z)
+  values-listed = values-read w x L z r er
+
+  pub publics-counted : publicCount w (values w z) ≡ c
+  publics-counted = reach-publics (publics w) (privatesOf w) r (values w z) values-listed ∙ sym ec
+
+  pub privates-counted : privateCount w (values w z) ≡ v
+  privates-counted = reach-privates (publics w) (privatesOf w) r (values w z) values-listed ∙ sym (ev ∙ rw (Plans.privates-are w x L))
+
+  pub release-read : (s : Sums) → Twice s (releaseSums w s z) c 2 1 v 2 2
+  unfolding releaseSums
+  release-read s = record { is = rw (publics-counted, privates-counted) }
+
+  pub copy-read : (s : Sums) (b : ℕ) → b ≡ boundBit w z → Twice s (copySums w s z) c (b + 1) (b + 2) v (b + 2) (b + 2)
+  unfolding copySums
+  copy-read s b e = record { is = rw (publics-counted, privates-counted, e) }
+
+-- what the code has read of a send and a receive: channels a and e, the name z that is sent, the values x of both channels, whether the channels are bound, and
+-- how many of the values are public and private
+pub record Read (w : List ℕ) (b r a z e : ℕ) (x : Reach) (ba be c v : ℕ) : Type 0 where
   pub channel-is : a ≡ channel w b
   pub name-is : z ≡ branchName w b
   pub other-is : e ≡ channel w r
   pub lists : Lists (publics w) (privatesOf w) x (common (scheme w) (today w) a e)
   pub bit-is : ba ≡ boundBit w a
   pub bit-other : be ≡ boundBit w e
-  pub privates-are : v ≡ pick (x .privates) (privatesOf w) 0
-  pub few-publics : publics w ≤ 32
+  pub publics-are : c ≡ length (keep (bitAt (x .publics)) (range (publics w)))
+  pub privates-are : v ≡ pick (not (same (x .restricted) 0)) (privatesOf w) 0
   pub few-privates : privatesOf w ≤ 32
 
 pick-few : (b : Bool) (n : ℕ) → pick b n 0 ≤ n
 pick-few true n = omega arith
 pick-few false n = omega arith
 
-pub reads : (w : List ℕ) (n b r a z e : ℕ) (ra re x : Reach) (ba be v : ℕ) → cause w ≡ 0 → n ≡ privatesOf w
+pub privates-small : (w x : List ℕ) (L : Laid w x) (b : Bool) (v : ℕ) → v ≡ pick b (word x privatesAt) 0 → v ≤ 32
+privates-small w x L b v e = omega (arith, e, pick-few b (word x privatesAt), Plans.few-counted w x L)
+
+pub reads : (w index : List ℕ) (L : Laid w index) (b r a z e : ℕ) (ra re x : Reach) (ba be c v : ℕ)
     → a ≡ channel w b → z ≡ branchName w b → e ≡ channel w r
-    → ra ≡ reachOf (scheme w) a → re ≡ reachOf (scheme w) e → x ≡ commonReach ra re → ba ≡ boundBit w a → be ≡ boundBit w e → v ≡ pick (x .privates) n 0
-    → Read w b r a z e x ba be v
-reads w n b r a z e ra re x ba be v h en ea ez ee era ere ex eb ef ev = record {
+    → ra ≡ reachIn index a → re ≡ reachIn index e → x ≡ commonReach ra re → ba ≡ boundBit w a → be ≡ boundBit w e
+    → c ≡ length (keep (bitAt (x .publics)) (range (publics w))) → v ≡ pick (not (same (x .restricted) 0)) (word index privatesAt) 0
+    → Read w b r a z e x ba be c v
+reads w index L b r a z e ra re x ba be c v ea ez ee era ere ex eb ef ec ev = record {
   channel-is = ea;
   name-is = ez;
   other-is = ee;
-  lists = rw (ex, era, ere) (common-lists w a e);
+  lists = rw (ex, era, ere, reach-is w index L a, reach-is w index L e) (common-lists w (L .accepted) a e);
   bit-is = eb;
   bit-other = ef;
-  privates-are = rw en at ev;
-  few-publics = Controls.few-publics w h;
-  few-privates = Controls.few-privates w h;
+  publics-are = ec;
+  privates-are = rw (Plans.privates-are w index L) at ev;
+  few-privates = Controls.few-privates w (L .accepted);
 }
 
-module _ (w : List ℕ) (b r a z e : ℕ) (x : Reach) (ba be v : ℕ) (k : Read w b r a z e x ba be v) where
-  pub bit-one : ba ≤ 1
-  bit-one = omega (arith, k .bit-is, bit-small (not (ltb a (publics w))))
-
-  pub bit-two : be ≤ 1
-  bit-two = omega (arith, k .bit-other, bit-small (not (ltb e (publics w))))
-
-  pub publics-few : x .high - x .low ≤ 32
-  publics-few = omega (arith, k .lists .inside, k .few-publics)
-
+module _ (w : List ℕ) (b r a z e : ℕ) (x : Reach) (ba be c v : ℕ) (k : Read w b r a z e x ba be c v) where
   pub privates-few : v ≤ 32
-  privates-few = omega (arith, k .privates-are, pick-few (x .privates) (privatesOf w), k .few-privates)
+  privates-few = omega (arith, k .privates-are, pick-few (not (same (x .restricted) 0)) (privatesOf w), k .few-privates)
 
   abbrev vs : List ℕ
   vs = common (scheme w) (today w) a e
@@ -249,29 +275,27 @@ module _ (w : List ℕ) (b r a z e : ℕ) (x : Reach) (ba be v : ℕ) (k : Read 
   unfolding pairSums
   pair-read s = rw (k .bit-is, k .bit-other, k .channel-is, k .name-is, k .other-is)
 
-  pub self-sums : (s : Sums) → z ≡ a
-      → Twice s (pairSums w b s r) (x .high - x .low) (ba + be + 2) (ba + be + 3) v (ba + be + 3) (ba + be + 3)
+  pub self-sums : (s : Sums) → z ≡ a → Twice s (pairSums w b s r) c (ba + be + 2) (ba + be + 3) v (ba + be + 3) (ba + be + 3)
   self-sums s q = record {
     is = pair-read s ∙ rw (
       same-yes z a q,
       reach-publics (publics w) (privatesOf w) x vs (k .lists),
       reach-privates (publics w) (privatesOf w) x vs (k .lists),
+      k .publics-are,
       k .privates-are,
     );
   }
 
-  pub other-sums : (s : Sums) (y : Reach) (bz u : ℕ) → (z ≡ a → ⊥) → Lists (publics w) (privatesOf w) y (values w z) → bz ≡ boundBit w z
-      → u ≡ pick (y .privates) (privatesOf w) 0
-      → Twice s (pairSums w b s r) ((x .high - x .low + v) * (y .high - y .low)) (ba + be + bz + 2) (ba + be + bz + 3)
-      ((x .high - x .low + v) * u) (ba + be + bz + 3) (ba + be + bz + 3)
-  other-sums s y bz u d ly eb eu = record {
+  pub other-sums : (s : Sums) (bz d u : ℕ) → (z ≡ a → ⊥) → bz ≡ boundBit w z → d ≡ publicCount w (values w z) → u ≡ privateCount w (values w z)
+      → Twice s (pairSums w b s r) ((c + v) * d) (ba + be + bz + 2) (ba + be + bz + 3) ((c + v) * u) (ba + be + bz + 3) (ba + be + bz + 3)
+  other-sums s bz d u ne eb ed eu = record {
     is = pair-read s ∙ rw (
-      same-no z a d,
-      reach-publics (publics w) (privatesOf w) y (values w z) ly,
-      reach-privates (publics w) (privatesOf w) y (values w z) ly,
+      same-no z a ne,
       reach-length (publics w) (privatesOf w) x vs (k .lists),
+      k .publics-are,
       k .privates-are,
       eb,
+      ed,
       eu,
     );
   }
@@ -283,9 +307,9 @@ module _ (w : List ℕ) (b : ℕ) (s : Sums) (r : ℕ) where
   unfolding partnerSums
   partner-yes e d = rw (same-yes (branchKind w r) 2 e, same-no (branchThread w r) (branchThread w b) d)
 
-  pub partner-own : branchKind w r ≡ 2 → branchThread w r ≡ branchThread w b → partnerSums w b s r ≡ s
+  pub partner-own : branchThread w r ≡ branchThread w b → partnerSums w b s r ≡ s
   unfolding partnerSums
-  partner-own e d = rw (same-yes (branchKind w r) 2 e, same-yes (branchThread w r) (branchThread w b) d)
+  partner-own d = rw (same-yes (branchThread w r) (branchThread w b) d, and-false (isReceive w r))
 
   pub partner-no : (branchKind w r ≡ 2 → ⊥) → partnerSums w b s r ≡ s
   unfolding partnerSums

@@ -1,18 +1,18 @@
 -- What the code counts for the nodes of an accepted table are the transitions of its nodes and their arcs.
 use mathlib.Core.Path.{_≡_, refl, sym, ap, _∙_}
-use mathlib.Core.Bool.{Bool, true, false}
+use mathlib.Core.Bool.{Bool, true, false, not}
 use mathlib.Core.List.{List, [], _∷_, _++_, map}
 use mathlib.Core.Logic.{inl, inr}
 use Prim.Native.Nat.{ℕ, suc, _+_, _*_, _≤_, _<_}
 use native.Mathlib.Decide.{decLt, ℕ-discrete}
 use native.Mathlib.Omega.{arith}
-use lib.Dec.{ltb}
-use lib.ListN.{length, length-append, length-map}
+use lib.Dec.{ltb, leb}
+use lib.ListN.{length, getD, length-append, length-map}
 use borrow.Author.Tests.{lt-ltb, le-ltb, le-leb, lt-leb}
-use Rattle.lists.specs.Lists.{pick, from, flat, member, positions, total}
+use Rattle.lists.specs.Lists.{pick, bit, from, keep, flat, member, positions, total}
 use Rattle.lists.proofs.Tests.{false-true, same-no}
 use Rattle.lists.proofs.Ranges.{from-length, from-member}
-use Rattle.lists.proofs.Members.{member-here, member-there}
+use Rattle.lists.proofs.Members.{member-here, member-there, member-getD}
 use Rattle.lists.proofs.Sums.{sum-append}
 use Rattle.scheme.specs.Words.{publics, nodes, branches, branchKind, nodeKind, nodeFirst, nodeSecond, channel, branchName, next, isSend, isReceive}
 use Rattle.scheme.specs.Words.{argumentsOf}
@@ -25,23 +25,56 @@ use Rattle.places.specs.Values.{Values, privateValues, valuesOf}
 use Rattle.places.specs.Places.{control, controls, places}
 use Rattle.places.specs.Rows.{IsBound, Exists, has-control}
 use Rattle.places.specs.Transitions.{Description, isInput, isOutput, releasing, releases, copying, copies, making, going, silents, calling, ofNode}
-use Rattle.places.specs.Inner.Plan.{today, privatesOf, freeNames}
+use Rattle.places.specs.Inner.Plan.{today, privatesOf, readNames}
 use Rattle.places.specs.Answers.{Sums, sums}
-use Rattle.places.specs.Inner.Counting.{addTimes, over, releaseSums, copySums, silentSums, nodeSums}
-use Rattle.places.proofs.Today.{values-free, values-restricted, otherNames}
-use Rattle.places.proofs.Names.{values-public}
+use Rattle.places.specs.Inner.Counting.{addTimes, over, boundBit, publicCount, privateCount, releaseSums, copySums, silentSums, nodeSums}
+use Rattle.places.proofs.Arriving.{carried, copied}
 use Rattle.places.proofs.Initial.{some-control}
 use Rattle.places.proofs.Explicit.{going-inputs, going-outputs, calling-inputs, calling-outputs}
-use Rattle.places.proofs.ArcCounts.{next-place, new-inputs, new-outputs}
-use Rattle.places.proofs.Totals.{inputSum, outputSum, privatesAmong, boundBit, privates-bound, privates-public, total-same, total-each, sum-of-map}
+use Rattle.places.proofs.ArcCounts.{next-place, readRows, new-inputs, new-outputs}
+use Rattle.places.proofs.Totals.{inputSum, outputSum, privatesAmong, total-same, total-each, sum-of-map}
+use Rattle.places.proofs.Totals
 use Rattle.places.proofs.Totals.{release-input-sum, release-output-sum, copy-input-sum, copy-output-sum}
-use Rattle.places.proofs.Controls.{nodes-are, publics-are, bounds-are}
+use Rattle.places.proofs.Controls.{nodes-are, publics-are}
 use Rattle.places.proofs.ByWords.{other-call, stop-node, choice-node, new-node, call-node, silent-branch, held-of, arguments-of, choice-inside}
 use Rattle.places.proofs.Adding.{over-one, over-none, silent-yes, silent-no}
 use Rattle.places.proofs.NodeCounts.{stop-sums, choice-sums, new-sums, call-sums}
 
 same-sums : (a a′ b b′ c c′ : ℕ) → a ≡ a′ → b ≡ b′ → c ≡ c′ → sums a b c ≡ sums a′ b′ c′
 same-sums a a′ b b′ c c′ p q r = rw (p, q, r)
+
+-- ---- how many numbers pass a test
+
+total-keep : (q : ℕ → Bool) (xs : List ℕ) → total (map (λ v. bit (q v)) xs) ≡ length (keep q xs)
+unfolding total keep
+total-keep q [] = refl
+total-keep q (x ∷ xs) = go (q x) (total-keep q xs)
+  where
+    go : (b : Bool) → total (map (λ v. bit (q v)) xs) ≡ length (keep q xs)
+        → bit b + total (map (λ v. bit (q v)) xs) ≡ length (pick b (x ∷ keep q xs) (keep q xs))
+    go true e = omega (arith, e)
+    go false e = omega (arith, e)
+
+keep-both : (p : ℕ) (xs : List ℕ) → length (keep (λ v. ltb v p) xs) + length (keep (λ v. leb p v) xs) ≡ length xs
+unfolding keep
+keep-both p [] = refl
+keep-both p (x ∷ xs) = go (decLt x p) (keep-both p xs)
+  where
+    go : Dec (x < p) → length (keep (λ v. ltb v p) xs) + length (keep (λ v. leb p v) xs) ≡ length xs
+        → length (pick (ltb x p) (x ∷ keep (λ v. ltb v p) xs) (keep (λ v. ltb v p) xs))
+        + length (pick (leb p x) (x ∷ keep (λ v. leb p v) xs) (keep (λ v. leb p v) xs))
+        ≡ length (x ∷ xs)
+    go (yes l) e = rw (lt-ltb x p l, lt-leb p x l) (omega (arith, e))
+    go (no l) e = let u : p ≤ x = omega arith in rw (le-ltb x p u, le-leb p x u) (omega (arith, e))
+
+-- ---- products
+
+-- P public and Q private values, with e where the argument is bound
+copy-inputs : (s P Q e : ℕ) → s + P * (e + 1) + Q * (e + 2) ≡ s + ((P + Q) * (1 + e) + Q)
+copy-inputs s P Q e = omega arith
+
+copy-outputs : (s P Q e : ℕ) → s + P * (e + 2) + Q * (e + 2) ≡ s + (P + Q) * (2 + e)
+copy-outputs s P Q e = omega arith
 
 module _ (w : List ℕ) (h : cause w ≡ 0) where
   abbrev S : Scheme
@@ -52,6 +85,19 @@ module _ (w : List ℕ) (h : cause w ≡ 0) where
 
   abbrev ok : Accepted S
   ok = accepted w h
+
+  pub bit-is : (x : ℕ) → Totals.boundBit S ok x ≡ boundBit w x
+  bit-is x = rw (publics-are w) (go (decLt x (publics w)))
+    where
+      go : Dec (x < publics w) → bit (leb (publics w) x) ≡ bit (not (ltb x (publics w)))
+      go (yes l) = rw (lt-ltb x (publics w) l, lt-leb (publics w) x l)
+      go (no l) = let u : publics w ≤ x = omega arith in rw (le-ltb x (publics w) u, le-leb (publics w) x u)
+
+  pub among-is : (vs : List ℕ) → privatesAmong S ok vs ≡ privateCount w vs
+  among-is vs = rw (publics-are w) (total-keep (λ v. leb (publics w) v) vs)
+
+  pub parts : (vs : List ℕ) → publicCount w vs + privateCount w vs ≡ length vs
+  parts vs = keep-both (publics w) vs
 
   -- with the transitions of the descriptions
   unfoldable pub plus : Sums → List Description → Sums
@@ -87,29 +133,16 @@ module _ (w : List ℕ) (h : cause w ≡ 0) where
     release-one : (k z : ℕ) → k < controls S n → IsBound S U z → (s : Sums)
         → releaseSums w s z ≡ plus s (map (releasing S U n m k z) (valuesOf S U z))
     unfolding releaseSums
-    release-one k z c b s = go (S .restricted z) refl
-      where
-        ds : List Description
-        ds = map (releasing S U n m k z) (valuesOf S U z)
-
-        size : length ds ≡ length (valuesOf S U z)
-        size = length-map (valuesOf S U z) (releasing S U n m k z)
-
-        ins : inputSum S ok ds ≡ length (valuesOf S U z) * 2
-        ins = release-input-sum S ok n m k z l u c b
-
-        outs : outputSum S ok ds ≡ length (valuesOf S U z) + U .privates
-        outs = release-output-sum S ok n m k z l u c b
-
-        go : (r : Bool) → S .restricted z ≡ r
-            → pick r (addTimes s (privatesOf w) 2 2) (addTimes (addTimes s (publics w) 2 1) (privatesOf w) 2 2) ≡ plus s ds
-        go true e =
-            let v = values-restricted S z (b .0) e in
-            plus-is s ds _ _ _ (omega (arith, size, v)) (omega (arith, ins, v)) (omega (arith, outs, v))
-        go false e =
-            let v = values-free S z (b .0) e in
-            plus-is s ds _ _ _ (omega (arith, size, v, publics-are w)) (omega (arith, ins, v, publics-are w))
-            (omega (arith, outs, v, publics-are w))
+    release-one k z c b s =
+        let vs = valuesOf S U z in
+        let P = publicCount w vs in
+        let Q = privateCount w vs in
+        let q = parts vs in
+        let ds = map (releasing S U n m k z) vs in
+        plus-is s ds _ _ _
+        (rw (length-map vs (releasing S U n m k z), sym q) (omega arith))
+        (rw (release-input-sum S ok n m k z l u c b, sym q) (omega arith))
+        (rw (release-output-sum S ok n m k z l u c b, among-is vs, sym q) (omega arith))
 
     releases-sum : (zs : List ℕ) (k : ℕ) → ((z : ℕ) → member z zs ≡ true → IsBound S U z) → k + length zs ≤ controls S n → (s : Sums)
         → over (releaseSums w) s zs ≡ plus s (releases S U n m k zs)
@@ -123,63 +156,39 @@ module _ (w : List ℕ) (h : cause w ≡ 0) where
 
     -- ---- copies
 
-    copy-one : (k f a : ℕ) → k < controls S n → IsBound S U f → S .restricted f ≡ false → a < S .publics + S .bounds → (a ≡ f → ⊥) → (s : Sums)
+    copy-one : (k f a : ℕ) → k < controls S n → IsBound S U f → S .restricted f ≡ false → a < S .publics + S .bounds → (a ≡ f → ⊥)
+        → ((v : ℕ) → member v (valuesOf S U a) ≡ true → member v (valuesOf S U f) ≡ true) → (s : Sums)
         → copySums w s a ≡ plus s (map (copying S U n m k f a) (valuesOf S U a))
     unfolding copySums
-    copy-one k f a c b r low d s = go (decLt a (publics w)) (S .restricted a) refl
-      where
-        ds : List Description
-        ds = map (copying S U n m k f a) (valuesOf S U a)
-
-        size : length ds ≡ length (valuesOf S U a)
-        size = length-map (valuesOf S U a) (copying S U n m k f a)
-
-        ins : inputSum S ok ds ≡ length (valuesOf S U a) * (1 + boundBit S ok a) + privatesAmong S ok (valuesOf S U a)
-        ins = copy-input-sum S ok n m k f a l u c b r low d
-
-        outs : outputSum S ok ds ≡ length (valuesOf S U a) * (2 + boundBit S ok a)
-        outs = copy-output-sum S ok n m k f a l u c b r low d
-
-        go : Dec (a < publics w) → (q : Bool) → S .restricted a ≡ q
-            → pick (ltb a (publics w)) (addTimes s 1 1 2) (pick q (addTimes s (privatesOf w) 3 3) (addTimes (addTimes s (publics w) 2 3) (privatesOf w) 3 3))
-            ≡ plus s ds
-        go (yes p) q e =
-            let p′ : a < S .publics = omega (arith, publics-are w) in
-            let v : length (valuesOf S U a) ≡ 1 = ap (λ (xs : List ℕ). length xs) (values-public w a p) in
-            let one : boundBit S ok a ≡ 0 = rw (lt-leb (S .publics) a p′) in
-            rw (lt-ltb a (publics w) p)
-            (plus-is s ds _ _ _ (omega (arith, size, v)) (rw (ins, v, one, privates-public S ok a p′) (omega arith)) (rw (outs, v, one) (omega arith)))
-        go (no p) true e =
-            let p′ : S .publics ≤ a = omega (arith, publics-are w) in
-            let v = values-restricted S a p′ e in
-            let one : boundBit S ok a ≡ 1 = rw (le-leb (S .publics) a p′) in
-            rw (le-ltb a (publics w) (omega arith))
-            (plus-is s ds _ _ _ (omega (arith, size, v)) (rw (ins, v, one, privates-bound S ok a p′) (omega arith))
-            (rw (outs, v, one) (omega arith)))
-        go (no p) false e =
-            let p′ : S .publics ≤ a = omega (arith, publics-are w) in
-            let v = values-free S a p′ e in
-            let one : boundBit S ok a ≡ 1 = rw (le-leb (S .publics) a p′) in
-            rw (le-ltb a (publics w) (omega arith))
-            (plus-is s ds _ _ _ (omega (arith, size, v, publics-are w))
-            (rw (ins, v, one, privates-bound S ok a p′) (omega (arith, publics-are w)))
-            (rw (outs, v, one) (omega (arith, publics-are w))))
+    copy-one k f a c b r low d flow s =
+        let vs = valuesOf S U a in
+        let P = publicCount w vs in
+        let Q = privateCount w vs in
+        let e = boundBit w a in
+        let q = parts vs in
+        let ds = map (copying S U n m k f a) vs in
+        plus-is s ds _ _ _
+        (rw (length-map vs (copying S U n m k f a), sym q) (omega arith))
+        (rw (copy-input-sum S ok n m k f a l u c b r low d flow, bit-is a, among-is vs, sym q) (sym (copy-inputs (s .inputs) P Q e)))
+        (rw (copy-output-sum S ok n m k f a l u c b r low d flow, bit-is a, sym q) (sym (copy-outputs (s .outputs) P Q e)))
 
     copies-sum : (fs as′ : List ℕ) (k : ℕ) → length as′ ≡ length fs → k + length fs ≤ controls S n
         → ((f : ℕ) → member f fs ≡ true → IsBound S U f × (S .restricted f ≡ false))
-        → ((a : ℕ) → member a as′ ≡ true → (a < S .publics + S .bounds) × ((f : ℕ) → member f fs ≡ true → a ≡ f → ⊥)) → (s : Sums)
+        → ((a : ℕ) → member a as′ ≡ true → (a < S .publics + S .bounds) × ((f : ℕ) → member f fs ≡ true → a ≡ f → ⊥))
+        → ((j : ℕ) → j < length fs → (v : ℕ) → member v (valuesOf S U (getD as′ j 0)) ≡ true → member v (valuesOf S U (getD fs j 0)) ≡ true) → (s : Sums)
         → over (copySums w) s as′ ≡ plus s (copies S U n m k fs as′)
     unfolding copies
-    copies-sum [] [] k e c b d s = over-none (copySums w) s ∙ sym (plus-none s)
-    copies-sum [] (a ∷ as′) k e c b d s = absurd (omega arith)
-    copies-sum (f ∷ fs) [] k e c b d s = absurd (omega arith)
-    copies-sum (f ∷ fs) (a ∷ as′) k e c b d s =
+    copies-sum [] [] k e c b d flow s = over-none (copySums w) s ∙ sym (plus-none s)
+    copies-sum [] (a ∷ as′) k e c b d flow s = absurd (omega arith)
+    copies-sum (f ∷ fs) [] k e c b d flow s = absurd (omega arith)
+    copies-sum (f ∷ fs) (a ∷ as′) k e c b d flow s =
         over-one (copySums w) s a as′
         ∙ ap (λ (t : Sums). over (copySums w) t as′)
         (copy-one k f a (omega arith) (b f (member-here f fs) .0) (b f (member-here f fs) .1) (d a (member-here a as′) .0)
-        (d a (member-here a as′) .1 f (member-here f fs)) s)
+        (d a (member-here a as′) .1 f (member-here f fs)) (flow 0 (omega arith)) s)
         ∙ copies-sum fs as′ (suc k) (omega arith) (omega arith) (λ x q. b x (member-there x f fs q))
         (λ x q. (d x (member-there x a as′ q) .0, λ z o. d x (member-there x a as′ q) .1 z (member-there z f fs o)))
+        (λ j u. flow (suc j) (omega arith))
         (plus s (map (copying S U n m k f a) (valuesOf S U a)))
         ∙ plus-append s (map (copying S U n m k f a) (valuesOf S U a)) (copies S U n m (suc k) fs as′)
 
@@ -198,6 +207,10 @@ module _ (w : List ℕ) (h : cause w ≡ 0) where
 
   held-bound : (n z : ℕ) → member z (S .held n) ≡ true → IsBound S U z
   held-bound n z q = let r = ok .held-name n z q in (r .low, r .high)
+
+  read-names : readRows S ok ≡ readNames w
+  unfolding scheme
+  read-names = refl
 
   -- ---- nodes
 
@@ -229,30 +242,27 @@ module _ (w : List ℕ) (h : cause w ≡ 0) where
         size : length ds ≡ privatesOf w
         size = length-map (privateValues S U) (making S U n r m) ∙ count
 
-        others : otherNames S ≡ freeNames w
-        others = rw (publics-are w, bounds-are w)
-
         private : (v : ℕ) → member v (privateValues S U) ≡ true → (S .publics ≤ v) × (v < S .publics + U .privates)
         private v q = let b = from-member v (S .publics) (U .privates) q in (b .0, b .1)
 
         bound : S .node n ≡ new r m → IsBound S U r
         bound at = let q = ok .new-name n r m at in (q .low, q .high)
 
-        ins : S .node n ≡ new r m → inputSum S ok ds ≡ privatesOf w * (freeNames w + 2)
+        ins : S .node n ≡ new r m → inputSum S ok ds ≡ privatesOf w * (readNames w + 2)
         ins at =
             sum-of-map (λ d. length (positions (isInput S d) (places S U))) (making S U n r m) (privateValues S U)
-            ∙ total-same (λ v. length (positions (isInput S (making S U n r m v)) (places S U))) (λ v. otherNames S + 2) (privateValues S U)
+            ∙ total-same (λ v. length (positions (isInput S (making S U n r m v)) (places S U))) (λ v. readRows S ok + 2) (privateValues S U)
             (λ v q. new-inputs S ok n r m v (inside n l) (ok .new-inside n r m at .1) (ok .new-restricted n r m at) (bound at) (private v q .0)
             (private v q .1))
-            ∙ total-each (otherNames S + 2) (privateValues S U) ∙ rw (count, others)
+            ∙ total-each (readRows S ok + 2) (privateValues S U) ∙ rw (count, read-names)
 
-        outs : S .node n ≡ new r m → outputSum S ok ds ≡ privatesOf w * (freeNames w + 2)
+        outs : S .node n ≡ new r m → outputSum S ok ds ≡ privatesOf w * (readNames w + 2)
         outs at =
             sum-of-map (λ d. length (positions (isOutput S d) (places S U))) (making S U n r m) (privateValues S U)
-            ∙ total-same (λ v. length (positions (isOutput S (making S U n r m v)) (places S U))) (λ v. otherNames S + 2) (privateValues S U)
+            ∙ total-same (λ v. length (positions (isOutput S (making S U n r m v)) (places S U))) (λ v. readRows S ok + 2) (privateValues S U)
             (λ v q. new-outputs S ok n r m v (inside n l) (ok .new-inside n r m at .1) (ok .new-restricted n r m at) (bound at) (private v q .0)
             (private v q .1))
-            ∙ total-each (otherNames S + 2) (privateValues S U) ∙ rw (count, others)
+            ∙ total-each (readRows S ok + 2) (privateValues S U) ∙ rw (count, read-names)
 
     -- a branch that is not silent has no transition of its own
     loud : (b : ℕ) → (branchKind w b ≡ 0 → ⊥) → silents S U n b (S .branch b) ≡ []
@@ -314,12 +324,18 @@ module _ (w : List ℕ) (h : cause w ≡ 0) where
         ∙ rw (sym (arguments-of w h n l e), sym (held-of w h n))
         (ap (λ (t : Sums). over (releaseSums w) t (S .held n))
         (copies-sum n (S .root d) (inside n l) m (S .formals d) (S .arguments n) 1 (ok .call-arguments n d at) (omega (arith, size)) (formal d)
-        (argument-facts d at) (plus s (calling S U n (S .root d) ∷ [])))
+        (argument-facts d at) (flows d at) (plus s (calling S U n (S .root d) ∷ [])))
         ∙ releases-sum n (S .root d) (inside n l) m (S .held n) (suc (length (S .formals d))) (held-bound n) (omega (arith, size))
         (plus (plus s (calling S U n (S .root d) ∷ [])) cs)
         ∙ plus-append (plus s (calling S U n (S .root d) ∷ [])) cs rs ∙ plus-append s (calling S U n (S .root d) ∷ []) (cs ++ rs)
         ∙ ap (λ (ν : Node). plus s (ofNode S U n ν)) (sym at))
       where
+        flows : (d : ℕ) → S .node n ≡ call d → (j : ℕ) → j < length (S .formals d) → (v : ℕ) → member v (valuesOf S U (getD (S .arguments n) j 0)) ≡ true
+            → member v (valuesOf S U (getD (S .formals d) j 0)) ≡ true
+        flows d at j k v =
+            carried S (getD (S .arguments n) j 0) (getD (S .formals d) j 0) v
+            (ok .formal-name d (getD (S .formals d) j 0) (member-getD (S .formals d) j k) .low) (λ o. copied S ok n d j o at k)
+
         formal : (d f : ℕ) → member f (S .formals d) ≡ true → IsBound S U f × (S .restricted f ≡ false)
         formal d f q = let r = ok .formal-name d f q in ((r .low, r .high), ok .formal-free d f q)
 

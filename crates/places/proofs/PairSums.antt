@@ -1,18 +1,17 @@
 -- What the code counts for the sends of an accepted table are its communications and their arcs.
 use mathlib.Core.Path.{_≡_, refl, sym, ap, _∙_}
-use mathlib.Core.Bool.{Bool, true, false, not}
+use mathlib.Core.Bool.{Bool, true, false}
 use mathlib.Core.List.{List, [], _∷_, map}
-use Prim.Native.Nat.{ℕ, _+_, _*_, _≤_, _<_}
-use native.Mathlib.Decide.{decLt, ℕ-discrete}
+use Prim.Native.Nat.{ℕ, _+_, _*_, _<_}
+use native.Mathlib.Decide.{ℕ-discrete}
 use native.Mathlib.Omega.{arith}
-use lib.Dec.{ltb, leb}
+use lib.Dec.{ltb}
 use lib.ListN.{length, length-map}
-use borrow.Author.Tests.{lt-ltb, le-ltb, le-leb, lt-leb}
-use Rattle.lists.specs.Lists.{pick, bit, range, keep, flat, member, total}
+use Rattle.lists.specs.Lists.{pick, range, flat, member}
 use Rattle.lists.proofs.Tests.{same-yes, same-no}
 use Rattle.lists.proofs.Ranges.{from-member}
 use Rattle.lists.proofs.Members.{flat-length}
-use Rattle.scheme.specs.Words.{publics, branches, branchKind, channel, branchName, next, isSilent, isSend, isReceive}
+use Rattle.scheme.specs.Words.{branches, branchKind, channel, branchName, next, isSilent, isSend, isReceive}
 use Rattle.scheme.specs.Owners.{branchThread}
 use Rattle.scheme.specs.Scheme.{Scheme, Branch, absent, silent, send, receive, branchAt, scheme}
 use Rattle.table.specs.Causes.{cause}
@@ -25,35 +24,10 @@ use Rattle.places.specs.Inner.Plan.{today, values}
 use Rattle.places.specs.Answers.{Sums}
 use Rattle.places.specs.Inner.Counting.{boundBit, publicCount, privateCount, pairSums, partnerSums, sendSums}
 use Rattle.places.proofs.Totals
-use Rattle.places.proofs.Totals.{privatesAmong, total-same, total-each, pair-input-sum, pair-output-sum, self-input-sum, self-output-sum}
-use Rattle.places.proofs.Controls.{publics-are}
+use Rattle.places.proofs.Totals.{total-same, total-each, pair-input-sum, pair-output-sum, self-input-sum, self-output-sum}
 use Rattle.places.proofs.ByWords.{send-branch, receive-branch}
 use Rattle.places.proofs.NodeCounts.{partner-yes, partner-own, partner-no, send-yes, send-no}
-use Rattle.places.proofs.NodeSums.{plus, plus-is, plus-none, over-plus}
-
--- ---- how many numbers pass a test
-
-total-keep : (q : ℕ → Bool) (xs : List ℕ) → total (map (λ v. bit (q v)) xs) ≡ length (keep q xs)
-unfolding total keep
-total-keep q [] = refl
-total-keep q (x ∷ xs) = go (q x) (total-keep q xs)
-  where
-    go : (b : Bool) → total (map (λ v. bit (q v)) xs) ≡ length (keep q xs)
-        → bit b + total (map (λ v. bit (q v)) xs) ≡ length (pick b (x ∷ keep q xs) (keep q xs))
-    go true e = omega (arith, e)
-    go false e = omega (arith, e)
-
-keep-both : (p : ℕ) (xs : List ℕ) → length (keep (λ v. ltb v p) xs) + length (keep (λ v. leb p v) xs) ≡ length xs
-unfolding keep
-keep-both p [] = refl
-keep-both p (x ∷ xs) = go (decLt x p) (keep-both p xs)
-  where
-    go : Dec (x < p) → length (keep (λ v. ltb v p) xs) + length (keep (λ v. leb p v) xs) ≡ length xs
-        → length (pick (ltb x p) (x ∷ keep (λ v. ltb v p) xs) (keep (λ v. ltb v p) xs))
-        + length (pick (leb p x) (x ∷ keep (λ v. leb p v) xs) (keep (λ v. leb p v) xs))
-        ≡ length (x ∷ xs)
-    go (yes l) e = rw (lt-ltb x p l, lt-leb p x l) (omega (arith, e))
-    go (no l) e = let u : p ≤ x = omega arith in rw (le-ltb x p u, le-leb p x u) (omega (arith, e))
+use Rattle.places.proofs.NodeSums.{plus, plus-is, plus-none, over-plus, bit-is, among-is, parts}
 
 flat-none : {A : Type 0} (g : ℕ → List A) (xs : List ℕ) → ((x : ℕ) → g x ≡ []) → flat g xs ≡ []
 unfolding flat
@@ -84,19 +58,6 @@ module _ (w : List ℕ) (h : cause w ≡ 0) where
 
   abbrev ok : Accepted S
   ok = accepted w h
-
-  bit-is : (x : ℕ) → Totals.boundBit S ok x ≡ boundBit w x
-  bit-is x = rw (publics-are w) (go (decLt x (publics w)))
-    where
-      go : Dec (x < publics w) → bit (leb (publics w) x) ≡ bit (not (ltb x (publics w)))
-      go (yes l) = rw (lt-ltb x (publics w) l, lt-leb (publics w) x l)
-      go (no l) = let u : publics w ≤ x = omega arith in rw (le-ltb x (publics w) u, le-leb (publics w) x u)
-
-  among-is : (vs : List ℕ) → privatesAmong S ok vs ≡ privateCount w vs
-  among-is vs = rw (publics-are w) (total-keep (λ v. leb (publics w) v) vs)
-
-  parts : (vs : List ℕ) → publicCount w vs + privateCount w vs ≡ length vs
-  parts vs = keep-both (publics w) vs
 
   -- ---- a send and a receive of different threads
 
@@ -137,13 +98,13 @@ module _ (w : List ℕ) (h : cause w ≡ 0) where
         let P = publicCount w (values w z) in
         let Q = privateCount w (values w z) in
         let k = boundBit w a + boundBit w e + boundBit w z in
-        let q = parts (values w z) in
+        let q = parts w h (values w z) in
         let t : length pairs ≡ c * length (values w z) = pairs-count (length (values w z)) (λ i. rw (same-no z a d)) in
         let bits : Totals.boundBit S ok a + (Totals.boundBit S ok e + Totals.boundBit S ok z) ≡ k =
-        rw (bit-is a, bit-is e, bit-is z) (omega arith) in
+        rw (bit-is w h a, bit-is w h e, bit-is w h z) (omega arith) in
         rw (same-no z a d) (plus-is w h s pairs _ _ _
         (rw (t, sym q) (omega arith))
-        (rw (pair-input-sum S ok b a z (next w b) r e (branchName w r) (next w r) sends receives differ d, bits, among-is (values w z), sym q)
+        (rw (pair-input-sum S ok b a z (next w b) r e (branchName w r) (next w r) sends receives differ d, bits, among-is w h (values w z), sym q)
         (sym (other-inputs (s .inputs) c P Q k)))
         (rw (pair-output-sum S ok b a z (next w b) r e (branchName w r) (next w r) sends receives differ d, bits, sym q)
         (sym (other-outputs (s .outputs) c P Q k))))
@@ -155,12 +116,12 @@ module _ (w : List ℕ) (h : cause w ≡ 0) where
         let P = publicCount w vs in
         let Q = privateCount w vs in
         let k = boundBit w a + boundBit w e in
-        let q = parts vs in
+        let q = parts w h vs in
         let t : length pairs ≡ length vs * 1 = pairs-count 1 (λ i. rw (same-yes z a d)) in
-        let bits : Totals.boundBit S ok e + Totals.boundBit S ok a ≡ k = rw (bit-is a, bit-is e) (omega arith) in
+        let bits : Totals.boundBit S ok e + Totals.boundBit S ok a ≡ k = rw (bit-is w h a, bit-is w h e) (omega arith) in
         rw (same-yes z a d) (plus-is w h s pairs _ _ _
         (rw (t, sym q) (omega arith))
-        (rw (self-input-sum S ok b a z (next w b) r e (branchName w r) (next w r) sends receives differ d, bits, among-is vs, sym q)
+        (rw (self-input-sum S ok b a z (next w b) r e (branchName w r) (next w r) sends receives differ d, bits, among-is w h vs, sym q)
         (sym (self-inputs (s .inputs) P Q k)))
         (rw (self-output-sum S ok b a z (next w b) r e (branchName w r) (next w r) sends receives differ d, bits, sym q)
         (sym (self-outputs (s .outputs) P Q k))))
@@ -211,7 +172,7 @@ module _ (w : List ℕ) (h : cause w ≡ 0) where
           → partnerSums w b s r ≡ plus w h s (ofPair S U b (S .branch b) r (S .branch r))
       go (no k) d = partner-no w b s r k ∙ rw (sent, no-receive b r (channel w b) (branchName w b) (next w b) k) (sym (plus-none w h s))
       go (yes k) (yes d) =
-          partner-own w b s r k (sym (thread-is r) ∙ sym d ∙ thread-is b)
+          partner-own w b s r (sym (thread-is r) ∙ sym d ∙ thread-is b)
           ∙ rw (sent, receive-branch w h r lr k, same-yes (S .thread (S .home b)) (S .thread (S .home r)) d) (sym (plus-none w h s))
       go (yes k) (no d) =
           partner-yes w b s r k (λ q. d (thread-is b ∙ sym q ∙ sym (thread-is r)))

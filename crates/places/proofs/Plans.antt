@@ -1,7 +1,7 @@
 -- An accepted table with its plan: what the words of the plan tell.
 use mathlib.Core.Path.{_≡_, refl, sym, ap, _∙_}
-use mathlib.Core.Bool.{Bool}
-use mathlib.Core.List.{List, _++_, map, map-append, append-assoc}
+use mathlib.Core.Bool.{Bool, false}
+use mathlib.Core.List.{List, [], _++_, map, map-append, append-assoc, append-nil}
 use Prim.Native.Nat.{ℕ, zero, suc, _+_, _-_, _≤_, _<_}
 use native.Mathlib.Decide.{decLt}
 use native.Mathlib.Omega.{arith}
@@ -10,6 +10,7 @@ use lib.Seq.{sets, sets-eq, length-sets, slice, take-take, take-at, drop-at, dro
 use borrow.Author.Tests.{lt-ltb, le-ltb, le-leb}
 use Rattle.lists.specs.Lists.{word, from, range, total}
 use Rattle.lists.proofs.Ranges.{from-append}
+use Rattle.lists.proofs.Tests.{not-true-false}
 use Rattle.lists.proofs.Slices.{slice-between}
 use Rattle.lists.proofs.Stores.{word-range, long-map, take-sets, store-on, sets-append}
 use Rattle.scheme.specs.Words.{publics, bounds, names, nodes}
@@ -23,10 +24,15 @@ use Rattle.table.proofs.Lookup.{home-right, definition-right, thread-right, bra
 use Rattle.places.specs.Places.{controls}
 use Rattle.places.specs.Rows.{rowLength, rowStart, freeStart}
 use Rattle.places.specs.Image.{netOf, netWith}
-use Rattle.places.specs.Plan.{rowsAt, nodesAt, privatesAt, freeAt, placesAt, tokensAt, planEnd, rowsIn, nodesIn}
-use Rattle.places.specs.Plan.{rowWord, rowWords, nodeWord, nodeWords, countWords, planWords, Laid}
+use Rattle.places.specs.Plan.{publicsAt, restrictedAt, rowsAt, nodesAt, privatesAt, freeAt, placesAt, tokensAt, planEnd}
+use Rattle.places.specs.Plan.{publicsIn, restrictedIn, reachIn, rowsIn, nodesIn, publicWords, restrictedWords, rowWord, rowWords, nodeWord, nodeWords}
+use Rattle.places.specs.Plan.{countWords, reachedWords, planWords, Reached, Laid}
+use Rattle.places.specs.Reaches.{reach, publicWord, restrictedWord, reachOf}
 use Rattle.places.specs.Inner.Arcs.{initialNumbers}
 use Rattle.places.specs.Inner.Plan.{today, privatesOf, controlOf, rowOf}
+use Rattle.places.proofs.Tallies.{getD-past}
+use Rattle.places.proofs.Bits.{set-none}
+use Rattle.places.proofs.Arriving.{inside}
 use Rattle.places.proofs.Rows.{row-next, places-length}
 use Rattle.places.proofs.Order.{row-rises}
 use Rattle.places.proofs.Initial.{initial-numbers}
@@ -81,55 +87,107 @@ module _ (w : List ℕ) where
   unfolding countWords
   counts-long = refl
 
-  to-rows : length (indexWords w ++ rowWords w) ≡ 896
-  to-rows = length-append (indexWords w) (rowWords w) ∙ omega (arith, index-long w, rows-long)
+  publics-long : length (publicWords w) ≡ 64
+  unfolding publicWords
+  publics-long = long-map (publicWord w) 64
 
-  to-nodes : length (indexWords w ++ rowWords w ++ nodeWords w) ≡ 1153
-  to-nodes = length-append (indexWords w ++ rowWords w) (nodeWords w) ∙ omega (arith, to-rows, nodes-long)
+  restricted-long : length (restrictedWords w) ≡ 64
+  unfolding restrictedWords
+  restricted-long = long-map (restrictedWord w) 64
 
-  pub plan-long : length (planWords w) ≡ 1157
+  to-publics : length (indexWords w ++ publicWords w) ≡ 896
+  to-publics = length-append (indexWords w) (publicWords w) ∙ omega (arith, index-long w, publics-long)
+
+  reached-long : length (reachedWords w) ≡ 960
+  unfolding reachedWords
+  reached-long = length-append (indexWords w ++ publicWords w) (restrictedWords w) ∙ omega (arith, to-publics, restricted-long)
+
+  to-rows : length (reachedWords w ++ rowWords w) ≡ 1024
+  to-rows = length-append (reachedWords w) (rowWords w) ∙ omega (arith, reached-long, rows-long)
+
+  to-nodes : length (reachedWords w ++ rowWords w ++ nodeWords w) ≡ 1281
+  to-nodes = length-append (reachedWords w ++ rowWords w) (nodeWords w) ∙ omega (arith, to-rows, nodes-long)
+
+  pub plan-long : length (planWords w) ≡ 1285
   unfolding planWords
-  plan-long = length-append (indexWords w ++ rowWords w ++ nodeWords w) (countWords w) ∙ omega (arith, to-nodes, counts-long)
+  plan-long = length-append (reachedWords w ++ rowWords w ++ nodeWords w) (countWords w) ∙ omega (arith, to-nodes, counts-long)
 
   counts-put : (z : List ℕ) (a b c d : ℕ) → a ≡ privatesOf w → b ≡ freeStart (scheme w) (today w) → c ≡ controlOf w (nodes w)
-      → d ≡ length (initialNumbers (scheme w) (today w)) → set (set (set (set z 1153 a) 1154 b) 1155 c) 1156 d ≡ sets z privatesAt (countWords w)
+      → d ≡ length (initialNumbers (scheme w) (today w)) → set (set (set (set z 1281 a) 1282 b) 1283 c) 1284 d ≡ sets z privatesAt (countWords w)
   unfolding countWords
   counts-put z a b c d p q r s = rw (p, q, r, s, net-places, net-initial)
 
   -- ---- part after part
 
-  module _ (x : List ℕ) (K : Known w x) (room : 1157 ≤ length x) where
-    whole : x ≡ indexWords w ++ drop 832 x
-    whole = sym (ap (λ (l : List ℕ). l ++ drop 832 x) (sym (K .right .front)) ∙ take-append-drop 832 x)
+  -- the reaches behind the index
+  module _ (x : List ℕ) (K : Known w x) (room : 1285 ≤ length x) (y : List ℕ)
+      (e : y ≡ sets (sets x publicsAt (publicWords w)) restrictedAt (restrictedWords w)) where
+    known-whole : x ≡ indexWords w ++ drop 832 x
+    known-whole = sym (ap (λ (l : List ℕ). l ++ drop 832 x) (sym (K .right .front)) ∙ take-append-drop 832 x)
 
-    with-rows : (y : List ℕ) → y ≡ sets x rowsAt (rowWords w) → y ≡ indexWords w ++ rowWords w ++ drop 896 x
+    with-reaches : y ≡ reachedWords w ++ drop 960 x
+    unfolding reachedWords
+    with-reaches =
+        e ∙ ap (λ (l : List ℕ). sets (sets l 832 (publicWords w)) 896 (restrictedWords w)) known-whole
+        ∙ ap (λ (l : List ℕ). sets l 896 (restrictedWords w)) (store-on (indexWords w) (publicWords w) x 832 64 (index-long w) publics-long (omega arith))
+        ∙ store-on (indexWords w ++ publicWords w) (restrictedWords w) x 896 64 to-publics restricted-long (omega arith)
+
+    pub reached-here : Reached w y
+    reached-here =
+        record { accepted = K .accepted; front = ap (take 960) with-reaches ∙ take-at (reachedWords w) (drop 960 x) 960 reached-long }
+
+    pub reached-size : length y ≡ length x
+    reached-size = ap length with-reaches ∙ length-append (reachedWords w) (drop 960 x) ∙ omega (arith, reached-long, length-drop 960 x)
+
+    pub reached-rest : drop planEnd y ≡ drop planEnd x
+    reached-rest =
+        ap (drop 1285) with-reaches ∙ sym (drop-drop 325 960 (reachedWords w ++ drop 960 x))
+        ∙ ap (drop 325) (drop-at (reachedWords w) (drop 960 x) 960 reached-long) ∙ drop-drop 325 960 x
+
+  module _ (x : List ℕ) (K : Reached w x) (room : 1285 ≤ length x) where
+    whole : x ≡ reachedWords w ++ drop 960 x
+    whole = sym (ap (λ (l : List ℕ). l ++ drop 960 x) (sym (K .front)) ∙ take-append-drop 960 x)
+
+    with-rows : (y : List ℕ) → y ≡ sets x rowsAt (rowWords w) → y ≡ reachedWords w ++ rowWords w ++ drop 1024 x
     with-rows y e =
-        e ∙ ap (λ (l : List ℕ). sets l 832 (rowWords w)) whole
-        ∙ store-on (indexWords w) (rowWords w) x 832 64 (index-long w) rows-long (omega arith)
+        e ∙ ap (λ (l : List ℕ). sets l 960 (rowWords w)) whole
+        ∙ store-on (reachedWords w) (rowWords w) x 960 64 reached-long rows-long (omega arith)
 
     with-nodes : (y z : List ℕ) → y ≡ sets x rowsAt (rowWords w) → z ≡ sets y nodesAt (nodeWords w)
-        → z ≡ indexWords w ++ rowWords w ++ nodeWords w ++ drop 1153 x
+        → z ≡ reachedWords w ++ rowWords w ++ nodeWords w ++ drop 1281 x
     with-nodes y z e f =
-        f ∙ ap (λ (l : List ℕ). sets l 896 (nodeWords w)) (with-rows y e)
-        ∙ store-on (indexWords w ++ rowWords w) (nodeWords w) x 896 257 to-rows nodes-long (omega arith)
+        f ∙ ap (λ (l : List ℕ). sets l 1024 (nodeWords w)) (with-rows y e)
+        ∙ store-on (reachedWords w ++ rowWords w) (nodeWords w) x 1024 257 to-rows nodes-long (omega arith)
 
     with-all : (y z : List ℕ) → y ≡ sets x rowsAt (rowWords w) → z ≡ sets y nodesAt (nodeWords w)
         → sets z privatesAt (countWords w) ≡ planWords w ++ drop planEnd x
     unfolding planWords
     with-all y z e f =
-        ap (λ (l : List ℕ). sets l 1153 (countWords w)) (with-nodes y z e f)
-        ∙ store-on (indexWords w ++ rowWords w ++ nodeWords w) (countWords w) x 1153 4 to-nodes counts-long (omega arith)
+        ap (λ (l : List ℕ). sets l 1281 (countWords w)) (with-nodes y z e f)
+        ∙ store-on (reachedWords w ++ rowWords w ++ nodeWords w) (countWords w) x 1281 4 to-nodes counts-long (omega arith)
 
     -- the counts are stored one by one
     pub laid-out : (y z : List ℕ) → y ≡ sets x rowsAt (rowWords w) → z ≡ sets y nodesAt (nodeWords w) → (a b c d : ℕ) → a ≡ privatesOf w
         → b ≡ freeStart (scheme w) (today w) → c ≡ controlOf w (nodes w) → d ≡ length (initialNumbers (scheme w) (today w))
-        → set (set (set (set z 1153 a) 1154 b) 1155 c) 1156 d ≡ planWords w ++ drop planEnd x
+        → set (set (set (set z 1281 a) 1282 b) 1283 c) 1284 d ≡ planWords w ++ drop planEnd x
     laid-out y z e f a b c d p q r s = counts-put z a b c d p q r s ∙ with-all y z e f
 
-  -- words stored behind the index leave it
-  pub known-kept : (x y : List ℕ) → Known w x → (a : ℕ) (ws : List ℕ) → 832 ≤ a → y ≡ sets x a ws → Known w y
-  known-kept x y K a ws h e =
-      record { accepted = K .accepted; right = record { front = ap (take 832) e ∙ take-sets 832 ws x a h ∙ K .right .front } }
+  -- words stored behind the reaches leave them
+  pub reached-kept : (x y : List ℕ) → Reached w x → (a : ℕ) (ws : List ℕ) → 960 ≤ a → y ≡ sets x a ws → Reached w y
+  reached-kept x y K a ws h e = record { accepted = K .accepted; front = ap (take 960) e ∙ take-sets 960 ws x a h ∙ K .front }
+
+  -- the index stands before the reaches
+  pub reached-known : (x : List ℕ) → Reached w x → Known w x
+  unfolding reachedWords
+  reached-known x K = record {
+    accepted = K .accepted;
+    right = record {
+      front =
+          sym (take-take 832 960 x (omega arith)) ∙ ap (take 832) (K .front)
+          ∙ rw (append-assoc (indexWords w) (publicWords w) (restrictedWords w))
+          (take-at (indexWords w) (publicWords w ++ restrictedWords w) 832 (index-long w));
+    };
+  }
 
 -- ---- words that are the same from some number on
 
@@ -168,8 +226,8 @@ module _ (w lent : List ℕ) (r : Bool) (after : List ℕ) (F : Filled w lent r 
 
   pub filled-rest : drop planEnd after ≡ drop planEnd lent
   filled-rest =
-      ap (drop 1157) filled-is ∙ sym (drop-drop 325 832 (indexWords w ++ drop 832 lent))
-      ∙ ap (drop 325) (drop-at (indexWords w) (drop 832 lent) 832 (index-long w)) ∙ drop-drop 325 832 lent
+      ap (drop 1285) filled-is ∙ sym (drop-drop 453 832 (indexWords w ++ drop 832 lent))
+      ∙ ap (drop 453) (drop-at (indexWords w) (drop 832 lent) 832 (index-long w)) ∙ drop-drop 453 832 lent
 
 -- ---- from one start to the next
 
@@ -190,9 +248,6 @@ module _ (w : List ℕ) where
 
   pub row-step : (x r : ℕ) → publics w ≤ x → x < names w → r ≡ rowLength (scheme w) (today w) x → rowWord w (x + 1) ≡ rowWord w x + r
   row-step x r h l e = omega (arith, row-inside w (x + 1) (omega arith), row-inside w x (omega arith), row-next-start x h, e)
-
-  pub node-step-past : (n : ℕ) → nodes w ≤ n → nodeWord w (n + 1) ≡ nodeWord w n + 0
-  node-step-past n h = omega (arith, node-past w (n + 1) (omega arith), node-past w n h)
 
   pub node-step : (n r : ℕ) → n < nodes w → r ≡ controls (scheme w) n → nodeWord w (n + 1) ≡ nodeWord w n + r
   node-step n r l e = omega (arith, node-inside w (n + 1) (omega arith), node-inside w n (omega arith), control-goes-on w n, e)
@@ -236,45 +291,91 @@ module _ (w : List ℕ) (h : cause w ≡ 0) where
       go (yes l) = omega (arith, node-inside w n (omega arith), control-few w h n (omega arith))
       go (no l) = omega (arith, node-past w n (omega arith), control-few w h (nodes w) (omega arith))
 
+-- ---- what the reaches tell
+
+module _ (w x : List ℕ) (K : Reached w x) where
+  reached-part : (a e : ℕ) → e ≤ 960 → slice a e x ≡ slice a e (reachedWords w)
+  reached-part a e h = ap (drop a) (sym (take-take e 960 x h) ∙ ap (take e) (K .front))
+
+  publics-told : publicsIn x ≡ publicWords w
+  unfolding publicsIn reachedWords
+  publics-told =
+      reached-part 832 896 (omega arith) ∙
+      rw (append-assoc (indexWords w) (publicWords w) (restrictedWords w))
+      (slice-between (indexWords w) (publicWords w) (restrictedWords w) 832 896 (index-long w) (omega (arith, publics-long w)))
+
+  restricted-told : restrictedIn x ≡ restrictedWords w
+  unfolding restrictedIn reachedWords
+  restricted-told =
+      reached-part 896 960 (omega arith) ∙
+      ap (λ (l : List ℕ). slice 896 960 l) (sym (append-nil (indexWords w ++ publicWords w ++ restrictedWords w))
+      ∙ append-assoc (indexWords w ++ publicWords w) (restrictedWords w) [])
+      ∙ slice-between (indexWords w ++ publicWords w) (restrictedWords w) [] 896 960 (to-publics w) (omega (arith, restricted-long w))
+
+  -- nothing is in the reach of a number that is no name
+  no-name : (y o : ℕ) → 64 ≤ y → today w .origins y o ≡ false
+  no-name y o h =
+      not-true-false (today w .origins y o)
+      (λ q. omega (arith, inside (scheme w) y o q, publics-are w, bounds-are w, few-publics w (K .accepted), few-bounds w (K .accepted)))
+
+  pub reach-told : (y : ℕ) → reachIn x y ≡ reachOf w y
+  unfolding publicWords restrictedWords
+  reach-told y = rw (publics-told, restricted-told) (go (decLt y 64))
+    where
+      go : Dec (y < 64) → reach (word (map (publicWord w) (range 64)) y) (word (map (restrictedWord w) (range 64)) y) ≡ reachOf w y
+      go (yes l) = rw (word-range (publicWord w) 64 y l, word-range (restrictedWord w) 64 y l)
+      go (no l) =
+          let h : 64 ≤ y = omega arith in
+          rw (
+            getD-past 0 (map (publicWord w) (range 64)) y (omega (arith, long-map (publicWord w) 64)),
+            getD-past 0 (map (restrictedWord w) (range 64)) y (omega (arith, long-map (restrictedWord w) 64)),
+            set-none (today w .origins y) (publics w) (λ k u. no-name y k h),
+            set-none (λ k. today w .origins y (publics w + k)) (bounds w) (λ k u. no-name y (publics w + k) h),
+          )
+
 -- ---- what a plan tells
 
 module _ (w x : List ℕ) (L : Laid w x) where
-  part-of : (a e : ℕ) → e ≤ 1157 → slice a e x ≡ slice a e (planWords w)
-  part-of a e h = ap (drop a) (sym (take-take e 1157 x h) ∙ ap (take e) (L .front))
+  part-of : (a e : ℕ) → e ≤ 1285 → slice a e x ≡ slice a e (planWords w)
+  part-of a e h = ap (drop a) (sym (take-take e 1285 x h) ∙ ap (take e) (L .front))
 
-  -- the plan begins with the table's index
-  pub known : Known w x
+  -- the plan begins with the table's index and the reaches
+  pub laid-reached : Reached w x
   unfolding planWords
-  known = record {
+  laid-reached = record {
     accepted = L .accepted;
-    right = record {
-      front =
-          sym (take-take 832 1157 x (omega arith)) ∙ ap (take 832) (L .front) ∙
-          rw (append-assoc (indexWords w ++ rowWords w) (nodeWords w) (countWords w), append-assoc (indexWords w) (rowWords w) (nodeWords w ++ countWords w))
-          (take-at (indexWords w) (rowWords w ++ (nodeWords w ++ countWords w)) 832 (index-long w));
-    };
+    front =
+        sym (take-take 960 1285 x (omega arith)) ∙ ap (take 960) (L .front) ∙
+        rw (append-assoc (reachedWords w ++ rowWords w) (nodeWords w) (countWords w), append-assoc (reachedWords w) (rowWords w) (nodeWords w ++ countWords w))
+        (take-at (reachedWords w) (rowWords w ++ (nodeWords w ++ countWords w)) 960 (reached-long w));
   }
+
+  pub known : Known w x
+  known = reached-known w x laid-reached
+
+  pub reach-is : (y : ℕ) → reachIn x y ≡ reachOf w y
+  reach-is y = reach-told w x laid-reached y
 
   rows-are : rowsIn x ≡ rowWords w
   unfolding rowsIn planWords
   rows-are =
-      part-of 832 896 (omega arith) ∙
-      rw (append-assoc (indexWords w ++ rowWords w) (nodeWords w) (countWords w), append-assoc (indexWords w) (rowWords w) (nodeWords w ++ countWords w))
-      (slice-between (indexWords w) (rowWords w) (nodeWords w ++ countWords w) 832 896 (index-long w) (omega (arith, rows-long w)))
+      part-of 960 1024 (omega arith) ∙
+      rw (append-assoc (reachedWords w ++ rowWords w) (nodeWords w) (countWords w), append-assoc (reachedWords w) (rowWords w) (nodeWords w ++ countWords w))
+      (slice-between (reachedWords w) (rowWords w) (nodeWords w ++ countWords w) 960 1024 (reached-long w) (omega (arith, rows-long w)))
 
-  nodes-told : nodesIn x ≡ nodeWords w
+  pub nodes-told : nodesIn x ≡ nodeWords w
   unfolding nodesIn planWords
   nodes-told =
-      part-of 896 1153 (omega arith) ∙
-      rw (append-assoc (indexWords w ++ rowWords w) (nodeWords w) (countWords w))
-      (slice-between (indexWords w ++ rowWords w) (nodeWords w) (countWords w) 896 1153 (to-rows w) (omega (arith, nodes-long w)))
+      part-of 1024 1281 (omega arith) ∙
+      rw (append-assoc (reachedWords w ++ rowWords w) (nodeWords w) (countWords w))
+      (slice-between (reachedWords w ++ rowWords w) (nodeWords w) (countWords w) 1024 1281 (to-rows w) (omega (arith, nodes-long w)))
 
-  count-word : (i : ℕ) → i < 4 → word x (1153 + i) ≡ word (countWords w) i
+  count-word : (i : ℕ) → i < 4 → word x (1281 + i) ≡ word (countWords w) i
   unfolding planWords
   count-word i h =
-      sym (getD-take 1157 x (1153 + i) 0 (omega arith)) ∙ ap (λ (l : List ℕ). word l (1153 + i)) (L .front) ∙
+      sym (getD-take 1285 x (1281 + i) 0 (omega arith)) ∙ ap (λ (l : List ℕ). word l (1281 + i)) (L .front) ∙
       ap (λ (k : ℕ). word (planWords w) (k + i)) (sym (to-nodes w)) ∙
-      getD-append-add (indexWords w ++ rowWords w ++ nodeWords w) (countWords w) i 0
+      getD-append-add (reachedWords w ++ rowWords w ++ nodeWords w) (countWords w) i 0
 
   -- where the row of a bound name starts
   pub row-is : (y : ℕ) → publics w ≤ y → y < names w → word (rowsIn x) y ≡ rowOf w y

@@ -1,100 +1,39 @@
--- The count of row places, for any number of private values.
+-- The count of row places, by the reaches of names.
 use mathlib.Core.Path.{_≡_, refl, sym, _∙_}
-use mathlib.Core.Bool.{Bool, true, not}
-use mathlib.Core.List.{List, [], _∷_}
+use mathlib.Core.Bool.{Bool, true, false, true≢false}
 use Prim.Native.Nat.{ℕ, _+_, _*_, _≤_}
-use native.Mathlib.Nat.{mul-add, add-mul, mul-assoc, mul-left-comm}
-use native.Mathlib.Decide.{ℕ-discrete}
 use native.Mathlib.Omega.{arith}
 use lib.ListN.{length}
-use borrow.Author.Tests.{leb-true, le-leb, lt-ltb}
-use Rattle.lists.specs.Lists.{pick, same, from, keep, every, member}
-use Rattle.lists.proofs.Ranges.{from-member, every-at}
-use Rattle.lists.proofs.Members.{keep-same, member-here, member-there}
-use Rattle.lists.proofs.Sums.{total-pick}
-use Rattle.lists.proofs.Tests.{and-left, same-yes, same-no}
-use Rattle.scheme.specs.Words.{publics, bounds, nameKind}
-use Rattle.scheme.specs.Scheme.{Scheme, scheme}
-use Rattle.table.specs.Causes.{cause, kindsRight, nameKindRight}
-use Rattle.table.proofs.Passed.{passed}
-use Rattle.places.specs.Values.{allValues}
-use Rattle.places.specs.Held.{privateCount, valuesFor}
-use Rattle.places.specs.Places.{rows}
+use Rattle.lists.specs.Lists.{pick, from}
+use Rattle.lists.proofs.Ranges.{from-member}
+use Rattle.scheme.specs.Scheme.{Scheme}
+use Rattle.table.specs.Accepted.{Accepted}
+use Rattle.places.specs.Reach.{valuesFor, hasPrivates}
 use Rattle.places.specs.Rows.{rowLength}
-use Rattle.places.specs.RowPlaces.{rowPlaces, ofKind, CountOfRows}
+use Rattle.places.specs.RowPlaces.{rowPlaces, CountOfRows}
 use Rattle.places.proofs.Rows.{rows-length, free-start, control-first}
-use Rattle.places.proofs.AllValues.{row-length-all}
+use Rattle.places.proofs.ReachRows.{publicsOf, row-size, restricted-alone, restricted-yes}
+use Rattle.places.proofs.Totals.{total-same}
 
-module _ (S : Scheme) (N : ℕ) where
-  abbrev names : List ℕ
-  names = from (S .publics) (S .bounds)
+module _ (S : Scheme) (A : Accepted S) where
+  row-places : (x : ℕ) → S .publics ≤ x → rowLength S (valuesFor S) x ≡ rowPlaces S x
+  row-places x h = row-size S x h ∙ go (S .restricted x) refl (hasPrivates S x) refl
+    where
+      go : (b : Bool) → S .restricted x ≡ b → (c : Bool) → hasPrivates S x ≡ c
+          → length (publicsOf S x) + pick c (valuesFor S .privates) 0 + pick b 0 (pick c (valuesFor S .privates) 0)
+          ≡ pick b (valuesFor S .privates) (length (publicsOf S x) + pick c (2 * valuesFor S .privates) 0)
+      go true r true e = rw (restricted-alone S A x r) (omega arith)
+      go true r false e = absurd (true≢false (sym (restricted-yes S A x r) ∙ e))
+      go false r true e = omega arith
+      go false r false e = omega arith
 
-  abbrev restrictedNames : ℕ
-  restrictedNames = length (keep (S .restricted) names)
-
-  abbrev otherNames : ℕ
-  otherNames = length (keep (λ x. not (S .restricted x)) names)
-
-  count-rows : length (rows S (allValues S N)) ≡ otherNames * S .publics + (2 * otherNames + restrictedNames + 1) * N
-  count-rows =
+  pub count-of-rows : CountOfRows S
+  count-of-rows =
       omega (
         arith,
-        rows-length S (allValues S N),
-        control-first S (allValues S N),
-        free-start S (allValues S N),
-        total-pick (rowLength S (allValues S N)) (S .restricted) N (S .publics + 2 * N) names each,
-        mul-add otherNames (S .publics) (2 * N),
-        two otherNames N,
-        add-mul (2 * otherNames + restrictedNames) 1 N,
-        add-mul (2 * otherNames) restrictedNames N,
+        rows-length S (valuesFor S),
+        control-first S (valuesFor S),
+        free-start S (valuesFor S),
+        total-same (rowLength S (valuesFor S)) (rowPlaces S) (from (S .publics) (S .bounds))
+            (λ x m. row-places x (from-member x (S .publics) (S .bounds) m .0)),
       )
-    where
-      each : (x : ℕ) → member x names ≡ true → rowLength S (allValues S N) x ≡ pick (S .restricted x) N (S .publics + 2 * N)
-      each x m = row-length-all S N x (from-member x (S .publics) (S .bounds) m .0)
-
-      two : (m n : ℕ) → m * (2 * n) ≡ 2 * m * n
-      two m n = mul-left-comm m 2 n ∙ sym (mul-assoc 2 m n)
-
--- numbers of kinds 1 and 2 are those that are not of kind 0
-split : (k : ℕ → ℕ) (q : ℕ → Bool) (xs : List ℕ) → ((x : ℕ) → member x xs ≡ true → (q x ≡ same (k x) 0) × (k x ≤ 2))
-    → length (keep (λ x. not (q x)) xs) ≡ length (keep (λ x. same (k x) 1) xs) + length (keep (λ x. same (k x) 2) xs)
-unfolding keep
-split k q [] h = refl
-split k q (x ∷ xs) h = go (h x (member-here x xs)) (split k q xs (λ y m. h y (member-there y x xs m))) (ℕ-discrete (k x) 0) (ℕ-discrete (k x) 1)
-  where
-    go : (q x ≡ same (k x) 0) × (k x ≤ 2)
-        → length (keep (λ x. not (q x)) xs) ≡ length (keep (λ x. same (k x) 1) xs) + length (keep (λ x. same (k x) 2) xs)
-        → Dec (k x ≡ 0) → Dec (k x ≡ 1)
-        → length (pick (not (q x)) (x ∷ keep (λ x. not (q x)) xs) (keep (λ x. not (q x)) xs))
-        ≡ length (pick (same (k x) 1) (x ∷ keep (λ x. same (k x) 1) xs) (keep (λ x. same (k x) 1) xs))
-        + length (pick (same (k x) 2) (x ∷ keep (λ x. same (k x) 2) xs) (keep (λ x. same (k x) 2) xs))
-    go (e, l) ih (yes a) b = rw (e, same-yes (k x) 0 a, same-no (k x) 1 (λ p. omega arith), same-no (k x) 2 (λ p. omega arith)) ih
-    go (e, l) ih (no a) (yes b) = rw (e, same-no (k x) 0 a, same-yes (k x) 1 b, same-no (k x) 2 (λ p. omega arith)) (omega arith)
-    go (e, l) ih (no a) (no b) = rw (e, same-no (k x) 0 a, same-no (k x) 1 b, same-yes (k x) 2 (omega arith)) (omega arith)
-
-module _ (w : List ℕ) (h : cause w ≡ 0) where
-  kind-small : (x : ℕ) → member x (from (publics w) (bounds w)) ≡ true → nameKind w x ≤ 2
-  unfolding kindsRight nameKindRight
-  kind-small x m =
-      let b = from-member x (publics w) (bounds w) m in
-      leb-true (nameKind w x) 2 (every-at (nameKindRight w) (publics w) (bounds w)
-      (and-left (every (nameKindRight w) (from (publics w) (bounds w))) _ (passed w h .kinds)) x (b .0) (b .1))
-
-  kind-zero : (x : ℕ) → member x (from (publics w) (bounds w)) ≡ true → scheme w .restricted x ≡ same (nameKind w x) 0
-  unfolding scheme
-  kind-zero x m = let b = from-member x (publics w) (bounds w) m in rw (le-leb (publics w) x (b .0), lt-ltb x (publics w + bounds w) (b .1))
-
-  pub count-of-rows : CountOfRows w
-  unfolding scheme
-  count-of-rows n =
-      count-rows (scheme w) n
-      ∙ rw (
-        split (nameKind w) (scheme w .restricted) (from (publics w) (bounds w)) (λ x m. (kind-zero x m, kind-small x m)),
-        keep-same (scheme w .restricted) (λ x. same (nameKind w x) 0) (from (publics w) (bounds w)) kind-zero,
-      )
-      (omega (arith, mul-add 2 (ofKind w 1) (ofKind w 2)))
-
-  -- with the values in force
-  pub rows-in-force : length (rows (scheme w) (valuesFor (scheme w))) ≡ rowPlaces w (privateCount (scheme w))
-  unfolding valuesFor
-  rows-in-force = count-of-rows (privateCount (scheme w))

@@ -17,7 +17,7 @@ use Rattle.table.proofs.Accepted.{accepted}
 use Rattle.net.specs.Net.{Transition, encode}
 use Rattle.net.proofs.Encode
 use Rattle.places.specs.Values.{Values, privateValues, valuesOf, privateValuesOf}
-use Rattle.places.specs.Held.{valuesFor}
+use Rattle.places.specs.Reach.{valuesFor}
 use Rattle.places.specs.Places.{controlsAt, controls, places, isInitial}
 use Rattle.places.specs.Rows.{rowLength, controlStart}
 use Rattle.places.specs.Transitions.{Description, descriptions}

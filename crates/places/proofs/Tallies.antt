@@ -1,16 +1,17 @@
 -- Counting over ranges of numbers: sums, how many pass a test, and the largest of a list.
-use Prim.Native.Nat.{ℕ, zero, suc, _+_, _≤_, _<_}
+use Prim.Native.Nat.{ℕ, zero, suc, _+_, _*_, _≤_, _<_}
 use mathlib.Core.Path.{_≡_, refl, sym, _∙_}
 use mathlib.Core.Logic.{_⊎_, inl, inr}
-use mathlib.Core.Bool.{Bool, true, false, not, _&&_, _||_, true≢false}
+use mathlib.Core.Bool.{Bool, true, false, not, _&&_, _||_, true≢false, false≢true}
 use mathlib.Core.List.{List, [], _∷_, map}
 use native.Mathlib.Decide.{ℕ-discrete}
+use native.Mathlib.Nat.{suc-mul}
 use native.Mathlib.Omega.{arith}
 use lib.Dec.{ltb}
-use lib.ListN.{length}
+use lib.ListN.{length, getD}
 use borrow.Author.Tests.{ltb-true, ltb-false}
 use Rattle.lists.specs.Lists.{pick, bit, same, from, range, some, member, total, Distinct, more}
-use Rattle.lists.proofs.Tests.{or-left, or-right, same-self, same-no}
+use Rattle.lists.proofs.Tests.{or-cases, or-left, or-right, same-self, same-no}
 use Rattle.lists.proofs.Members.{member-cases, member-here, member-there, member-nil}
 use Rattle.places.specs.Held.{largest}
 use Rattle.places.specs.Inner.Holding.{count}
@@ -26,6 +27,16 @@ some-intro p x (y ∷ ys) m h = go (member-cases x y ys m) (λ i. some-intro p x
     go (inl e) ih = or-left (p y) (some p ys) (rw (← e) h)
     go (inr i) ih = or-right (p y) (some p ys) (ih i)
 
+pub some-elim : (p : ℕ → Bool) (xs : List ℕ) → some p xs ≡ true → (x : ℕ) × (member x xs ≡ true) × (p x ≡ true)
+unfolding some
+some-elim p [] h = absurd (false≢true h)
+some-elim p (y ∷ ys) h = go (or-cases (p y) (some p ys) h) (some-elim p ys)
+  where
+    go : (p y ≡ true) ⊎ (some p ys ≡ true) → (some p ys ≡ true → (x : ℕ) × (member x ys ≡ true) × (p x ≡ true))
+        → (x : ℕ) × (member x (y ∷ ys) ≡ true) × (p x ≡ true)
+    go (inl a) ih = (y, member-here y ys, a)
+    go (inr b) ih = let (x, m, q) = ih b in (x, member-there x y ys m, q)
+
 -- ---- sums below n
 
 unfoldable pub sum : (ℕ → ℕ) → ℕ → ℕ
@@ -36,6 +47,20 @@ pub sum-le : (f g : ℕ → ℕ) (n : ℕ) → ((x : ℕ) → x < n → f x ≤ 
 unfolding sum
 sum-le f g zero h = omega arith
 sum-le f g (suc n) h = omega (arith, h n (omega arith), sum-le f g n (λ x l. h x (omega arith)))
+
+pub sum-lt : (f g : ℕ → ℕ) (y n : ℕ) → y < n → f y < g y → ((x : ℕ) → x < n → f x ≤ g x) → sum f n < sum g n
+unfolding sum
+sum-lt f g y zero l s h = absurd (omega arith)
+sum-lt f g y (suc n) l s h = go (ℕ-discrete y n) (λ k. sum-lt f g y n k s (λ x m. h x (omega arith)))
+  where
+    go : Dec (y ≡ n) → (y < n → sum f n < sum g n) → f n + sum f n < g n + sum g n
+    go (yes p) ih = let q : f n < g n = rw p at s in omega (arith, sum-le f g n (λ x m. h x (omega arith)))
+    go (no p) ih = omega (arith, ih (omega arith), h n (omega arith))
+
+pub sum-most : (f : ℕ → ℕ) (c n : ℕ) → ((x : ℕ) → f x ≤ c) → sum f n ≤ n * c
+unfolding sum
+sum-most f c zero h = omega arith
+sum-most f c (suc n) h = omega (arith, h n, sum-most f c n h, suc-mul n c)
 
 pub sum-add : (f g : ℕ → ℕ) (n : ℕ) → sum (λ θ. f θ + g θ) n ≡ sum f n + sum g n
 unfolding sum
@@ -69,6 +94,44 @@ total-sum f n = go n 0 ∙ shifted n
     shifted (suc n) = let e : 0 + n ≡ n = omega arith in rw (e, shifted n)
 
 -- ---- how many pass a test
+
+pub count-le : (f g : ℕ → Bool) (lo n : ℕ) → ((x : ℕ) → lo ≤ x → x < lo + n → f x ≡ true → g x ≡ true) → count f lo n ≤ count g lo n
+unfolding count
+count-le f g lo zero h = omega arith
+count-le f g lo (suc n) h = go (f (lo + n)) refl (g (lo + n)) refl (count-le f g lo n (λ x a b. h x a (omega arith)))
+  where
+    go : (a : Bool) → f (lo + n) ≡ a → (b : Bool) → g (lo + n) ≡ b → count f lo n ≤ count g lo n
+        → bit (f (lo + n)) + count f lo n ≤ bit (g (lo + n)) + count g lo n
+    go true p true q ih = rw (p, q) (omega arith)
+    go true p false q ih = absurd (false≢true (sym q ∙ h (lo + n) (omega arith) (omega arith) p))
+    go false p b q ih = rw p (omega arith)
+
+pub count-lt : (f g : ℕ → Bool) (y lo n : ℕ) → lo ≤ y → y < lo + n → f y ≡ false → g y ≡ true
+    → ((x : ℕ) → lo ≤ x → x < lo + n → f x ≡ true → g x ≡ true) → count f lo n < count g lo n
+unfolding count
+count-lt f g y lo zero a b fy gy h = absurd (omega arith)
+count-lt f g y lo (suc n) a b fy gy h = go (ℕ-discrete y (lo + n)) (λ k. count-lt f g y lo n a k fy gy (λ x c d. h x c (omega arith)))
+  where
+    step : (u : Bool) → f (lo + n) ≡ u → (v : Bool) → g (lo + n) ≡ v → bit (f (lo + n)) ≤ bit (g (lo + n))
+    step true p true q = rw (p, q) (omega arith)
+    step true p false q = absurd (false≢true (sym q ∙ h (lo + n) (omega arith) (omega arith) p))
+    step false p v q = rw p (omega arith)
+
+    go : Dec (y ≡ lo + n) → (y < lo + n → count f lo n < count g lo n) → bit (f (lo + n)) + count f lo n < bit (g (lo + n)) + count g lo n
+    go (yes e) ih =
+        let p : f (lo + n) ≡ false = rw (← e) fy in
+        let q : g (lo + n) ≡ true = rw (← e) gy in
+        rw (p, q) (omega (arith, count-le f g lo n (λ x c d. h x c (omega arith))))
+    go (no e) ih = omega (arith, ih (omega arith), step (f (lo + n)) refl (g (lo + n)) refl)
+
+pub count-most : (f : ℕ → Bool) (lo n : ℕ) → count f lo n ≤ n
+unfolding count
+count-most f lo zero = omega arith
+count-most f lo (suc n) = go (f (lo + n)) (count-most f lo n)
+  where
+    go : (b : Bool) → count f lo n ≤ n → bit b + count f lo n ≤ suc n
+    go true ih = omega arith
+    go false ih = omega arith
 
 pub count-same : (f g : ℕ → Bool) (lo n : ℕ) → ((x : ℕ) → lo ≤ x → x < lo + n → f x ≡ g x) → count f lo n ≡ count g lo n
 unfolding count
@@ -148,3 +211,16 @@ largest-least c (y ∷ ys) h = go (ltb y (largest ys)) (largest-least c ys (λ x
     go : (b : Bool) → largest ys ≤ c → pick b (largest ys) y ≤ c
     go true ih = ih
     go false ih = h y (member-here y ys)
+
+-- ---- lists over a range
+
+pub getD-range : {A : Type 0} (f : ℕ → A) (d : A) (a n i : ℕ) → i < n → getD (map f (from a n)) i d ≡ f (a + i)
+unfolding from
+getD-range f d a zero i l = absurd (omega arith)
+getD-range f d a (suc n) zero l = let e : a + 0 ≡ a = omega arith in rw e
+getD-range f d a (suc n) (suc i) l = let e : a + 1 + i ≡ a + suc i = omega arith in getD-range f d (a + 1) n i (omega arith) ∙ rw e
+
+pub getD-past : {A : Type 0} (d : A) (xs : List A) (i : ℕ) → length xs ≤ i → getD xs i d ≡ d
+getD-past d [] i l = refl
+getD-past d (x ∷ xs) zero l = absurd (omega arith)
+getD-past d (x ∷ xs) (suc i) l = getD-past d xs i (omega arith)

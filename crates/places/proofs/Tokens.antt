@@ -1,6 +1,6 @@
--- How many places are marked at first: N for each input and formal, N for [*≠n], one for each thread.
+-- How many places are marked at first: N for each input and formal that may hold private values, N for [*≠n], one for each thread.
 use mathlib.Core.Path.{_≡_, refl, sym, ap, _∙_}
-use mathlib.Core.Bool.{Bool, true, false, not}
+use mathlib.Core.Bool.{Bool, true, false, not, _&&_}
 use mathlib.Core.List.{List, [], _∷_, _++_, map}
 use Prim.Native.Nat.{ℕ, _+_, _*_, _≤_, _<_}
 use native.Mathlib.Nat.{mul-le-mul}
@@ -20,11 +20,11 @@ use Rattle.table.specs.Causes.{cause}
 use Rattle.table.specs.Accepted.{Accepted}
 use Rattle.table.proofs.Accepted.{accepted}
 use Rattle.places.specs.Values.{Values, valuesOf, privateValuesOf}
-use Rattle.places.specs.Held.{valuesFor}
+use Rattle.places.specs.Reach.{valuesFor, hasPrivates}
 use Rattle.places.specs.Rows.{rowStart, freeStart, controlStart}
 use Rattle.places.specs.Inner.Arcs.{startsAt, initialNumbers}
-use Rattle.places.specs.Inner.Plan.{today, privatesOf, freeNames}
-use Rattle.places.proofs.Today.{otherNames, privates-length}
+use Rattle.places.specs.Inner.Plan.{today, privatesOf, readNames}
+use Rattle.places.proofs.ReachRows.{privates-count}
 use Rattle.places.proofs.Controls.{few-bounds, few-privates}
 
 some-member : (f : ℕ → ℕ) (n : ℕ) (xs : List ℕ) → some (λ t. same n (f t)) xs ≡ member n (map f xs)
@@ -82,14 +82,22 @@ module _ (S : Scheme) (ok : Accepted S) where
   abbrev differing : ℕ → List ℕ
   differing x = pick (S .restricted x) [] (from (rowStart S U x + length (valuesOf S U x)) (length (privateValuesOf S U x)))
 
-  row-tokens : (x : ℕ) → length (differing x) ≡ pick (S .restricted x) 0 (U .privates)
-  row-tokens x = go (S .restricted x)
-    where
-      go : (b : Bool) → length (pick b [] (from (rowStart S U x + length (valuesOf S U x)) (length (privateValuesOf S U x)))) ≡ pick b 0 (U .privates)
-      go true = refl
-      go false = from-length (rowStart S U x + length (valuesOf S U x)) (length (privateValuesOf S U x)) ∙ privates-length S x
+  -- the names whose rows New reads
+  abbrev isRead : ℕ → Bool
+  isRead x = not (S .restricted x) && hasPrivates S x
 
-  initial-count : length (initialNumbers S U) ≡ otherNames S * U .privates + U .privates + S .threads
+  row-tokens : (x : ℕ) → length (differing x) ≡ pick (isRead x) (U .privates) 0
+  row-tokens x = go (S .restricted x) (hasPrivates S x) refl
+    where
+      go : (b c : Bool) → hasPrivates S x ≡ c
+          → length (pick b [] (from (rowStart S U x + length (valuesOf S U x)) (length (privateValuesOf S U x)))) ≡ pick (not b && c) (U .privates) 0
+      go true c e = refl
+      go false true e =
+          from-length (rowStart S U x + length (valuesOf S U x)) (length (privateValuesOf S U x)) ∙ privates-count S x ∙ rw e
+      go false false e =
+          from-length (rowStart S U x + length (valuesOf S U x)) (length (privateValuesOf S U x)) ∙ privates-count S x ∙ rw e
+
+  initial-count : length (initialNumbers S U) ≡ length (keep isRead (from (S .publics) (S .bounds))) * U .privates + U .privates + S .threads
   unfolding initialNumbers
   initial-count =
       let xs = from (S .publics) (S .bounds) in
@@ -100,14 +108,14 @@ module _ (S : Scheme) (ok : Accepted S) where
         length-append (flat differing xs) (fs ++ ns),
         length-append fs ns,
         flat-length differing xs,
-        total-pick (λ x. length (differing x)) (S .restricted) 0 (U .privates) xs (λ x m. row-tokens x),
+        total-pick (λ x. length (differing x)) isRead (U .privates) 0 xs (λ x m. row-tokens x),
         from-length (freeStart S U) (U .privates),
         flat-keep-length (startsAt S U) (controlStart S U) (range (S .nodes)),
         starts-count,
       )
 
 module _ (w : List ℕ) (h : cause w ≡ 0) where
-  pub tokens-are : length (initialNumbers (scheme w) (today w)) ≡ freeNames w * privatesOf w + privatesOf w + threads w
+  pub tokens-are : length (initialNumbers (scheme w) (today w)) ≡ readNames w * privatesOf w + privatesOf w + threads w
   unfolding scheme
   tokens-are = initial-count (scheme w) (accepted w h)
 
@@ -115,8 +123,13 @@ module _ (w : List ℕ) (h : cause w ≡ 0) where
   unfolding scheme
   few-threads = accepted w h .few-threads
 
-  pub free-few : freeNames w ≤ bounds w
-  free-few = omega (arith, keep-length (λ x. not (scheme w .restricted x)) (from (publics w) (bounds w)), from-length (publics w) (bounds w))
+  pub read-few : readNames w ≤ bounds w
+  read-few = omega (
+    arith,
+    keep-length (λ x. not (scheme w .restricted x) && hasPrivates (scheme w) x) (from (publics w) (bounds w)),
+    from-length (publics w)
+        (bounds w),
+  )
 
   pub product-few : (f b : ℕ) → f ≤ bounds w → b ≤ 32 → f * b ≤ 1024
   product-few f b l v =
@@ -125,4 +138,4 @@ module _ (w : List ℕ) (h : cause w ≡ 0) where
 
   pub tokens-few : length (initialNumbers (scheme w) (today w)) < 65536
   tokens-few =
-      omega (arith, tokens-are, few-threads, few-privates w h, product-few (freeNames w) (privatesOf w) free-few (few-privates w h))
+      omega (arith, tokens-are, few-threads, few-privates w h, product-few (readNames w) (privatesOf w) read-few (few-privates w h))

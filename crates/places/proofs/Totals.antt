@@ -1,29 +1,26 @@
--- The arcs of all transitions that differ only in their values, added up by products, for today's values: what a first pass counts without going over values.
+-- The arcs of all transitions that differ only in their values, added up by products, for the values in force: what a first pass counts without going over
+-- values.
 use mathlib.Core.Path.{_≡_, refl, sym, _∙_}
-use mathlib.Core.Bool.{Bool, true, false}
+use mathlib.Core.Bool.{true, false, _||_}
 use mathlib.Core.List.{List, [], _∷_, map}
-use Prim.Native.Nat.{ℕ, zero, suc, _+_, _-_, _*_, _≤_, _<_}
-use native.Mathlib.Decide.{decLe}
+use Prim.Native.Nat.{ℕ, _+_, _*_, _<_}
 use native.Mathlib.Nat.{suc-mul}
 use native.Mathlib.Omega.{arith}
 use lib.Dec.{ltb, leb}
 use lib.ListN.{length}
-use borrow.Author.Tests.{le-leb, lt-leb, le-ltb, lt-ltb}
-use Rattle.lists.specs.Lists.{pick, bit, from, flat, member, positions, total}
+use Rattle.lists.specs.Lists.{bit, flat, member, positions, total}
 use Rattle.lists.proofs.Tests.{and-left, and-right, same-no, same-yes}
 use Rattle.lists.proofs.Members.{member-here, member-there, member-keep}
 use Rattle.lists.proofs.Sums.{sum, sum-append}
 use Rattle.scheme.specs.Scheme.{Scheme, send, receive}
 use Rattle.table.specs.Accepted.{Accepted}
-use Rattle.places.specs.Values.{Values, valuesOf}
-use Rattle.places.specs.Held.{valuesFor}
-use Rattle.places.specs.Places.{controls, places, common}
+use Rattle.places.specs.Values.{Values, valuesOf, shares}
+use Rattle.places.specs.Reach.{valuesFor}
+use Rattle.places.specs.Places.{controls, places, common, isCommon}
 use Rattle.places.specs.Rows.{IsBound}
 use Rattle.places.specs.Transitions.{Description, isInput, isOutput, releasing, copying, communicating, sentOn}
-use Rattle.places.specs.Inner.Spans.{firstValue, endValue}
-use Rattle.places.proofs.Spans.{values-span, value-member}
 use Rattle.places.proofs.ArcCounts.{release-inputs, release-outputs, copy-inputs, copy-outputs}
-use Rattle.places.proofs.CommunicationCounts.{communication-inputs, communication-outputs, self-inputs, self-outputs}
+use Rattle.places.proofs.CommunicationCounts.{sent-held, communication-inputs, communication-outputs, self-inputs, self-outputs}
 
 -- ---- sums
 
@@ -54,22 +51,6 @@ sum-flat-is f g h [] e = refl
 sum-flat-is f g h (x ∷ xs) e =
     omega (arith, sum-append f (g x) (flat g xs), e x (member-here x xs), sum-flat-is f g h xs (λ z m. e z (member-there z x xs m)))
 
--- how many of the numbers from a on are p or above
-total-from : (p a n : ℕ) → total (map (λ v. bit (leb p v)) (from a n)) ≡ (a + n) - pick (ltb a p) p a
-unfolding total from
-total-from p a zero = go (decLe p a)
-  where
-    go : Dec (p ≤ a) → 0 ≡ (a + 0) - pick (ltb a p) p a
-    go (yes l) = rw (le-ltb a p l) (omega arith)
-    go (no l) = rw (lt-ltb a p (omega arith)) (omega arith)
-total-from p a (suc n) = go (decLe p a) (decLe p (a + 1)) (total-from p (a + 1) n)
-  where
-    go : Dec (p ≤ a) → Dec (p ≤ a + 1) → total (map (λ v. bit (leb p v)) (from (a + 1) n)) ≡ (a + 1 + n) - pick (ltb (a + 1) p) p (a + 1)
-        → bit (leb p a) + total (map (λ v. bit (leb p v)) (from (a + 1) n)) ≡ (a + suc n) - pick (ltb a p) p a
-    go (yes l) k ih = rw (ih, le-leb p a l, le-ltb a p l, le-ltb (a + 1) p (omega arith)) (omega arith)
-    go (no l) (yes k) ih = rw (ih, lt-leb p a (omega arith), lt-ltb a p (omega arith), le-ltb (a + 1) p k) (omega arith)
-    go (no l) (no k) ih = rw (ih, lt-leb p a (omega arith), lt-ltb a p (omega arith), lt-ltb (a + 1) p (omega arith)) (omega arith)
-
 module _ (S : Scheme) (ok : Accepted S) where
   abbrev U : Values
   U = valuesFor S
@@ -87,26 +68,6 @@ module _ (S : Scheme) (ok : Accepted S) where
   abbrev pub boundBit : ℕ → ℕ
   boundBit x = bit (leb (S .publics) x)
 
-  pub privates-bound : (x : ℕ) → S .publics ≤ x → privatesAmong (valuesOf S U x) ≡ U .privates
-  unfolding firstValue endValue
-  privates-bound x h =
-      rw (values-span S x) (total-from (S .publics) (firstValue S x) (endValue S x - firstValue S x) ∙ rw (le-ltb x (S .publics) h) (go (S .restricted x)))
-    where
-      go : (b : Bool)
-          → pick b (S .publics) 0 + (S .publics + U .privates - pick b (S .publics) 0) - pick (ltb (pick b (S .publics) 0) (S .publics)) (S .publics)
-          (pick b (S .publics) 0)
-          ≡ U .privates
-      go true = rw (le-ltb (S .publics) (S .publics) (omega arith)) (omega arith)
-      go false = zero-case (decLe (S .publics) 0)
-        where
-          zero-case : Dec (S .publics ≤ 0) → 0 + (S .publics + U .privates - 0) - pick (ltb 0 (S .publics)) (S .publics) 0 ≡ U .privates
-          zero-case (yes l) = rw (le-ltb 0 (S .publics) l) (omega arith)
-          zero-case (no l) = rw (lt-ltb 0 (S .publics) (omega arith)) (omega arith)
-
-  pub privates-public : (x : ℕ) → x < S .publics → privatesAmong (valuesOf S U x) ≡ 0
-  unfolding valuesOf total
-  privates-public x h = rw (lt-ltb x (S .publics) h, lt-leb (S .publics) x h)
-
   -- ---- releases of one name
 
   module _ (n m k z : ℕ) (l : n < S .nodes) (u : m < S .nodes) (h : k < controls S n) (b : IsBound S U z) where
@@ -117,35 +78,24 @@ module _ (S : Scheme) (ok : Accepted S) where
         (λ v i. release-inputs S ok n m k z v l u h b i)
         ∙ total-each 2 (valuesOf S U z)
 
-    pub release-output-sum : outputSum (map (releasing S U n m k z) (valuesOf S U z)) ≡ length (valuesOf S U z) + U .privates
+    pub release-output-sum : outputSum (map (releasing S U n m k z) (valuesOf S U z)) ≡ length (valuesOf S U z) + privatesAmong (valuesOf S U z)
     release-output-sum =
         sum-of-map (λ d. length (positions (isOutput S d) (places S U))) (releasing S U n m k z) (valuesOf S U z)
         ∙ total-same (λ v. length (positions (isOutput S (releasing S U n m k z v)) (places S U))) (λ v. 1 + bit (leb (S .publics) v)) (valuesOf S U z)
         (λ v i. release-outputs S ok n m k z v l u h b i)
-        ∙ total-line 1 (λ v. bit (leb (S .publics) v)) (valuesOf S U z) ∙ rw (privates-bound z (b .0)) (omega arith)
-
-  value-small : (x v : ℕ) → member v (valuesOf S U x) ≡ true → v < S .publics + U .privates
-  unfolding endValue
-  value-small x v m = go (decLe (S .publics) x) (value-member S x v m .1)
-    where
-      go : Dec (S .publics ≤ x) → v < pick (ltb x (S .publics)) (x + 1) (S .publics + U .privates) → v < S .publics + U .privates
-      go (yes l) h = rw (le-ltb x (S .publics) l) at h
-      go (no l) h =
-          let k : x < S .publics = omega arith in
-          let g : v < x + 1 = rw (lt-ltb x (S .publics) k) at h in
-          omega arith
+        ∙ total-line 1 (λ v. bit (leb (S .publics) v)) (valuesOf S U z) ∙ omega arith
 
   -- ---- copies of one formal
 
   module _ (n m k f a : ℕ) (l : n < S .nodes) (u : m < S .nodes) (h : k < controls S n) (b : IsBound S U f) (r : S .restricted f ≡ false)
-      (c : a < S .publics + S .bounds) (d : a ≡ f → ⊥) where
+      (c : a < S .publics + S .bounds) (d : a ≡ f → ⊥) (flow : (v : ℕ) → member v (valuesOf S U a) ≡ true → member v (valuesOf S U f) ≡ true) where
     pub copy-input-sum : inputSum (map (copying S U n m k f a) (valuesOf S U a))
         ≡ length (valuesOf S U a) * (1 + boundBit a) + privatesAmong (valuesOf S U a)
     copy-input-sum =
         sum-of-map (λ d. length (positions (isInput S d) (places S U))) (copying S U n m k f a) (valuesOf S U a)
         ∙ total-same (λ v. length (positions (isInput S (copying S U n m k f a v)) (places S U))) (λ v. 1 + boundBit a + bit (leb (S .publics) v))
         (valuesOf S U a)
-        (λ v i. copy-inputs S ok n m k f a v l u h b r c d i (value-small a v i)
+        (λ v i. copy-inputs S ok n m k f a v l u h b r c d i (flow v i)
         ∙ (let q : 1 + (boundBit a + bit (leb (S .publics) v)) ≡ 1 + boundBit a + bit (leb (S .publics) v) = omega arith in q))
         ∙ total-line (1 + boundBit a) (λ v. bit (leb (S .publics) v)) (valuesOf S U a)
 
@@ -153,7 +103,7 @@ module _ (S : Scheme) (ok : Accepted S) where
     copy-output-sum =
         sum-of-map (λ d. length (positions (isOutput S d) (places S U))) (copying S U n m k f a) (valuesOf S U a)
         ∙ total-same (λ v. length (positions (isOutput S (copying S U n m k f a v)) (places S U))) (λ v. 2 + boundBit a) (valuesOf S U a)
-        (λ v i. copy-outputs S ok n m k f a v l u h b r c d i (value-small a v i))
+        (λ v i. copy-outputs S ok n m k f a v l u h b r c d i (flow v i))
         ∙ total-each (2 + boundBit a) (valuesOf S U a)
 
   -- ---- communications of a send and a receive
@@ -165,8 +115,13 @@ module _ (S : Scheme) (ok : Accepted S) where
 
     common-both : (i : ℕ) → member i (common S U a e) ≡ true → (member i (valuesOf S U a) ≡ true) × (member i (valuesOf S U e) ≡ true)
     common-both i h =
-        let q = sym (member-keep (λ i. member i (valuesOf S U e)) i (valuesOf S U a)) ∙ h in
-        (and-right (member i (valuesOf S U e)) (member i (valuesOf S U a)) q, and-left (member i (valuesOf S U e)) (member i (valuesOf S U a)) q)
+        let q = sym (member-keep (isCommon S U a e) i (valuesOf S U a)) ∙ h in (
+          and-right (isCommon S U a e i) (member i (valuesOf S U a)) q,
+          and-left (member i (valuesOf S U e)) (ltb i (S .publics) || shares S U a e) (and-left (isCommon S U a e i) (member i (valuesOf S U a)) q),
+        )
+
+    held : (i j : ℕ) → member i (common S U a e) ≡ true → member j (valuesOf S U z) ≡ true → member j (valuesOf S U y) ≡ true
+    held i j = sent-held S ok s a z l r e y m sends receives differ i j
 
     -- different names
     module _ (d : z ≡ a → ⊥) where
@@ -178,7 +133,7 @@ module _ (S : Scheme) (ok : Accepted S) where
           (sum-of-map (λ d. length (positions (isInput S d) (places S U))) (communicating S U s a z l r e y m i) (valuesOf S U z)
           ∙ total-same (λ j. length (positions (isInput S (communicating S U s a z l r e y m i j)) (places S U)))
           (λ j. 2 + (boundBit a + (boundBit e + boundBit z)) + bit (leb (S .publics) j)) (valuesOf S U z)
-          (λ j k. communication-inputs S ok s a z l r e y m sends receives differ i j (common-both i h .0) (common-both i h .1) k (value-small z j k) d ∙
+          (λ j k. communication-inputs S ok s a z l r e y m sends receives differ i j (common-both i h .0) (common-both i h .1) k (held i j h k) d ∙
           (let q : 2 + (boundBit a + (boundBit e + (boundBit z + boundBit j))) ≡ 2 + (boundBit a + (boundBit e + boundBit z)) + boundBit j = omega arith in q))
           ∙ total-line (2 + (boundBit a + (boundBit e + boundBit z))) (λ j. bit (leb (S .publics) j)) (valuesOf S U z))
 
@@ -197,7 +152,7 @@ module _ (S : Scheme) (ok : Accepted S) where
           (sum-of-map (λ d. length (positions (isOutput S d) (places S U))) (communicating S U s a z l r e y m i) (valuesOf S U z)
           ∙ total-same (λ j. length (positions (isOutput S (communicating S U s a z l r e y m i j)) (places S U)))
           (λ j. 3 + (boundBit a + (boundBit e + boundBit z))) (valuesOf S U z)
-          (λ j k. communication-outputs S ok s a z l r e y m sends receives differ i j (common-both i h .0) (common-both i h .1) k (value-small z j k) d)
+          (λ j k. communication-outputs S ok s a z l r e y m sends receives differ i j (common-both i h .0) (common-both i h .1) k (held i j h k) d)
           ∙ total-each (3 + (boundBit a + (boundBit e + boundBit z))) (valuesOf S U z))
 
       pub pair-output-sum : outputSum pairs ≡ length (common S U a e) * (length (valuesOf S U z) * (3 + (boundBit a + (boundBit e + boundBit z))))
@@ -223,7 +178,7 @@ module _ (S : Scheme) (ok : Accepted S) where
               (omega (
                 arith,
                 self-inputs S ok s a z l r e y m sends receives differ i is (common-both i h .0) (common-both i h .1)
-                    (value-small a i (common-both i h .0)),
+                    (held i i h (rw is (common-both i h .0))),
               ))
 
       pub self-output-sum : outputSum pairs ≡ length (common S U a e) * (3 + (boundBit e + boundBit a))
@@ -240,5 +195,5 @@ module _ (S : Scheme) (ok : Accepted S) where
               (omega (
                 arith,
                 self-outputs S ok s a z l r e y m sends receives differ i is (common-both i h .0) (common-both i h .1)
-                    (value-small a i (common-both i h .0)),
+                    (held i i h (rw is (common-both i h .0))),
               ))

@@ -15,7 +15,7 @@ use Rattle.scheme.specs.Scheme.{Scheme, Node, stop, choice, new, call, Branch, 
 use Rattle.scheme.specs.Kinds.{isReceive}
 use Rattle.table.specs.Accepted.{Accepted}
 use Rattle.places.specs.Values.{Values, privateValues, valuesOf}
-use Rattle.places.specs.Places.{common}
+use Rattle.places.specs.Places.{common, isCommon}
 use Rattle.places.specs.Transitions.{Description, releases, releasing, copies, copying, making, going, silents, calling, ofNode, communicating}
 use Rattle.places.specs.Transitions.{sentOn, ofPair, descriptions}
 use Rattle.places.proofs.Arcs.{wordsOf, words-few}
@@ -137,7 +137,7 @@ module _ (S : Scheme) (U : Values) (ok : Accepted S) (few : U .privates ≤ S .b
       go false = values-few z
 
   common-few : (a e : ℕ) → length (common S U a e) ≤ valueBound
-  common-few a e = omega (arith, keep-length (λ i. member i (valuesOf S U e)) (valuesOf S U a), values-few a)
+  common-few a e = omega (arith, keep-length (isCommon S U a e) (valuesOf S U a), values-few a)
 
   communications-weigh : (s a z l r e y m : ℕ)
       → weight (flat (λ i. map (communicating S U s a z l r e y m i) (sentOn S U a z i)) (common S U a e)) ≤ pairWords

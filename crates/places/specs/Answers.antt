@@ -10,6 +10,7 @@ use Rattle.table.specs.Causes.{cause}
 use Rattle.net.specs.Net.{inputTotal, outputTotal}
 use Rattle.places.specs.Image.{netOf}
 use Rattle.places.specs.Plan.{planWords, planEnd}
+use Rattle.places.specs.Sides.{pairWords, pairsEnd}
 use Rattle.places.specs.declared.count.Totals.{Totals}
 use Rattle.places.specs.declared.Planned.{Planned}
 use Rattle.places.specs.declared.Planned.the-variants.{Ready, Refused, Short}
@@ -52,19 +53,40 @@ planned Ready left = outcome ready left
 planned (Refused v) left = outcome (refused (causeOf v)) left
 planned Short left = outcome short left
 
-abbrev pub measured : Measured → List ℕ → Outcome
-measured (measure.Net t) left = outcome (counted (sumsOf t)) left
-measured (measure.Refused v) left = outcome (refused (causeOf v)) left
-measured measure.Short left = outcome short left
-
 -- "Checking a table precedes checking anything else"; then whether there is room. A refusal leaves the lent words.
-unfoldable pub laidOutcome : Answer → List ℕ → List ℕ → Outcome
-laidOutcome done w lent =
-    pick (same (cause w) 0) (pick (leb planEnd (length lent)) (outcome done (planWords w ++ drop planEnd lent)) (outcome short lent))
+unfoldable pub planOutcome : List ℕ → List ℕ → Outcome
+planOutcome w lent =
+    pick (same (cause w) 0) (pick (leb planEnd (length lent)) (outcome ready (planWords w ++ drop planEnd lent)) (outcome short lent))
     (outcome (refused (cause w)) lent)
 
-abbrev pub planOutcome : List ℕ → List ℕ → Outcome
-planOutcome w lent = laidOutcome ready w lent
+-- an answer, and the words lent for the plan and those lent for the pairs as the call leaves them
+pub record Measurement : Type 0 where
+  pub answer : Answer
+  pub left : List ℕ
+  pub pairs : List ℕ
 
-abbrev pub measureOutcome : List ℕ → List ℕ → Outcome
-measureOutcome w lent = laidOutcome (counted (netSums w)) w lent
+abbrev pub measurement : Answer → List ℕ → List ℕ → Measurement
+measurement answer left pairs = record { answer = answer; left = left; pairs = pairs }
+
+abbrev pub answered : Measured → Answer
+answered (measure.Net t) = counted (sumsOf t)
+answered (measure.Refused v) = refused (causeOf v)
+answered measure.Short = short
+
+abbrev pub measured : Measured → List ℕ → List ℕ → Measurement
+measured r left pairs = measurement (answered r) left pairs
+
+-- the same order: the table, then whether there is room for the plan and for the pairs. A refusal leaves all lent words.
+unfoldable pub measureOutcome : List ℕ → List ℕ → List ℕ → Measurement
+measureOutcome w lent pairs =
+    pick (same (cause w) 0)
+    (pick (leb planEnd (length lent))
+    (pick (leb pairsEnd (length pairs))
+    (measurement (counted (netSums w)) (planWords w ++ drop planEnd lent) (pairWords w (planWords w) pairs))
+    (measurement short lent pairs))
+    (measurement short lent pairs))
+    (measurement (refused (cause w)) lent pairs)
+
+-- where there is no room for the pairs
+abbrev pub shortAnswer : List ℕ → Answer
+shortAnswer w = pick (same (cause w) 0) short (refused (cause w))

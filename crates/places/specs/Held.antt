@@ -1,11 +1,10 @@
--- The names held at a control place (document 01, Transitions), N, and the values in force (document 02, Item 3).
+-- The names held at a control place (document 01, Transitions), and N (document 02, Item 3).
 use mathlib.Core.List.{List, [], _∷_, _++_, map}
 use Prim.Native.Nat.{ℕ, suc, _-_}
 use lib.Dec.{ltb}
 use lib.ListN.{length, take, drop}
 use Rattle.lists.specs.Lists.{pick, same, from, range, some, keep, flat, total}
 use Rattle.scheme.specs.Scheme.{Scheme, Node, stop, choice, new, call}
-use Rattle.places.specs.Values.{Values, allValues}
 use Rattle.places.specs.Places.{controls}
 
 -- the largest of a list, 0 of none
@@ -33,7 +32,3 @@ module _ (S : Scheme) where
   -- N. "With no restricted names N is now 0. Otherwise N is the sum, over threads"
   unfoldable pub privateCount : ℕ
   privateCount = pick (some (S .restricted) (from (S .publics) (S .bounds))) (total (map mostHeld (range (S .threads)))) 0
-
-  -- the values in force: those of the image, of reading back and of every claim
-  unfoldable pub valuesFor : Values
-  valuesFor = allValues S privateCount

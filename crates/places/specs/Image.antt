@@ -6,7 +6,7 @@ use Rattle.lists.specs.Lists.{positions}
 use Rattle.scheme.specs.Scheme.{Scheme, scheme}
 use Rattle.net.specs.Net.{Net, Transition, encode}
 use Rattle.places.specs.Values.{Values}
-use Rattle.places.specs.Held.{valuesFor}
+use Rattle.places.specs.Reach.{valuesFor}
 use Rattle.places.specs.Places.{places, isInitial}
 use Rattle.places.specs.Transitions.{Description, isInput, isOutput, descriptions}
 

@@ -1,6 +1,8 @@
 pub mod Values
 pub mod Places
 pub mod Held
+pub mod Reach
+pub mod Sets
 pub mod Rows
 pub mod RowPlaces
 pub mod Transitions
@@ -8,4 +10,5 @@ pub mod Image
 pub mod Plan
 pub mod Answers
 pub mod Reaches
+pub mod Sides
 pub mod Inner

@@ -1,26 +1,36 @@
--- The values of a name as a reach: publics from a first one to an end, and all private values or none.
-use mathlib.Core.Bool.{Bool, true, false, _&&_}
+-- The reach of a name as two sets: the public names in it, and the restricted ones, counted from the first bound name.
+use mathlib.Core.Bool.{Bool, false}
+use mathlib.Core.List.{List}
 use Prim.Native.Nat.{ℕ, _+_}
+use lib.Bits.{bitAnd}
 use lib.Dec.{ltb}
-use Rattle.lists.specs.Lists.{pick}
-use Rattle.scheme.specs.Scheme.{Scheme}
-use Rattle.places.specs.declared.layout.Reach.{Reach}
+use Rattle.lists.specs.Lists.{pick, same}
+use Rattle.scheme.specs.Words.{publics, bounds}
+use Rattle.scheme.specs.Scheme.{scheme}
+use Rattle.places.specs.Reach.{valuesFor}
+use Rattle.places.specs.Sets.{setOf}
+use Rattle.places.specs.declared.reach.Reach.{Reach}
 
-abbrev pub reach : ℕ → ℕ → Bool → Reach
-reach low high privates = record { low = low; high = high; privates = privates }
+abbrev pub reach : ℕ → ℕ → Reach
+reach publics restricted = record { publics = publics; restricted = restricted }
 
--- "A bound input or formal ranges over all values, a restricted name over the private ones, a public over itself."
-unfoldable pub reachOf : Scheme → ℕ → Reach
-reachOf S x = pick (ltb x (S .publics)) (reach x (x + 1) false) (pick (S .restricted x) (reach 0 0 true) (reach 0 (S .publics) true))
+module _ (w : List ℕ) where
+  -- the public names in the reach of a name, and the restricted ones, as sets
+  abbrev pub publicWord : ℕ → ℕ
+  publicWord x = setOf (valuesFor (scheme w) .origins x) (publics w)
 
-abbrev pub greatest : ℕ → ℕ → ℕ
-greatest a b = pick (ltb a b) b a
+  abbrev pub restrictedWord : ℕ → ℕ
+  restrictedWord x = setOf (λ k. valuesFor (scheme w) .origins x (publics w + k)) (bounds w)
+
+  abbrev pub reachOf : ℕ → Reach
+  reachOf x = reach (publicWord x) (restrictedWord x)
+
+-- "common to both": "A channel value is private only if both reaches share a restricted name."
+unfoldable pub commonReach : Reach → Reach → Reach
+commonReach a b = reach (bitAnd (a .publics) (b .publics)) (bitAnd (a .restricted) (b .restricted))
+
+unfoldable pub isEmpty : Reach → Bool
+isEmpty r = pick (same (r .publics) 0) (same (r .restricted) 0) false
 
 abbrev pub least : ℕ → ℕ → ℕ
 least a b = pick (ltb a b) a b
-
--- "common to both"
-unfoldable pub commonReach : Reach → Reach → Reach
-commonReach a b =
-    let low = greatest (a .low) (b .low) in
-    reach low (greatest low (least (a .high) (b .high))) (a .privates && b .privates)

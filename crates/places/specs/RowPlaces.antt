@@ -1,23 +1,21 @@
--- How many row places a net has (document 01, Places), whatever the number of private values.
+-- How many row places a net has (document 01, Places, by the reaches of document 02, Item 4).
 use mathlib.Core.Path.{_≡_}
-use mathlib.Core.List.{List}
+use mathlib.Core.List.{map}
 use Prim.Native.Nat.{ℕ, _+_, _*_}
 use lib.ListN.{length}
-use Rattle.lists.specs.Lists.{same, from, keep}
-use Rattle.scheme.specs.Words.{publics, bounds, nameKind}
-use Rattle.scheme.specs.Scheme.{scheme}
-use Rattle.places.specs.Values.{allValues}
+use Rattle.lists.specs.Lists.{pick, from, range, keep, total}
+use Rattle.scheme.specs.Scheme.{Scheme}
+use Rattle.places.specs.Reach.{valuesFor, hasPrivates}
 use Rattle.places.specs.Places.{rows}
 
-module _ (w : List ℕ) where
-  -- "names: B words, 0 restricted, 1 input, 2 formal": how many names are of a kind
-  abbrev pub ofKind : ℕ → ℕ
-  ofKind kind = length (keep (λ x. same (nameKind w x) kind) (from (publics w) (bounds w)))
-
-  -- "This is (I+F)P + (2I+2F+R+1)N, I, F, R counting inputs, formals, restricted names."
+module _ (S : Scheme) where
+  -- "input or formal x has [x=v] …, then [x≠n]": the publics in its reach and, if a restricted name is in it, N private values twice.
+  -- "restricted r has [r=n] for N"
   abbrev pub rowPlaces : ℕ → ℕ
-  rowPlaces n = (ofKind 1 + ofKind 2) * publics w + (2 * ofKind 1 + 2 * ofKind 2 + ofKind 0 + 1) * n
+  rowPlaces x =
+      pick (S .restricted x) (valuesFor S .privates)
+      (length (keep (valuesFor S .origins x) (range (S .publics))) + pick (hasPrivates S x) (2 * valuesFor S .privates) 0)
 
-  -- the rows with n private values have so many places, for any n
+  -- "Per bound name in order", "Then [*≠n] for N."
   abbrev pub CountOfRows : Type 0
-  CountOfRows = (n : ℕ) → length (rows (scheme w) (allValues (scheme w) n)) ≡ rowPlaces n
+  CountOfRows = length (rows S (valuesFor S)) ≡ total (map rowPlaces (from (S .publics) (S .bounds))) + valuesFor S .privates

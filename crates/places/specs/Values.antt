@@ -1,20 +1,17 @@
 -- The values that names may hold (document 01, Places and Transitions). A value is a number: a public name is itself, private value n is P + n.
 -- Everything that ranges over values goes through these definitions.
-use mathlib.Core.Bool.{Bool, not, _||_}
+use mathlib.Core.Bool.{Bool, _&&_}
 use mathlib.Core.List.{List, [], _∷_}
 use Prim.Native.Nat.{ℕ, _+_}
-use lib.Dec.{ltb, leb}
-use Rattle.lists.specs.Lists.{pick, from, range, keep}
+use lib.Dec.{ltb}
+use Rattle.lists.specs.Lists.{pick, from, range, keep, some}
 use Rattle.scheme.specs.Scheme.{Scheme}
 
--- N, and which values a bound name may hold
+-- N, which public and restricted names are in the reach of a name, and which values a bound name may hold
 pub record Values : Type 0 where
   pub privates : ℕ
+  pub origins : ℕ → ℕ → Bool
   pub reach : ℕ → ℕ → Bool
-
--- "A bound input or formal ranges over all values, a restricted name over the private ones": with n private values
-abbrev pub allValues : Scheme → ℕ → Values
-allValues S n = record { privates = n; reach = λ x v. not (S .restricted x) || leb (S .publics) v }
 
 module _ (S : Scheme) (U : Values) where
   -- the private values, upward
@@ -28,3 +25,7 @@ module _ (S : Scheme) (U : Values) where
   -- the private values of a bound name
   unfoldable pub privateValuesOf : ℕ → List ℕ
   privateValuesOf x = keep (U .reach x) privateValues
+
+  -- "both reaches share a restricted name"
+  unfoldable pub shares : ℕ → ℕ → Bool
+  shares a e = some (λ o. S .restricted o && (U .origins a o && U .origins e o)) (from (S .publics) (S .bounds))

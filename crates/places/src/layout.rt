@@ -1,37 +1,39 @@
-// The values of a name, and where places stand: rows of names, control places of nodes, [*≠n].
+// Where places stand: rows of names, control places of nodes, [*≠n].
 ghost use mathlib.Core.Path.{_≡_};
+ghost use mathlib.Core.Bool.{not, _&&_};
 ghost use mathlib.Core.List.{_++_};
 ghost use Prim.Native.Nat.{_+_, _<_, _≤_};
 ghost use lib.ListN.{length, drop, replicate};
 ghost use lib.Seq.{sets};
+ghost use Rattle.lists.specs.Lists.{word, same};
 ghost use Rattle.scheme.specs.Words.{bounds, nodes};
 ghost use Rattle.scheme.specs.Scheme.{scheme};
+ghost use Rattle.table.specs.Causes.{cause};
 ghost use Rattle.table.specs.Known.{Known};
 ghost use Rattle.places.specs.Rows.{freeStart};
 ghost use Rattle.places.specs.Plan.{rowsAt, nodesAt, planEnd, rowWord, rowWords, nodeWord, nodeWords, planWords};
-ghost use Rattle.places.specs.Reaches.{reachOf};
-ghost use Rattle.places.specs.Inner.Plan.{today, privatesOf, controlOf, freeNames};
+ghost use Rattle.places.specs.Plan.{restrictedIn, Reached};
+ghost use Rattle.places.specs.Inner.Holding.{HeldBelow};
+ghost use Rattle.places.specs.Inner.Plan.{today, privatesOf, controlOf, freeNames, readNames};
 use crate::lookup::FREE;
 use crate::lookup::NODES;
 use crate::lookup::PLACES;
 use crate::lookup::PRIVATES;
 use crate::lookup::ROWS;
 use crate::lookup::TOKENS;
+use crate::privates::hold_all;
 use crate::privates::private_values;
+use crate::reach::has_privates;
+use crate::reach::rank;
+use crate::reach::reach_of;
+use crate::rounds::fill_reaches;
 use lists::store32;
 use lists::word16;
+use lists::word32;
 use scheme::fields::field1;
 use scheme::fields::field3;
 use scheme::fields::field4;
 use scheme::fields::name_kind;
-use scheme::lookup::held_names;
-
-// The values of a name: the publics from `low` up to `high`, then all private ones or none.
-pub struct Reach {
-    pub low: usize,
-    pub high: usize,
-    pub privates: bool,
-}
 
 // Whether a name is restricted.
 pub(crate) fn is_restricted(table: &[u16], name: usize) -> bool
@@ -47,35 +49,10 @@ pub(crate) fn is_restricted(table: &[u16], name: usize) -> bool
     field1(table, 7, name - publics) == 0
 }
 
-// The values of a name.
-pub fn reach_of(table: &[u16], name: usize) -> Reach
-    ensures { λ r. ⌜ r ≡ reachOf (scheme (now (table .entry))) name ⌝ }
-{
-    let publics = word16(table, 0);
-    if name < publics {
-        return Reach {
-            low: name,
-            high: name + 1,
-            privates: false,
-        };
-    }
-    if is_restricted(table, name) {
-        return Reach {
-            low: 0,
-            high: 0,
-            privates: true,
-        };
-    }
-    Reach {
-        low: 0,
-        high: publics,
-        privates: true,
-    }
-}
-
 // How many places the row of a name has, none where the name is not bound: so far from its start the next row starts.
-fn row_length(table: &[u16], privates: usize, name: usize) -> usize
-    requires { ⌜ (privates ≡ privatesOf (now table)) × (privates ≤ 32) × (name < 64) ⌝ }
+fn row_length(table: &[u16], index: &[u32], privates: usize, name: usize) -> usize
+    requires { ⌜ Reached (now table) (now index) × (privates ≡ privatesOf (now table)) × (privates ≤ 32)
+        × (name < 64) ⌝ }
     ensures { λ r. ⌜ rowWord (now (table .entry)) (name + 1) ≡ rowWord (now (table .entry)) name + r ⌝ }
 {
     let publics = word16(table, 0);
@@ -88,11 +65,16 @@ fn row_length(table: &[u16], privates: usize, name: usize) -> usize
     if is_restricted(table, name) {
         return privates;
     }
-    publics + 2 * privates
+    let r = reach_of(index, name);
+    let count = rank(r.publics, publics);
+    if has_privates(r) {
+        return count + 2 * privates;
+    }
+    count
 }
 
 // Sets every word to v.
-fn repeat(out: &mut [u32], v: u32)
+pub(crate) fn repeat(out: &mut [u32], v: u32)
     ensures { λ r. ⌜ now (out .exit) ≡ replicate (length (now (out .entry))) v ⌝ }
 {
     let mut i = 0;
@@ -104,7 +86,7 @@ fn repeat(out: &mut [u32], v: u32)
 
 // Fills in where each row starts, past the names where the last one ends, and returns that.
 fn fill_rows(table: &[u16], privates: usize, index: &mut [u32]) -> usize
-    requires { ⌜ Known (now table) (now index) × (privates ≡ privatesOf (now table))
+    requires { ⌜ Reached (now table) (now index) × (privates ≡ privatesOf (now table))
         × (planEnd ≤ length (now index)) ⌝ }
     ensures { λ r. ⌜ (r ≡ freeStart (scheme (now (table .entry))) (today (now (table .entry))))
         × (now (index .exit) ≡ sets (now (index .entry)) rowsAt (rowWords (now (table .entry)))) ⌝ }
@@ -114,38 +96,35 @@ fn fill_rows(table: &[u16], privates: usize, index: &mut [u32]) -> usize
     let mut x = 0;
     while x < end {
         store32(index, ROWS + x, at as u32);
-        at += row_length(table, privates, x);
+        at += row_length(table, index, privates, x);
         x += 1;
     }
     repeat(&mut index[ROWS + end..NODES], at as u32);
     at
 }
 
-// How many control places a node has, none past the nodes: so far from their start those of the next node start.
-fn control_count(table: &[u16], index: &[u32], node: usize) -> usize
-    requires { ⌜ Known (now table) (now index) ⌝ }
+// How many control places a node has that holds so many names: so far from their start those of the next node start.
+fn control_count(table: &[u16], node: usize, held: usize) -> usize
+    requires { ⌜ (cause (now table) ≡ 0) × (node < nodes (now table))
+        × (held ≡ length (scheme (now table) .held node)) ⌝ }
     ensures { λ r. ⌜ (nodeWord (now (table .entry)) (node + 1) ≡ nodeWord (now (table .entry)) node + r) × (r ≤ 65) ⌝ }
 {
-    if word16(table, 4) <= node {
-        return 0;
-    }
     let kind = field3(table, 10, node, 0);
-    let mut names = [0u32; 64];
     if kind == 0 {
-        return 1 + held_names(table, index, node as u8, &mut names);
+        return 1 + held;
     }
     if kind == 3 {
         let formals = field4(table, 8, field3(table, 10, node, 1), 3);
-        return 1 + formals + held_names(table, index, node as u8, &mut names);
+        return 1 + formals + held;
     }
     1
 }
 
 // Fills in where the control places of each node start, from `first` on, past the nodes where they end, and returns
-// that.
-fn fill_nodes(table: &[u16], first: usize, index: &mut [u32]) -> usize
-    requires { ⌜ Known (now table) (now index) × (first ≡ controlOf (now table) 0)
-        × (planEnd ≤ length (now index)) ⌝ }
+// that; `held` has how many names each node holds.
+fn fill_nodes(table: &[u16], held: &[u32], first: usize, index: &mut [u32]) -> usize
+    requires { ⌜ (cause (now table) ≡ 0) × HeldBelow (scheme (now table)) (nodes (now table)) (now held)
+        × (first ≡ controlOf (now table) 0) × (planEnd ≤ length (now index)) ⌝ }
     ensures { λ r. ⌜ (r ≡ controlOf (now (table .entry)) (nodes (now (table .entry))))
         × (now (index .exit) ≡ sets (now (index .entry)) nodesAt (nodeWords (now (table .entry)))) ⌝ }
 {
@@ -154,7 +133,7 @@ fn fill_nodes(table: &[u16], first: usize, index: &mut [u32]) -> usize
     let mut n = 0;
     while n < count {
         store32(index, NODES + n, at as u32);
-        at += control_count(table, index, n);
+        at += control_count(table, n, word32(held, n));
         n += 1;
     }
     repeat(&mut index[NODES + count..PRIVATES], at as u32);
@@ -178,15 +157,47 @@ pub(crate) fn free_names(table: &[u16]) -> usize
     count
 }
 
+// Whether a bound name has places [x≠n]: it is not restricted, and a restricted name is in its reach.
+pub fn is_read(table: &[u16], index: &[u32], name: usize) -> bool
+    ensures { λ r. ⌜ r ≡ (not (scheme (now (table .entry)) .restricted name)
+        && not (same (word (restrictedIn (now (index .entry))) name) 0)) ⌝ }
+{
+    if is_restricted(table, name) {
+        return false;
+    }
+    has_privates(reach_of(index, name))
+}
+
+// How many bound names that are not restricted may hold private values.
+pub(crate) fn reading_names(table: &[u16], index: &[u32]) -> usize
+    requires { ⌜ Reached (now table) (now index) ⌝ }
+    ensures { λ r. ⌜ (r ≡ readNames (now (table .entry))) × (r ≤ bounds (now (table .entry))) ⌝ }
+{
+    let publics = word16(table, 0);
+    let end = publics + word16(table, 1);
+    let mut count = 0;
+    let mut x = publics;
+    while x < end {
+        if is_read(table, index, x) {
+            count += 1;
+        }
+        x += 1;
+    }
+    count
+}
+
 // Fills in what the plan has behind the index.
 pub(crate) fn lay_out(table: &[u16], index: &mut [u32])
     requires { ⌜ Known (now table) (now index) × (planEnd ≤ length (now index)) ⌝ }
     ensures { λ r. ⌜ now (index .exit) ≡ planWords (now (table .entry)) ++ drop planEnd (now (index .entry)) ⌝ }
 {
-    let privates = private_values(table, index);
+    let mut held = [0u32; 256];
+    hold_all(table, index, &mut held);
+    let privates = private_values(table, index, &held);
+    fill_reaches(table, index);
     let free = fill_rows(table, privates, index);
-    let places = fill_nodes(table, free + privates, index);
-    let tokens = free_names(table) * privates + privates + word16(table, 3);
+    let places = fill_nodes(table, &held, free + privates, index);
+    let tokens = reading_names(table, index) * privates + privates + word16(table, 3);
     store32(index, PRIVATES, privates as u32);
     store32(index, FREE, free as u32);
     store32(index, PLACES, places as u32);

@@ -4,21 +4,25 @@ ghost use Rattle.lists.specs.Lists.{Word};
 ghost use Rattle.places.specs.Plan.{rowsIn, nodesIn, privatesAt, freeAt, placesAt, tokensAt};
 use lists::word32;
 
-// Where the starts of rows, the starts of control places and each count stand in a plan, and its size; the index of the
-// table stands at 0.
-pub const ROWS: usize = 832;
+// Where the two sets of reaches, the starts of rows, the starts of control places and each count stand in a plan, and
+// its size; the index of the table stands at 0.
+pub const PUBLICS: usize = 832;
 
-pub const NODES: usize = 896;
+pub const RESTRICTED: usize = 896;
 
-pub const PRIVATES: usize = 1153;
+pub const ROWS: usize = 960;
 
-pub const FREE: usize = 1154;
+pub const NODES: usize = 1024;
 
-pub const PLACES: usize = 1155;
+pub const PRIVATES: usize = 1281;
 
-pub const TOKENS: usize = 1156;
+pub const FREE: usize = 1282;
 
-pub const SIZE: usize = 1157;
+pub const PLACES: usize = 1283;
+
+pub const TOKENS: usize = 1284;
+
+pub const SIZE: usize = 1285;
 
 // Where the row of a name starts; 0 for a public name, past the names where the last row ends.
 pub fn row_start(index: &[u32], name: usize) -> usize

@@ -45,7 +45,8 @@ fn held_count(table: &[u16], index: &[u32], below: &[u32], node: usize) -> usize
 // The names that a node holds, with the formals of the definition that it calls: the most that its control places, or
 // the first one of the called root, hold.
 fn most_at(table: &[u16], node: usize, held: usize) -> usize
-    requires { ⌜ (cause (now table) ≡ 0) × (node < nodes (now table)) × (held ≡ length (scheme (now table) .held node)) ⌝ }
+    requires { ⌜ (cause (now table) ≡ 0) × (node < nodes (now table))
+        × (held ≡ length (scheme (now table) .held node)) ⌝ }
     ensures { λ r. ⌜ (r ≡ heldMost (scheme (now (table .entry))) node) × (r ≤ 64) ⌝ }
 {
     let kind = field3(table, 10, node, 0);
@@ -65,18 +66,34 @@ fn raise(most: &mut [u32], t: usize, held: usize)
     store32(most, t, larger(before, held) as u32);
 }
 
-// The most names that a control place of each thread holds, in one pass over the nodes: `held` has how many each node
-// passed so far holds.
-fn raise_all(table: &[u16], index: &[u32], held: &mut [u32], most: &mut [u32])
-    requires { ⌜ Known (now table) (now index) × (256 ≤ length (now held)) × NoneHeld (now most) ⌝ }
+// How many names each node holds, from the lowest up.
+pub(crate) fn hold_all(table: &[u16], index: &[u32], held: &mut [u32])
+    requires { ⌜ Known (now table) (now index) × (256 ≤ length (now held)) ⌝ }
+    ensures { λ r. ⌜ HeldBelow (scheme (now (table .entry))) (nodes (now (table .entry))) (now (held .exit)) ⌝ }
+{
+    let nodes = word16(table, 4);
+    let mut node = 0;
+    while node < nodes {
+        let count = held_count(table, index, held, node);
+        store32(held, node, count as u32);
+        node += 1;
+    }
+}
+
+// The most names that a control place of each thread holds.
+fn raise_all(table: &[u16], index: &[u32], held: &[u32], most: &mut [u32])
+    requires { ⌜ Known (now table) (now index) × HeldBelow (scheme (now table)) (nodes (now table)) (now held)
+        × NoneHeld (now most) ⌝ }
     ensures { λ r. ⌜ MostsHeld (scheme (now (table .entry))) (now (most .exit)) ⌝ }
 {
     let nodes = word16(table, 4);
     let mut n = 0;
     while n < nodes {
-        let count = held_count(table, index, held, n);
-        store32(held, n, count as u32);
-        raise(most, node_thread(table, index, n), most_at(table, n, count));
+        raise(
+            most,
+            node_thread(table, index, n),
+            most_at(table, n, word32(held, n)),
+        );
         n += 1;
     }
 }
@@ -95,16 +112,15 @@ fn sum(words: &[u32], count: usize) -> usize
     s
 }
 
-// N: none without restricted names, else what the threads hold at most, added up.
-pub(crate) fn private_values(table: &[u16], index: &[u32]) -> usize
-    requires { ⌜ Known (now table) (now index) ⌝ }
+// N: none without restricted names, else what the threads hold at most, added up; `held` has how many each node holds.
+pub(crate) fn private_values(table: &[u16], index: &[u32], held: &[u32]) -> usize
+    requires { ⌜ Known (now table) (now index) × HeldBelow (scheme (now table)) (nodes (now table)) (now held) ⌝ }
     ensures { λ r. ⌜ (r ≡ privatesOf (now (table .entry))) × (r ≤ 32) ⌝ }
 {
     if free_names(table) == word16(table, 1) {
         return 0;
     }
-    let mut held = [0u32; 256];
     let mut most = [0u32; 8];
-    raise_all(table, index, &mut held, &mut most);
+    raise_all(table, index, held, &mut most);
     sum(&most, word16(table, 3))
 }

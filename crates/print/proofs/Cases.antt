@@ -8,7 +8,8 @@ use Rattle.print.specs.Listing.{headerLine, transitionLine, listing}
 use Rattle.print.specs.Words.{wordsOf}
 use Rattle.print.specs.Answers.{tooShort, done, answered}
 
-abbrev pub imageE : List ℕ
+-- the image of document 01's listing
+abbrev imageE : List ℕ
 imageE =
     16 ∷ 9 ∷ 24 ∷ 23 ∷ 6 ∷ 8 ∷ 14 ∷ 68
     ∷ 5 ∷ 6 ∷ 7 ∷ 8 ∷ 9 ∷ 13

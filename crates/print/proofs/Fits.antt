@@ -21,7 +21,7 @@ use Rattle.net.specs.Image.{Label, labelOf}
 use Rattle.net.specs.Net.{transitionAt, encode}
 use Rattle.net.proofs.Encode as Encode
 use Rattle.places.specs.Values.{Values}
-use Rattle.places.specs.Held.{valuesFor}
+use Rattle.places.specs.Reach.{valuesFor}
 use Rattle.places.specs.Transitions.{Description, skip, descriptions}
 use Rattle.places.specs.Image.{netWith, imageOf}
 use Rattle.places.proofs.Rows.{places-length}

@@ -16,6 +16,7 @@ use Rattle.net.specs.Image as ImageN
 use Rattle.net.specs.Net as NetN
 use Rattle.places.specs.Values as ValuesB
 use Rattle.places.specs.Held as HeldB
+use Rattle.places.specs.Reach as ReachB
 use Rattle.places.specs.Places as PlacesB
 use Rattle.places.specs.Transitions as TransitionsB
 use Rattle.places.specs.Image as ImageB
@@ -23,12 +24,20 @@ use Rattle.print.specs.Text.{digitsOf, line, refusal}
 use Rattle.print.specs.Words.{wordsOf}
 use Rattle.print.specs.Listing.{headerLine, transitionLine, listing}
 use Rattle.print.specs.Program.{isOdd, programCause, programText}
-use Rattle.print.proofs.Cases.{imageE}
 
 abbrev tableE : List ℕ
 tableE =
     1 ∷ 2 ∷ 2 ∷ 2 ∷ 5 ∷ 2 ∷ 0 ∷ 13 ∷ 15 ∷ 23 ∷ 25 ∷ 40 ∷ 48 ∷ 0 ∷ 1 ∷ 0 ∷ 0 ∷ 0 ∷ 0 ∷ 1 ∷ 3 ∷ 0 ∷ 0 ∷ 0 ∷ 1 ∷
     2 ∷ 1 ∷ 1 ∷ 1 ∷ 0 ∷ 1 ∷ 0 ∷ 0 ∷ 0 ∷ 1 ∷ 1 ∷ 1 ∷ 0 ∷ 0 ∷ 0 ∷ 1 ∷ 0 ∷ 1 ∷ 2 ∷ 2 ∷ 0 ∷ 2 ∷ 4 ∷ []
+
+-- its image: 106 words
+abbrev imageE : List ℕ
+imageE =
+    15 ∷ 8 ∷ 22 ∷ 22 ∷ 6 ∷ 8 ∷ 14 ∷ 62 ∷ 4 ∷ 5 ∷ 6 ∷ 7 ∷ 8 ∷ 12
+    ∷ 2 ∷ 0 ∷ 1 ∷ 62 ∷ 3 ∷ 3 ∷ 2 ∷ 0 ∷ 1 ∷ 68 ∷ 3 ∷ 3 ∷ 1 ∷ 2 ∷ 1 ∷ 74 ∷ 2 ∷ 2 ∷ 1 ∷ 2 ∷ 1 ∷ 78 ∷ 2 ∷ 2
+    ∷ 1 ∷ 4 ∷ 2 ∷ 82 ∷ 2 ∷ 2 ∷ 1 ∷ 4 ∷ 2 ∷ 86 ∷ 2 ∷ 2 ∷ 4 ∷ 0 ∷ 1 ∷ 90 ∷ 4 ∷ 4 ∷ 4 ∷ 0 ∷ 1 ∷ 98 ∷ 4 ∷ 4
+    ∷ 4 ∷ 6 ∷ 8 ∷ 0 ∷ 4 ∷ 9 ∷ 5 ∷ 7 ∷ 8 ∷ 1 ∷ 5 ∷ 9 ∷ 0 ∷ 10 ∷ 6 ∷ 11 ∷ 1 ∷ 10 ∷ 7 ∷ 11 ∷ 2 ∷ 13 ∷ 4 ∷ 14 ∷ 3 ∷ 13 ∷ 5 ∷ 14
+    ∷ 0 ∷ 4 ∷ 9 ∷ 12 ∷ 0 ∷ 2 ∷ 10 ∷ 13 ∷ 1 ∷ 5 ∷ 9 ∷ 12 ∷ 1 ∷ 3 ∷ 10 ∷ 13 ∷ []
 
 -- the text of the table that is a call of itself, a comment above each line
 abbrev textLoop : List ℕ
@@ -93,7 +102,9 @@ unfolding ListsL.same ListsL.from ListsL.every ListsL.some ListsL.keep ListsL.fl
     RewritingR.definitionWords RewritingR.definitionCopy RewritingR.nodeWords RewritingR.nodeCopy RewritingR.branchWords RewritingR.branchCopy
     RewritingR.namePart RewritingR.definitionPart RewritingR.threadPart RewritingR.nodePart RewritingR.branchPart RewritingR.argumentPart
     RewritingR.rewrittenHeader RewritingR.rewritten OutcomesR.rewriteCause ImageN.headerRight ImageN.recordRight NetN.recordsFrom NetN.encode
-    NetN.isAscending HeldB.largest HeldB.heldCounts HeldB.mostHeld HeldB.privateCount HeldB.valuesFor ValuesB.valuesOf ValuesB.privateValuesOf
+    NetN.isAscending HeldB.largest HeldB.heldCounts HeldB.mostHeld HeldB.privateCount ReachB.overlaps ReachB.isSent ReachB.passes
+    ReachB.isPassed ReachB.comes ReachB.tabled ReachB.look ReachB.isNew ReachB.rounds ReachB.reachTable ReachB.valuesFor ValuesB.valuesOf
+    ValuesB.privateValuesOf ValuesB.shares
     PlacesB.controls PlacesB.controlPlaces PlacesB.row PlacesB.rows PlacesB.places TransitionsB.isInput TransitionsB.isOutput
     TransitionsB.releases TransitionsB.copies TransitionsB.descriptions ImageB.netWith ImageB.netOf ImageB.imageOf
     digitsOf line headerLine transitionLine listing wordsOf isOdd programCause programText

@@ -101,17 +101,17 @@ module _ (w m places indexes values : List ℕ) (ok : cause w ≡ 0) (h : isMark
   found = configuration S (today w) (marked (Places.places S (today w)) m)
 
   at-same : (t : ℕ) → t < threads w → spotAt places indexes t ≡ found .at t
-  at-same t l = Z .spots-found t l ∙ sym (read-at S m h t)
+  at-same t l = Z .spots-found t l ∙ sym (read-at S (accepted w ok) m h t)
 
   value-same : (y : ℕ) → y < names w → valueIn w values y ≡ found .value y
   value-same y l = go (decLt y (publics w))
     where
       go : Dec (y < publics w) → valueIn w values y ≡ found .value y
-      go (yes p) = rw (lt-ltb y (publics w) p) (sym (read-public S m h y (lt-ltb y (S .publics) (omega (arith, publics-are w)))))
+      go (yes p) = rw (lt-ltb y (publics w) p) (sym (read-public S (accepted w ok) m h y (lt-ltb y (S .publics) (omega (arith, publics-are w)))))
       go (no d) =
           rw (le-ltb y (publics w) (omega arith))
           (sym (Z .values-found y (omega arith) l)
-          ∙ sym (read-value S m h y (omega (arith, publics-are w)) (omega (arith, publics-are w, bounds-are w))))
+          ∙ sym (read-value S (accepted w ok) m h y (omega (arith, publics-are w)) (omega (arith, publics-are w, bounds-are w))))
 
   thread-in : (x : ℕ) → publics w ≤ x → x < names w → S .nameThread x < threads w
   unfolding scheme

@@ -5,29 +5,59 @@ use mathlib.Core.Bool.{Bool, true, false}
 use mathlib.Core.List.{List, [], _∷_, map, append-nil}
 use Prim.Native.Nat.{ℕ, zero, suc, _+_, _-_, _≤_, _<_}
 use native.Mathlib.Omega.{arith}
-use borrow.Author.Tests.{le-ltb}
-use Rattle.lists.specs.Lists.{pick, same, from, range, keep, flat}
+use lib.ListN.{length}
+use Rattle.lists.specs.Lists.{pick, same, word, from, range, keep, flat}
 use Rattle.lists.proofs.Tests.{same-self, same-no}
 use Rattle.lists.proofs.Ranges.{member-from, from-member}
 use Rattle.lists.proofs.Members.{flat-same, distinct-from}
 use Rattle.lists.proofs.Numbered.{map-keep-flat}
 use Rattle.scheme.specs.Scheme.{Scheme}
+use Rattle.scheme.proofs.Scatter.{map-range}
 use Rattle.places.specs.Values.{Values, valuesOf, privateValues, privateValuesOf}
-use Rattle.places.specs.Held.{valuesFor}
+use Rattle.places.specs.Reach.{valuesFor}
 use Rattle.places.specs.Places.{Place, equals, differs, free, control, controls, controlPlaces, row, rows, places}
-use Rattle.places.specs.Rows.{rowStart, controlStart, numberOf}
-use Rattle.places.specs.Inner.Spans.{firstValue, endValue}
-use Rattle.places.proofs.Spans.{values-span}
-use Rattle.places.proofs.Today.{equals-number, equals-restricted}
+use Rattle.places.specs.Rows.{rowStart, controlStart}
+use Rattle.places.proofs.Rows.{values-bound}
 use Rattle.readback.specs.Configurations.{Spot, spot}
 use Rattle.readback.specs.Reading.{spotsOf, valuesIn, spots, values}
 use Rattle.readback.specs.Inner.Hits.{token, hits}
-use Rattle.readback.specs.Inner.Standing.{spotsOn, spotsBelow, spotsAt, lowest, valuesAt}
+use Rattle.readback.specs.Inner.Standing.{spotsOn, spotsBelow, spotsAt, valuesAt}
 use Rattle.readback.proofs.Elements.{Element, no-element, append-element, map-element, flat-element, member-element}
 use Rattle.readback.proofs.Sifted.{sift-append, sift-map, sift-flat, sift-none, flat-only, flat-none}
 use Rattle.readback.proofs.Marked.{chosen}
 
--- ---- ranges that start elsewhere
+-- ---- ranges that start elsewhere, and lists
+
+flat-map : {A : Type 0} (f : ℕ → List A) (g : ℕ → ℕ) (xs : List ℕ) → flat f (map g xs) ≡ flat (λ i. f (g i)) xs
+unfolding flat
+flat-map f g [] = refl
+flat-map f g (x ∷ xs) = rw (flat-map f g xs)
+
+-- the number at place i of those kept has i of them below it
+keep-rank-from : (p : ℕ → Bool) (a n i : ℕ) → i < length (keep p (from a n))
+    → (a ≤ word (keep p (from a n)) i) × (length (keep p (from a (word (keep p (from a n)) i - a))) ≡ i)
+unfolding keep from
+keep-rank-from p a zero i l = absurd (omega arith)
+keep-rank-from p a (suc n) i l = go (p a) refl i l (keep-rank-from p (a + 1) n)
+  where
+    rest : List ℕ
+    rest = keep p (from (a + 1) n)
+
+    below : (v : ℕ) → a + 1 ≤ v → length (keep p (from a (v - a))) ≡ length
+        (pick (p a) (a ∷ keep p (from (a + 1) (v - (a + 1)))) (keep p (from (a + 1) (v - (a + 1)))))
+    below v h = let e : v - a ≡ suc (v - (a + 1)) = omega arith in rw e
+
+    go : (b : Bool) → p a ≡ b → (i : ℕ) → i < length (pick b (a ∷ rest) rest)
+        → ((k : ℕ) → k < length rest → (a + 1 ≤ word rest k) × (length (keep p (from (a + 1) (word rest k - (a + 1)))) ≡ k))
+        → (a ≤ word (pick b (a ∷ rest) rest) i) × (length (keep p (from a (word (pick b (a ∷ rest) rest) i - a))) ≡ i)
+    go true e zero l ih = let z : a - a ≡ 0 = omega arith in (omega arith, rw z)
+    go true e (suc k) l ih = let (h, q) = ih k (omega arith) in (omega arith, below (word rest k) h ∙ rw (e, q))
+    go false e k l ih = let (h, q) = ih k l in (omega arith, below (word rest k) h ∙ rw (e, q))
+
+keep-rank : (p : ℕ → Bool) (n i : ℕ) → i < length (keep p (range n)) → length (keep p (range (word (keep p (range n)) i))) ≡ i
+keep-rank p n i l =
+    let z : word (keep p (range n)) i - 0 ≡ word (keep p (range n)) i = omega arith in
+    ap (λ (v : ℕ). length (keep p (range v))) (sym z) ∙ keep-rank-from p 0 n i l .1
 
 flat-shift : {A : Type 0} (f : ℕ → List A) (a b n : ℕ) → flat f (from (a + b) n) ≡ flat (λ i. f (a + i)) (from b n)
 unfolding flat from
@@ -46,6 +76,16 @@ module _ {A : Type 0} (m : List ℕ) (start low count : ℕ) (test : ℕ → Boo
       ∙ flat-same (λ i. pick (test (low + i)) (h (low + i) ∷ []) []) (λ i. pick (token m (start + i)) (h (low + i) ∷ []) []) (range count)
       (λ i k. rw (e i (omega (arith, from-member i 0 count k))))
       ∙ sym (map-keep-flat (λ i. h (low + i)) (λ i. token m (start + i)) (range count))
+
+-- what stands at the marked ones of the places of a list
+listed-hits : (m : List ℕ) (start : ℕ) (vs : List ℕ) (test : ℕ → Bool) → ((i : ℕ) → i < length vs → test (word vs i) ≡ token m (start + i))
+    → flat (λ v. pick (test v) (v ∷ []) []) vs ≡ map (word vs) (hits m start (length vs))
+listed-hits m start vs test e =
+    let z : vs ≡ map (word vs) (range (length vs)) = map-range (word vs) vs (length vs) refl (λ k l. refl) in
+    ap (flat (λ v. pick (test v) (v ∷ []) [])) z
+    ∙ flat-map (λ v. pick (test v) (v ∷ []) []) (word vs) (range (length vs))
+    ∙ flat-hits m start 0 (length vs) (λ i. test (word vs i)) (word vs) (λ i l. let q : 0 + i ≡ i = omega arith in rw q (e i l))
+    ∙ ap (λ (f : ℕ → ℕ). map f (hits m start (length vs))) (fun-ext (λ i. let q : 0 + i ≡ i = omega arith in rw q))
 
 module _ (S : Scheme) (m : List ℕ) where
   abbrev U : Values
@@ -131,22 +171,15 @@ module _ (S : Scheme) (m : List ℕ) where
         go true = refl
         go false = refl
 
-    -- the values that a bound name may hold, from its least on
-    values-from : valuesOf S U x ≡ from (lowest S x) (S .publics + U .privates - lowest S x)
-    unfolding firstValue endValue
-    values-from = rw (le-ltb x (S .publics) lo) at (values-span S x)
-
-    number-from : (b : Bool) → S .restricted x ≡ b → (i : ℕ) → numberOf S U (equals x (pick b (S .publics) 0 + i)) ≡ rowStart S U x + i
-    number-from true r i =
-        equals-restricted S x (S .publics + i) r (omega arith) ∙ (let e : S .publics + i - S .publics ≡ i = omega arith in rw e)
-    number-from false r i = equals-number S x (0 + i) r ∙ (let e : 0 + i ≡ i = omega arith in rw e)
-
     own-values : flat (λ v. pick (chosen S U m (equals x v)) (valuesIn x (equals x v)) []) (valuesOf S U x) ≡ valuesAt S m x
     unfolding valuesAt
     own-values =
-        rw (same-self x, values-from)
-        (flat-hits m (rowStart S U x) (lowest S x) (S .publics + U .privates - lowest S x) (λ v. chosen S U m (equals x v)) (λ v. v)
-        (λ i l. ap (token m) (number-from (S .restricted x) refl i)))
+        rw (same-self x)
+        (listed-hits m (rowStart S U x) (valuesOf S U x) (λ v. chosen S U m (equals x v))
+        (λ i l. ap (token m) (ap (λ (k : ℕ). rowStart S U x + k) (rank-at i l))))
+      where
+        rank-at : (i : ℕ) → i < length (valuesOf S U x) → length (keep (U .reach x) (range (word (valuesOf S U x) i))) ≡ i
+        rank-at i l = rw (values-bound S U x lo) (keep-rank (U .reach x) (S .publics + U .privates) i (rw (values-bound S U x lo) at l))
 
     rows-values : flat g (among (rows S U)) ≡ valuesAt S m x
     unfolding rows

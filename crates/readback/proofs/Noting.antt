@@ -15,7 +15,7 @@ use Rattle.scheme.specs.Words.{threads, nodes}
 use Rattle.scheme.specs.Index.{threadAt}
 use Rattle.scheme.specs.Scheme.{Scheme, scheme}
 use Rattle.table.proofs.Accepted.{accepted}
-use Rattle.places.specs.Held.{valuesFor}
+use Rattle.places.specs.Reach.{valuesFor}
 use Rattle.places.specs.Places.{controls}
 use Rattle.places.specs.Rows.{controlStart}
 use Rattle.places.specs.Plan.{nodesIn}

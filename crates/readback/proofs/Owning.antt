@@ -17,7 +17,7 @@ use Rattle.table.specs.Accepted.{Accepted}
 use Rattle.table.specs.Causes.{cause}
 use Rattle.table.proofs.Accepted.{accepted}
 use Rattle.net.specs.Firing.{put}
-use Rattle.places.specs.Held.{valuesFor}
+use Rattle.places.specs.Reach.{valuesFor}
 use Rattle.places.specs.Places.{controls}
 use Rattle.places.specs.Rows.{controlStart}
 use Rattle.places.proofs.Controls.{publics-are, bounds-are}

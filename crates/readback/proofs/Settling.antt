@@ -13,6 +13,7 @@ use Rattle.places.specs.Places
 use Rattle.places.specs.Plan.{placesAt, Laid}
 use Rattle.places.specs.Inner.Plan.{today, controlOf}
 use Rattle.places.proofs.Rows.{places-length}
+use Rattle.table.proofs.Accepted.{accepted}
 use Rattle.places.proofs.Controls.{nodes-are}
 use Rattle.places.proofs.Plans.{places-are}
 use Rattle.readback.specs.Inner.Standing.{spotsRight, valuesRight, heldBit, opposedAll, freedAll}
@@ -49,7 +50,7 @@ module _ (w index : List ℕ) (L : Laid w index) where
     here = rw (← count-is (word index placesAt) refl) h
 
     tests : standsIn w m ≡ (spotsRight S m && (valuesRight S m (heldBit S m) && (opposedAll S m && freedAll S m)))
-    tests = stands-is S m here
+    tests = stands-is S (accepted w (L .accepted)) m here
 
     pub no-spots : (places indexes values : List ℕ) → spotsRight S m ≡ false → Settles w m false places indexes values
     no-spots places indexes values e = (sym (tests ∙ rw e), λ q. absurd (false≢true q))

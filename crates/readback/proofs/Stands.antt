@@ -10,19 +10,21 @@ use lib.ListN.{length}
 use borrow.Author.Tests.{le-ltb}
 use Rattle.lists.specs.Lists.{pick, same, from, range, every, keep}
 use Rattle.lists.proofs.Ranges.{from-member, every-same}
-use Rattle.lists.proofs.Members.{keep-same, keep-all}
+use Rattle.lists.proofs.Members.{keep-same}
 use Rattle.scheme.specs.Scheme.{Scheme}
+use Rattle.table.specs.Accepted.{Accepted}
 use Rattle.net.specs.Firing.{isMarking}
 use Rattle.places.specs.Values.{Values, privateValues, privateValuesOf}
-use Rattle.places.specs.Held.{valuesFor}
+use Rattle.places.specs.Reach.{valuesFor, hasPrivates}
 use Rattle.places.specs.Places.{Place, equals, differs, free, places}
 use Rattle.places.specs.Rows.{rowStart, freeStart, has-equals, has-differs, has-free}
-use Rattle.places.proofs.Today.{private-reached, equals-number, equals-restricted, differs-number}
+use Rattle.places.proofs.ReachRows.{private-reach, privates-are, equals-private, differs-private, restricted-alone, restricted-yes}
 use Rattle.readback.specs.Configurations.{Spot}
 use Rattle.readback.specs.Reading.{marked, has, firstSpot, firstValue, configuration}
 use Rattle.readback.specs.Reading.{oneSpot, oneValue, opposite, freeRight, standsForState}
 use Rattle.readback.specs.Inner.Hits.{token}
-use Rattle.readback.specs.Inner.Standing.{firstOf, valueOf, justOne, spotsAt, valuesAt, opposedAt, opposedAll, holdersAt, freedAll}
+use Rattle.readback.specs.Inner.Standing.{firstOf, valueOf, justOne, publicCount, privateCount}
+use Rattle.readback.specs.Inner.Standing.{spotsAt, valuesAt, opposedAt, opposedAll, holdersAt, freedAll}
 use Rattle.readback.specs.Inner.Standing.{spotsRight, valuesRight, heldBit}
 use Rattle.readback.proofs.Marked.{chosen, marked-keep, has-number}
 use Rattle.readback.proofs.Gathered.{spots-are, values-are}
@@ -41,7 +43,11 @@ just-one true false = refl
 just-one false true = refl
 just-one false false = refl
 
-module _ (S : Scheme) (m : List ℕ) where
+none : (p q : ℕ → Bool) → every p [] ≡ every q (range 0)
+unfolding every from
+none p q = refl
+
+module _ (S : Scheme) (A : Accepted S) (m : List ℕ) where
   abbrev U : Values
   U = valuesFor S
 
@@ -72,24 +78,24 @@ module _ (S : Scheme) (m : List ℕ) where
 
   -- ---- places by their numbers
 
-  has-equal : (x i : ℕ) → S .publics ≤ x → x < S .publics + S .bounds → i < U .privates → S .restricted x ≡ false
-      → has ms (equals x (S .publics + i)) ≡ token m (rowStart S U x + S .publics + i)
+  has-equal : (x i : ℕ) → S .publics ≤ x → x < S .publics + S .bounds → i < U .privates → hasPrivates S x ≡ true
+      → has ms (equals x (S .publics + i)) ≡ token m (rowStart S U x + publicCount S x + i)
   has-equal x i lo hi l r =
-      has-number S U m (equals x (S .publics + i)) (has-equals (lo, hi) (omega arith) (private-reached S x (S .publics + i) (omega arith)))
-      ∙ ap (token m) (equals-number S x (S .publics + i) r ∙ omega arith)
+      has-number S U m (equals x (S .publics + i)) (has-equals (lo, hi) (omega arith) (private-reach S x (S .publics + i) (omega arith) ∙ r))
+      ∙ ap (token m) (equals-private S x (S .publics + i) (omega arith) r ∙ omega arith)
 
   has-taken : (x i : ℕ) → S .publics ≤ x → x < S .publics + S .bounds → i < U .privates → S .restricted x ≡ true
       → has ms (equals x (S .publics + i)) ≡ token m (rowStart S U x + i)
   has-taken x i lo hi l r =
-      has-number S U m (equals x (S .publics + i)) (has-equals (lo, hi) (omega arith) (private-reached S x (S .publics + i) (omega arith)))
-      ∙ ap (token m) (equals-restricted S x (S .publics + i) r (omega arith) ∙ omega arith)
+      has-equal x i lo hi l (restricted-yes S A x r)
+      ∙ ap (token m) (omega (arith, ap (λ (l : List ℕ). length l) (restricted-alone S A x r)))
 
-  has-different : (x i : ℕ) → S .publics ≤ x → x < S .publics + S .bounds → i < U .privates → S .restricted x ≡ false
-      → has ms (differs x (S .publics + i)) ≡ token m (rowStart S U x + S .publics + U .privates + i)
-  has-different x i lo hi l r =
+  has-different : (x i : ℕ) → S .publics ≤ x → x < S .publics + S .bounds → i < U .privates → S .restricted x ≡ false → hasPrivates S x ≡ true
+      → has ms (differs x (S .publics + i)) ≡ token m (rowStart S U x + publicCount S x + U .privates + i)
+  has-different x i lo hi l f r =
       has-number S U m (differs x (S .publics + i))
-      (has-differs (lo, hi) r (omega arith, omega arith) (private-reached S x (S .publics + i) (omega arith)))
-      ∙ ap (token m) (differs-number S x (S .publics + i) lo r ∙ omega arith)
+      (has-differs (lo, hi) f (omega arith, omega arith) (private-reach S x (S .publics + i) (omega arith) ∙ r))
+      ∙ ap (token m) (differs-private S x (S .publics + i) lo r ∙ omega arith)
 
   has-left : (i : ℕ) → i < U .privates → has ms (free (S .publics + i)) ≡ token m (freeStart S U + i)
   has-left i l = has-number S U m (free (S .publics + i)) (has-free (omega arith, omega arith)) ∙ ap (token m) (omega arith)
@@ -109,26 +115,29 @@ module _ (S : Scheme) (m : List ℕ) where
       rw (values-are S m x (b .0) (b .1), at-is (S .nameThread x)))
 
   opposite-right : (x : ℕ) → S .publics ≤ x → x < S .publics + S .bounds → S .restricted x ≡ false
-      → every (opposite S U ms x) (privateValuesOf S U x) ≡ every (opposedAt S m x) (range (U .privates))
-  unfolding privateValuesOf
-  opposite-right x lo hi r =
-      ap (every (opposite S U ms x)) (keep-all (U .reach x) (privateValues S U) (λ v i. private-reached S x v (from-member v (S .publics) (U .privates) i .0)))
-      ∙ every-from (opposite S U ms x) (S .publics) (U .privates)
-      ∙ every-same (λ i. opposite S U ms x (S .publics + i)) (opposedAt S m x) (range (U .privates))
-      (λ i k.
-      let l : i < U .privates = omega (arith, from-member i 0 (U .privates) k) in
-      rw (has-different x i lo hi l r, has-equal x i lo hi l r)
-      (just-one (token m (rowStart S U x + S .publics + i)) (token m (rowStart S U x + S .publics + U .privates + i))))
+      → every (opposite S U ms x) (privateValuesOf S U x) ≡ every (opposedAt S m x) (range (privateCount S x))
+  opposite-right x lo hi r = ap (every (opposite S U ms x)) (privates-are S x) ∙ go (hasPrivates S x) refl
+    where
+      go : (b : Bool) → hasPrivates S x ≡ b
+          → every (opposite S U ms x) (pick b (from (S .publics) (U .privates)) []) ≡ every (opposedAt S m x) (range (pick b (U .privates) 0))
+      go true e =
+          every-from (opposite S U ms x) (S .publics) (U .privates)
+          ∙ every-same (λ i. opposite S U ms x (S .publics + i)) (opposedAt S m x) (range (U .privates))
+          (λ i k.
+          let l : i < U .privates = omega (arith, from-member i 0 (U .privates) k) in
+          rw (has-different x i lo hi l r e, has-equal x i lo hi l e, e)
+          (just-one (token m (rowStart S U x + publicCount S x + i)) (token m (rowStart S U x + publicCount S x + U .privates + i))))
+      go false e = none (opposite S U ms x) (opposedAt S m x)
 
   opposed-right : every (λ x. S .restricted x || every (opposite S U ms x) (privateValuesOf S U x)) (from (S .publics) (S .bounds)) ≡ opposedAll S m
   unfolding opposedAll
   opposed-right =
       every-same (λ x. S .restricted x || every (opposite S U ms x) (privateValuesOf S U x))
-      (λ x. S .restricted x || every (opposedAt S m x) (range (U .privates))) (from (S .publics) (S .bounds))
+      (λ x. S .restricted x || every (opposedAt S m x) (range (privateCount S x))) (from (S .publics) (S .bounds))
       (λ x i. let b = from-member x (S .publics) (S .bounds) i in go x (b .0) (b .1) (S .restricted x) refl)
     where
       go : (x : ℕ) → S .publics ≤ x → x < S .publics + S .bounds → (b : Bool) → S .restricted x ≡ b
-          → (b || every (opposite S U ms x) (privateValuesOf S U x)) ≡ (b || every (opposedAt S m x) (range (U .privates)))
+          → (b || every (opposite S U ms x) (privateValuesOf S U x)) ≡ (b || every (opposedAt S m x) (range (privateCount S x)))
       go x lo hi true r = refl
       go x lo hi false r = opposite-right x lo hi r
 

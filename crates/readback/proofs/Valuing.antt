@@ -1,6 +1,6 @@
 -- The marked value of a bound name, as it is found in the name's row and put into a word.
 use mathlib.Core.Path.{_≡_, refl, sym, ap, _∙_}
-use mathlib.Core.Bool.{Bool, true, false}
+use mathlib.Core.Bool.{Bool, true, false, not}
 use mathlib.Core.Option.{none, some}
 use mathlib.Core.List.{List, [], _∷_, map}
 use Prim.Native.Nat.{ℕ, _+_, _-_, _≤_, _<_}
@@ -11,61 +11,83 @@ use lib.Seq.{getD-set-same, getD-set-other}
 use Rattle.lists.specs.Lists.{pick, bit, same, word, from, range, every, keep}
 use Rattle.lists.proofs.Tests.{same-self, same-yes, same-no}
 use Rattle.lists.proofs.Ranges.{from-more, from-done}
+use Rattle.lists.proofs.Members.{member-getD}
 use Rattle.scheme.specs.Words.{publics, bounds}
 use Rattle.scheme.specs.Scheme.{Scheme, scheme}
 use Rattle.table.specs.Causes.{cause}
 use Rattle.process.specs.Inner.Values.{valueAt}
-use Rattle.places.specs.Held.{valuesFor}
+use Rattle.table.proofs.Accepted.{accepted}
+use Rattle.places.specs.Values.{valuesOf}
+use Rattle.places.specs.Reach.{valuesFor}
+use Rattle.places.specs.Sets.{bitAt}
 use Rattle.places.specs.Rows.{rowStart}
-use Rattle.places.specs.Plan.{privatesAt, freeAt, rowsIn, Laid}
+use Rattle.places.specs.Plan.{privatesAt, freeAt, rowsIn, reachIn, Laid}
+use Rattle.places.specs.Inner.Plan.{privatesOf, reached}
+use Rattle.places.specs.declared.reach.Reach.{Reach}
 use Rattle.places.proofs.Controls.{publics-are, bounds-are, few-publics, few-bounds}
-use Rattle.places.proofs.Plans.{row-is, privates-are, free-is, few-counted}
+use Rattle.places.proofs.Plans.{row-is, reach-is, privates-are, free-is, few-counted}
+use Rattle.places.proofs.ReachRows
+use Rattle.places.proofs.ReachRows.{publics-few}
+use Rattle.places.proofs.Reaches.{publics-kept, privates-told}
+use Rattle.places.proofs.Names.{reached-count}
+use Rattle.places.proofs.NodeCounts.{values-read, privates-small}
 use Rattle.readback.specs.Inner.Hits.{token, hits, FoundOf}
-use Rattle.readback.specs.Inner.Standing.{valueOf, justOne, lowest, valuesAt, valueRight, valuesRight, opposedFor, opposedAll}
+use Rattle.readback.specs.Inner.Standing.{valueOf, justOne, publicCount, privateCount, valuesAt, valueRight, valuesRight, opposedFor, opposedAll}
 use Rattle.readback.specs.Inner.Standing.{holdsAt, holdersAt, wantedAt, freedFor, freedAll}
-use Rattle.readback.specs.Inner.Holding.{IsName, Filled, ValuesBelow}
+use Rattle.readback.specs.Inner.Holding.{IsName, ValueAt, Filled, ValuesBelow}
 use Rattle.readback.specs.declared.found.Found.{Found}
 use Rattle.readback.proofs.Finding.{hits-below}
 
-first-mapped : (a : ℕ) (hs : List ℕ) → (length hs ≡ 0 → ⊥) → valueOf (map (λ i. a + i) hs) ≡ some (a + word hs 0)
-first-mapped a [] h = absurd (h refl)
-first-mapped a (x ∷ xs) h = refl
+first-mapped : (f : ℕ → ℕ) (hs : List ℕ) → (length hs ≡ 0 → ⊥) → valueOf (map f hs) ≡ some (f (word hs 0))
+first-mapped f [] h = absurd (h refl)
+first-mapped f (x ∷ xs) h = refl
 
-none-mapped : (a : ℕ) (hs : List ℕ) → length hs ≡ 0 → valueOf (map (λ i. a + i) hs) ≡ none
-none-mapped a [] h = refl
-none-mapped a (x ∷ xs) h = absurd (omega arith)
+none-mapped : (f : ℕ → ℕ) (hs : List ℕ) → length hs ≡ 0 → valueOf (map f hs) ≡ none
+none-mapped f [] h = refl
+none-mapped f (x ∷ xs) h = absurd (omega arith)
 
-pub lowest-few : (S : Scheme) (x : ℕ) → lowest S x ≤ S .publics
-lowest-few S x = go (S .restricted x)
-  where
-    go : (b : Bool) → pick b (S .publics) 0 ≤ S .publics
-    go true = omega arith
-    go false = omega arith
-
-module _ (w index m held : List ℕ) (L : Laid w index) (x : ℕ) (nm : IsName w x) (low : ℕ) (low-is : low ≡ lowest (scheme w) x) (P N : ℕ) (P-is : P ≡ publics w)
-    (N-is : N ≡ word index privatesAt) where
+-- the reach r of a bound name, as it is read, with c public and k private values
+module _ (w index m held : List ℕ) (L : Laid w index) (x : ℕ) (nm : IsName w x) (r : Reach) (r-is : r ≡ reachIn index x) (c k : ℕ)
+    (c-is : c ≡ length (keep (bitAt (r .publics)) (range (publics w)))) (k-is : k ≡ pick (not (same (r .restricted) 0)) (word index privatesAt) 0) where
   abbrev S : Scheme
   S = scheme w
 
-  pub low-few : low ≤ P
-  low-few = omega (arith, low-is, lowest-few S x, publics-are w, P-is)
+  abbrev vs : List ℕ
+  vs = valuesOf S (valuesFor S) x
 
-  pub values-few : P + N ≤ 64
-  values-few = omega (arith, P-is, N-is, few-publics w (L .accepted), few-counted w index L)
+  listed : reached (publics w) (privatesOf w) r ≡ vs
+  listed = values-read w index L x r r-is .is
 
-  module _ (start : ℕ) (start-is : start ≡ word (rowsIn index) x) (f : Found) (F : FoundOf (hits m start (P + N - low)) f) where
+  pub count-is : c + k ≡ length vs
+  count-is =
+      let e : k ≡ pick (not (same (r .restricted) 0)) (privatesOf w) 0 = k-is ∙ rw (privates-are w index L) in
+      sym (ap (λ (l : List ℕ). length l) (sym listed) ∙ reached-count (publics w) (privatesOf w) r ∙ omega (arith, c-is, e))
+
+  pub privates-few : k ≤ 32
+  privates-few = privates-small w index L (not (same (r .restricted) 0)) k k-is
+
+  -- c and k by the reach
+  pub publics-counted : c ≡ publicCount S x
+  unfolding scheme
+  publics-counted =
+      c-is ∙ ap (λ (z : Reach). length (keep (bitAt (z .publics)) (range (publics w)))) (r-is ∙ reach-is w index L x)
+      ∙ ap (λ (l : List ℕ). length l) (publics-kept w (L .accepted) x (publics w) (omega arith))
+
+  pub privates-counted : k ≡ privateCount S x
+  privates-counted =
+      k-is ∙ ap (λ (z : Reach). pick (not (same (z .restricted) 0)) (word index privatesAt) 0) (r-is ∙ reach-is w index L x)
+      ∙ rw (privates-told w (L .accepted) x, privates-are w index L)
+
+  module _ (start : ℕ) (start-is : start ≡ word (rowsIn index) x) (f : Found) (F : FoundOf (hits m start (c + k)) f) where
     abbrev hs : List ℕ
-    hs = hits m (rowStart S (valuesFor S) x) (S .publics + valuesFor S .privates - lowest S x)
+    hs = hits m (rowStart S (valuesFor S) x) (length vs)
 
     found-here : FoundOf hs f
-    found-here =
-        let e : P + N - low ≡ S .publics + valuesFor S .privates - lowest S x
-        = omega (arith, low-is, P-is, N-is, privates-are w index L, publics-are w) in
-        rw (start-is ∙ row-is w index L x (nm .0) (nm .1), e) at F
+    found-here = rw (start-is ∙ row-is w index L x (nm .0) (nm .1), count-is) at F
 
     length-is : length (valuesAt S m x) ≡ f .count
     unfolding valuesAt
-    length-is = length-map hs (λ i. lowest S x + i) ∙ sym (found-here .count-is)
+    length-is = length-map hs (word vs) ∙ sym (found-here .count-is)
 
     pub not-right : (h : ℕ) → h ≡ word held x → (f .count ≡ h → ⊥) → false ≡ valueRight S m (word held) x
     not-right h e d = sym (same-no (length (valuesAt S m x)) (word held x) (λ q. d (sym length-is ∙ q ∙ sym e)))
@@ -78,33 +100,58 @@ module _ (w index m held : List ℕ) (L : Laid w index) (x : ℕ) (nm : IsName w
     fill-none before after z e = record {
       value = 65535;
       put-there = e;
-      is = none-mapped (lowest S x) hs (sym (found-here .count-is) ∙ z) ∙ rw (same-self 65535);
+      is = none-mapped (word vs) hs (sym (found-here .count-is) ∙ z) ∙ rw (same-self 65535);
     }
 
-    pub value-small : (f .count ≡ 0 → ⊥) → low + f .first < 65535
-    value-small d =
-        omega (
-          arith,
-          found-here .first-is,
-          hits-below m (rowStart S (valuesFor S) x) (S .publics + valuesFor S .privates - lowest S x) (λ q. d (found-here .count-is ∙ q)),
-          low-is,
-          lowest-few S x,
-          values-few,
-          P-is,
-          N-is,
-          privates-are w index L,
-          publics-are w,
-        )
+    first-below : (f .count ≡ 0 → ⊥) → f .first < length vs
+    first-below d = omega (arith, found-here .first-is, hits-below m (rowStart S (valuesFor S) x) (length vs) (λ q. d (found-here .count-is ∙ q)))
 
-    pub fill-some : (before after : List ℕ) → (f .count ≡ 0 → ⊥) → after ≡ set before x (low + f .first) → Filled w m x before after
-    unfolding valuesAt
-    fill-some before after d e = record {
-      value = low + f .first;
-      put-there = e;
-      is =
-          first-mapped (lowest S x) hs (λ q. d (found-here .count-is ∙ q))
-          ∙ rw (same-no (low + f .first) 65535 (λ q. omega (arith, value-small d)), low-is, found-here .first-is);
-    }
+    pub first-small : f .first < 65536
+    first-small = go (ℕ-discrete (f .count) 0)
+      where
+        few : length vs ≤ 96
+        few = omega (arith, count-is, privates-few, publics-counted, publics-few S x, few-publics w (L .accepted), publics-are w)
+
+        zero-first : length hs ≡ 0 → word hs 0 ≡ 0
+        zero-first = nothing hs
+          where
+            nothing : (l : List ℕ) → length l ≡ 0 → word l 0 ≡ 0
+            nothing [] h = refl
+            nothing (a ∷ l) h = absurd (omega arith)
+
+        go : Dec (f .count ≡ 0) → f .first < 65536
+        go (yes z) = omega (arith, found-here .first-is, zero-first (sym (found-here .count-is) ∙ z))
+        go (no d) = omega (arith, first-below d, few)
+
+    -- the value of the first marked place
+    module _ (v : ℕ) (is : ValueAt (publics w) r (f .first) v) where
+      value-is : (f .count ≡ 0 → ⊥) → v ≡ word vs (f .first)
+      value-is d = is (privatesOf w) (rw listed (first-below d)) ∙ ap (λ (l : List ℕ). word l (f .first)) listed
+
+      pub value-small : (f .count ≡ 0 → ⊥) → v < 65535
+      value-small d =
+          omega (
+            arith,
+            ReachRows.value-small S (accepted w (L .accepted)) x v (rw (value-is d) (member-getD vs (f .first) (first-below d))),
+            few-publics w (L .accepted),
+            publics-are w,
+            few-counted w index L,
+            privates-are w index L,
+          )
+
+      pub fill-some : (before after : List ℕ) → (f .count ≡ 0 → ⊥) → after ≡ set before x v → Filled w m x before after
+      unfolding valuesAt
+      fill-some before after d e = record {
+        value = v;
+        put-there = e;
+        is =
+            first-mapped (word vs) hs (λ q. d (found-here .count-is ∙ q))
+            ∙ rw (same-no v 65535 (λ q. omega (arith, value-small d)), value-is d, found-here .first-is);
+      }
+
+  pub opposed-is : (row : ℕ) → row ≡ word (rowsIn index) x → S .restricted x ≡ false
+      → every (λ i. justOne (token m (row + c + i)) (token m (row + c + k + i))) (range k) ≡ opposedFor S m x
+  opposed-is row e q = rw (e ∙ row-is w index L x (nm .0) (nm .1), publics-counted, privates-counted, q)
 
 -- one name more
 pub values-more : (w m before after : List ℕ) (x : ℕ) → x < length before → ValuesBelow w m before x → Filled w m x before after
@@ -149,13 +196,6 @@ module _ (w index : List ℕ) (L : Laid w index) (m : List ℕ) (N : ℕ) (N-is 
 
   pub private-few : N ≤ 32
   private-few = omega (arith, N-is, few-counted w index L)
-
-  pub opposed-is : (P x row : ℕ) → P ≡ publics w → IsName w x → row ≡ word (rowsIn index) x → scheme w .restricted x ≡ false
-      → every (λ i. justOne (token m (row + P + i)) (token m (row + P + N + i))) (range N) ≡ opposedFor (scheme w) m x
-  opposed-is P x row P-is nm e r =
-      let a : P ≡ scheme w .publics = omega (arith, P-is, publics-are w) in
-      let b : N ≡ valuesFor (scheme w) .privates = N-is ∙ privates-are w index L in
-      rw (e ∙ row-is w index L x (nm .0) (nm .1), a, b, r)
 
   pub wanted-is : (n : ℕ) → pick (token m (word index freeAt + n)) 0 1 ≡ wantedAt (scheme w) m n
   wanted-is n = rw (free-is w index L)

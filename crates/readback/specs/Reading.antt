@@ -1,4 +1,5 @@
--- Markings that stand for a state, and reading one back (document 01, Transitions, last paragraph): "A marking stands for a state when each thread has one marked
+-- Markings that stand for a state, and reading one back (document 01, Transitions, last paragraph): "A marking stands for a state when each thread has one
+-- marked
 -- control place, each name held there one marked value and every other name none, [x≠n] is marked exactly without [x=n], and [*≠n] exactly when no restricted
 -- name has n; two restricted names never share n."
 use mathlib.Core.Bool.{Bool, false, not, _&&_, _||_}
@@ -13,7 +14,7 @@ use Rattle.scheme.specs.Scheme.{Scheme, scheme}
 use Rattle.process.specs.StateWords.{stateWords}
 use Rattle.net.specs.Firing.{isMarking}
 use Rattle.places.specs.Values.{Values, privateValues, privateValuesOf}
-use Rattle.places.specs.Held.{valuesFor}
+use Rattle.places.specs.Reach.{valuesFor}
 use Rattle.places.specs.Places.{Place, equals, differs, free, control, places}
 use Rattle.readback.specs.Configurations.{Spot, spot, Configuration, heldHere, stateShown}
 

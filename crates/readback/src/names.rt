@@ -7,17 +7,17 @@ ghost use lib.Seq.{slice};
 ghost use lib.Dec.{ltb};
 ghost use mathlib.Core.Bool.{true};
 ghost use Rattle.lists.specs.Lists.{pick, bit, word, from, range, every};
-ghost use Rattle.scheme.specs.Words.{names, nodes, nodeFirst, formalCount, formals};
+ghost use Rattle.scheme.specs.Words.{publics, names, nodes, nodeFirst, formalCount, formals};
 ghost use Rattle.scheme.specs.Scheme.{scheme};
 ghost use Rattle.net.specs.Firing.{put};
 ghost use Rattle.table.specs.Known.{Known};
 ghost use Rattle.places.specs.Plan.{freeAt, Laid};
 ghost use Rattle.readback.specs.Configurations.{spot, heldHere};
 ghost use Rattle.readback.specs.Inner.Hits.{token};
-ghost use Rattle.readback.specs.Inner.Standing.{justOne, lowest, valueRight, valuesRight};
+ghost use Rattle.readback.specs.Inner.Standing.{justOne, valueRight, valuesRight};
 ghost use Rattle.readback.specs.Inner.Standing.{opposedFor, opposedAll, holdsAt, holdersAt, freedAll};
 ghost use Rattle.readback.specs.Inner.Showing.{AtNodes};
-ghost use Rattle.readback.specs.Inner.Holding.{heldAll, IsName, Filled, ValuesBelow};
+ghost use Rattle.readback.specs.Inner.Holding.{heldAll, IsName, ValueAt, Filled, ValuesBelow};
 use crate::found::find;
 use crate::found::is_marked;
 use lists::store8;
@@ -25,9 +25,14 @@ use lists::store16;
 use lists::word8;
 use lists::word16;
 use lists::word32;
+use places::count::privates_of;
+use places::count::publics_of;
 use places::lookup::free_start;
 use places::lookup::privates;
 use places::lookup::row_start;
+use places::reach::Reach;
+use places::reach::nth;
+use places::reach::reach_of;
 use scheme::fields::field3;
 use scheme::fields::field4;
 use scheme::fields::name_kind;
@@ -137,15 +142,17 @@ fn is_restricted(table: &[u16], name: usize) -> bool
     name_kind(table, name) == 0
 }
 
-// The least value that a bound name may hold.
-fn low_value(table: &[u16], name: usize) -> usize
-    requires { ⌜ IsName (now table) name ⌝ }
-    ensures { λ r. ⌜ r ≡ lowest (scheme (now (table .entry))) name ⌝ }
+// Value k of a bound name whose reach is given.
+fn value_at(table: &[u16], reach: Reach, k: usize) -> usize
+    requires { ⌜ (publics (now table) ≤ 64) × (k < 65536) ⌝ }
+    ensures { λ r. ⌜ ValueAt (publics (now (table .entry))) reach k r ⌝ }
 {
-    if is_restricted(table, name) {
-        return word16(table, 0);
+    let publics = word16(table, 0);
+    let count = publics_of(table, reach);
+    if k < count {
+        return nth(reach.publics, k);
     }
-    0
+    publics + (k - count)
 }
 
 // Fills in a name's marked value, 65535 where it has none. Whether it has one just if it is held.
@@ -163,12 +170,9 @@ fn find_value(
         × (r ≡ true → Filled (now (table .entry)) (now (marking .entry)) name (now (values .entry))
         (now (values .exit))) ⌝ }
 {
-    let low = low_value(table, name);
-    let f = find(
-        marking,
-        row_start(index, name),
-        word16(table, 0) + privates(index) - low,
-    );
+    let reach = reach_of(index, name);
+    let count = publics_of(table, reach) + privates_of(index, reach);
+    let f = find(marking, row_start(index, name), count);
     if f.count != word8(held, name) {
         return false;
     }
@@ -176,7 +180,7 @@ fn find_value(
         store16(values, name, 65535);
         return true;
     }
-    store16(values, name, (low + f.first) as u16);
+    store16(values, name, value_at(table, reach, f.first) as u16);
     true
 }
 
@@ -265,8 +269,9 @@ fn opposed_for(table: &[u16], index: &[u32], marking: &[u8], name: usize) -> boo
     if is_restricted(table, name) {
         return true;
     }
-    let private = row_start(index, name) + word16(table, 0);
-    let count = privates(index);
+    let reach = reach_of(index, name);
+    let private = row_start(index, name) + publics_of(table, reach);
+    let count = privates_of(index, reach);
     opposite(marking, private, private + count, count)
 }
 

@@ -2,7 +2,8 @@
 // self-calls are spared.
 ghost use mathlib.Core.Path.{_≡_};
 ghost use Prim.Native.Nat.{_≤_};
-ghost use Rattle.scheme.specs.Words.{definitions, nodes, branches};
+ghost use mathlib.Core.Bool.{not};
+ghost use Rattle.scheme.specs.Words.{definitions, nodes, branches, isCall};
 ghost use Rattle.scheme.specs.Index.{definitionsIn};
 ghost use Rattle.lists.specs.Lists.{word, range, every};
 ghost use Rattle.table.specs.Causes.{entryRight, callRightIn, callsRight};
@@ -60,12 +61,31 @@ fn all_calls_right(table: &[u16], index: &[u32], spared: bool) -> bool
     true
 }
 
+// Whether no node is a Call.
+fn has_no_call(table: &[u16]) -> bool
+    ensures { λ r. ⌜ r ≡ every (λ n. not (isCall (now (table .entry)) n)) (range (nodes (now (table .entry)))) ⌝ }
+{
+    let count = word16(table, 4);
+    let mut n = 0;
+    while n < count {
+        if field3(table, 10, n, 0) == 3 {
+            return false;
+        }
+        n += 1;
+    }
+    true
+}
+
+// Without Calls the definitions of nodes are not asked for.
 pub(crate) fn calls_right(table: &[u16], spared: bool) -> bool
     requires { ⌜ (nodes (now table) ≤ 256) × (branches (now table) ≤ 256) × (definitions (now table) ≤ 32) ⌝ }
     ensures { λ r. ⌜ r ≡ callsRight (now (table .entry)) spared ⌝ }
 {
     if !all_pass(table, Item::EntryRight, 0, word16(table, 3)) {
         return false;
+    }
+    if has_no_call(table) {
+        return true;
     }
     let mut index = [0u32; BINDERS];
     fill_bodies(table, &mut index);

@@ -4,7 +4,7 @@ use std::collections::BTreeMap;
 
 use super::answers::Session;
 use super::self_calls::self_call_shapes;
-use super::shapes::{shapes, value_shapes};
+use super::shapes::{reach_shapes, shapes, value_shapes};
 use crate::table::{accept, accept_sparing};
 
 /// Counts, a line each.
@@ -77,7 +77,7 @@ fn found_after(session: &Session, answer: &[&str], letter: char) -> Vec<String> 
     if letter == 't' {
         if let Ok(table) = accept(&session.table) {
             found.push("shape any".to_string());
-            let shapes = [shapes(&table), value_shapes(&table)].concat();
+            let shapes = [shapes(&table), value_shapes(&table), reach_shapes(&table)].concat();
             found.extend(shapes.iter().map(|shape| format!("shape {shape}")));
         } else if let Ok(table) = accept_sparing(&session.table) {
             let shapes = self_call_shapes(&table);

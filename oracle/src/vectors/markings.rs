@@ -5,7 +5,7 @@ use crate::random::Random;
 use crate::table::Table;
 
 /// A marking that stands for a random state: each thread at a random control place, each name held
-/// there at a random value.
+/// there at a random value of its reach.
 pub fn standing(random: &mut Random, table: &Table, places: &Places) -> Vec<u8> {
     let mut marking = vec![0; places.count];
     let mut held = Vec::new();
@@ -19,12 +19,13 @@ pub fn standing(random: &mut Random, table: &Table, places: &Places) -> Vec<u8> 
     let shared = fresh.clone();
     let mut values = vec![None; table.names.len()];
     for name in held {
+        let own = places.values_of(name);
         let value = if table.is_restricted(name) {
             fresh.pop()
-        } else if random.chance(60) && !shared.is_empty() {
+        } else if random.chance(60) && own.private_count() > 0 {
             random.pick(&shared)
         } else {
-            Some(random.below(places.values().len()))
+            own.into_iter().nth(random.below(own.len()))
         };
         values[name - table.publics] = value;
     }
@@ -32,8 +33,7 @@ pub fn standing(random: &mut Random, table: &Table, places: &Places) -> Vec<u8> 
     marking
 }
 
-/// A control place of a thread, and the names held there: with no value to give, a place where none
-/// is held.
+/// A control place of a thread, and the names held there: each of them has some value.
 fn random_control(
     random: &mut Random,
     table: &Table,
@@ -47,7 +47,7 @@ fn random_control(
         let range = places.of_node(table, node);
         let position = random.below(range.len());
         let held: Vec<usize> = names_at(table, node, position).collect();
-        if held.is_empty() || !places.values().is_empty() {
+        if held.iter().all(|&name| !places.values_of(name).is_empty()) {
             return (range.start + position, held);
         }
     }
@@ -57,7 +57,7 @@ fn random_control(
 fn mark_values(table: &Table, places: &Places, values: &[Option<usize>], marking: &mut [u8]) {
     for value in places.private_values() {
         marking[places.free(value)] = 1;
-        for name in table.inputs_and_formals() {
+        for name in places.with_private_values(table) {
             marking[places.unequal(name, value)] = 1;
         }
     }
@@ -70,7 +70,7 @@ fn mark_values(table: &Table, places: &Places, values: &[Option<usize>], marking
 
 /// Gives a name a value.
 fn give(table: &Table, places: &Places, marking: &mut [u8], name: usize, value: usize) {
-    marking[places.equal(table, name, value)] = 1;
+    marking[places.equal(name, value)] = 1;
     if table.is_restricted(name) {
         marking[places.free(value)] = 0;
     } else if places.is_private(value) {
@@ -80,7 +80,7 @@ fn give(table: &Table, places: &Places, marking: &mut [u8], name: usize, value: 
 
 /// Takes a value from a name.
 fn take(table: &Table, places: &Places, marking: &mut [u8], name: usize, value: usize) {
-    marking[places.equal(table, name, value)] = 0;
+    marking[places.equal(name, value)] = 0;
     if table.is_restricted(name) {
         marking[places.free(value)] = 1;
     } else if places.is_private(value) {
@@ -107,19 +107,18 @@ pub fn spoil(random: &mut Random, table: &Table, places: &Places, marking: &mut 
         }
         (6, _) => marking.push(random.below(2) as u8),
         (7, Some(name)) => {
-            let values: Vec<usize> = places.range(table, name).collect();
+            let values: Vec<usize> = places.values_of(name).into_iter().collect();
             if let Some(value) = random.pick(&values) {
                 give(table, places, marking, name, value);
             }
         }
         (_, Some(name)) => {
-            let values = places.range(table, name);
-            let has = |&value: &usize| marking[places.equal(table, name, value)] == 1;
-            let Some(value) = values.clone().find(has) else {
+            let values: Vec<usize> = places.values_of(name).into_iter().collect();
+            let has = |&value: &usize| marking[places.equal(name, value)] == 1;
+            let Some(value) = values.iter().copied().find(has) else {
                 return;
             };
             take(table, places, marking, name, value);
-            let values: Vec<usize> = values.collect();
             if let (true, Some(other)) = (random.chance(70), random.pick(&values)) {
                 give(table, places, marking, name, other);
             }

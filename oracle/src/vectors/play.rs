@@ -4,6 +4,7 @@
 use std::ops::Range;
 
 use super::answers::{IMAGE_ROOM, LABEL_ROOM};
+use super::drawing::first_words;
 use super::markings::{spoil, standing};
 use super::requests::Writer;
 use super::shapes::shapes;
@@ -14,7 +15,7 @@ use crate::generate::{accepted, Shape};
 use crate::net::Image;
 use crate::places::Places;
 use crate::random::Random;
-use crate::size::{image_words, most_words};
+use crate::size::image_words;
 use crate::table::{accept, Table};
 
 /// A table that `cause` refuses, its size, and a call or two with it.
@@ -40,12 +41,12 @@ pub fn ask_any(writer: &mut Writer) {
     }
 }
 
-/// An accepted table whose image, with a private value for each bound name, would have a number of
-/// words in the range, and `calls` calls.
+/// An accepted table whose image by document 01 alone has a number of words in the range, and
+/// `calls` calls.
 pub fn play(writer: &mut Writer, shape: Shape, sizes: Range<usize>, calls: usize) {
     play_any(writer, calls, calls / 2, |random| {
         let words = accepted(random, shape);
-        let fits = |table: &Table| sizes.contains(&most_words(table));
+        let fits = |table: &Table| sizes.contains(&first_words(table));
         accept(&words)
             .is_ok_and(|table| fits(&table))
             .then_some(words)

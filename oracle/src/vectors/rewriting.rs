@@ -2,6 +2,7 @@
 //! on the rewritten table.
 
 use super::answers::TABLE_ROOM;
+use super::drawing::first_words;
 use super::play::{ask_any, play_table};
 use super::requests::{Writer, TINY};
 use super::self_calls::{self_call_shapes, SELF_CALL_SHAPES};
@@ -11,7 +12,6 @@ use crate::dialogue::dialogue;
 use crate::generate::{accepted, Shape};
 use crate::random::Random;
 use crate::rewrite::rewritten;
-use crate::size::most_words;
 use crate::table::{accept, accept_sparing, Table};
 
 /// A definition that calls itself at once.
@@ -90,7 +90,7 @@ fn drawn(
     loop {
         let words = draw(random);
         let table = rewritten(&words).and_then(|words| accept(&words));
-        let fits = table.is_ok_and(|table| most_words(&table) < 60_000);
+        let fits = table.is_ok_and(|table| first_words(&table) < 60_000);
         if fits && accept_sparing(&words).is_ok_and(|table| wanted(&table)) {
             return words;
         }

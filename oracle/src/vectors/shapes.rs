@@ -1,6 +1,7 @@
 //! What a table is like.
 
 use crate::places::{names_at, Places};
+use crate::reach::Reach;
 use crate::table::{Branch, Node, Table};
 
 /// The names of the shapes.
@@ -32,6 +33,75 @@ pub const VALUE_SHAPES: [&str; 7] = [
     "N set by a Call's chain",
     "N set by a Stop's chain",
 ];
+
+/// The names of the shapes that a table has by the reach of its names.
+pub const REACH_SHAPES: [&str; 8] = [
+    "a bound name that nothing reaches",
+    "a reach of some publics",
+    "a reach of some publics and private values",
+    "a reach of private values alone of an input or formal",
+    "private channels without a restricted name in common",
+    "a reach that grows in a second round",
+    "a name sent within its thread alone",
+    "a channel that is received or handed on",
+];
+
+/// The shapes that an accepted table has by the reach of its names.
+pub fn reach_shapes(table: &Table) -> Vec<&'static str> {
+    let places = Places::of(table);
+    let reach = Reach::least(table);
+    let others = || {
+        table
+            .inputs_and_formals()
+            .map(|name| places.values_of(name))
+    };
+    let count = table.branches.len();
+    let pairs = || (0..count).flat_map(move |send| (0..count).map(move |receive| (send, receive)));
+    let across = || pairs().filter_map(|(send, receive)| table.pair(send, receive));
+    let within = || {
+        pairs().filter_map(|(send, receive)| {
+            match (table.branches[send], table.branches[receive]) {
+                (
+                    Branch::Send { channel, name, .. },
+                    Branch::Receive {
+                        channel: receiving,
+                        name: received,
+                        ..
+                    },
+                ) => Some((channel, name, receiving, received)),
+                _ => None,
+            }
+        })
+    };
+    let is_other = |name: usize| table.is_bound(name) && !table.is_restricted(name);
+    let private = |name: usize| places.values_of(name).private_count() > 0;
+    let found = [
+        others().any(|values| values.is_empty()),
+        others().any(|values| {
+            (1..table.publics).contains(&values.public_count()) && values.private_count() == 0
+        }),
+        others().any(|values| {
+            (1..table.publics).contains(&values.public_count()) && values.private_count() > 0
+        }),
+        others().any(|values| values.public_count() == 0 && values.private_count() > 0),
+        across().any(|pair| {
+            private(pair.sending)
+                && private(pair.receiving)
+                && places.common(pair.sending, pair.receiving).private_count() == 0
+        }),
+        !Reach::after_a_round(table).is_closed(table),
+        within().any(|(sending, sent, receiving, received)| {
+            reach.overlap(sending, receiving) && !reach.within(sent, received)
+        }),
+        across()
+            .any(|pair| is_other(pair.receiving) && reach.overlap(pair.sending, pair.receiving)),
+    ];
+    let shapes = REACH_SHAPES.into_iter().zip(found);
+    shapes
+        .filter(|&(_, has)| has)
+        .map(|(shape, _)| shape)
+        .collect()
+}
 
 /// The shapes that an accepted table has by its private values.
 pub fn value_shapes(table: &Table) -> Vec<&'static str> {

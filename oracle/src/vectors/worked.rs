@@ -1,6 +1,7 @@
 //! Document 01's worked cases: table E, its image, firings, run and states, and the variants that
 //! its paragraph of starred cases names; then small tables written out by hand, and a large one.
 
+use super::reaching::reaching;
 use super::requests::Writer;
 use crate::generate::encode;
 
@@ -13,6 +14,12 @@ const E: [u16; 48] = [
     2, 1, 1, 1, 0, 1, 0, 0, 0, 1, 1, 1, 0, 0, 0, // nodes
     1, 0, 1, 2, 2, 0, 2, 4, // branches
 ];
+
+/// What its net has, and which of its transitions are where r and x have value 1 and 2.
+const E_WORDS: u64 = 106;
+const E_PLACES: u64 = 15;
+const E_TRANSITIONS: u64 = 8;
+const E_RUN: [[u64; 4]; 2] = [[0, 6, 2, 4], [1, 7, 3, 5]];
 
 /// One thread that stands at Stop.
 const STOPPED: [u16; 21] = [
@@ -58,50 +65,77 @@ pub fn play_worked(writer: &mut Writer) {
     play_e(writer);
     look_at_e(writer);
     play_variants(writer);
-    for (table, places) in [
-        (&INTO_STOP[..], 15),
-        (&ON_ITSELF[..], 30),
-        (&REPEATED[..], 15),
-    ] {
-        walk(writer, table, places);
+    for table in [&INTO_STOP[..], &ON_ITSELF[..], &REPEATED[..]] {
+        walk(writer, table);
+    }
+    for table in reaching() {
+        walk(writer, &table);
     }
     writer.table(&large());
     writer.ask('z', &[]);
     writer.ask('b', &[0]);
 }
 
-/// K(p0) beside L(p0, p1), K(f) := a choice of receives on f and L(g, h) := a choice of sends of h
-/// on g, as many as the bounds let through: any value on any channel, so an image of more than 100
-/// million words.
+/// p0(x).(x(y).0 + …) beside p0(g).p0(h).(g⟨h⟩.0 + …) and ν r.(p0⟨p0⟩.0 + … + p0⟨r⟩.0), as many as
+/// the bounds let through: any value on any channel.
 fn large() -> Vec<u16> {
-    let (f, g, h, first_input) = (32, 33, 34, 35);
-    let (receives, sends) = (29, 223);
-    let branches = receives + sends;
-    let names = [vec![2; 3], vec![1; receives]].concat();
-    let definitions = vec![0, 0, 0, 0, 0, 1, f, 1, 1, 2, 0, 0, 1, 3, g, 2];
-    let choices = [3, 1, 0, 1, 0, receives, 3, 3, 1, 1, receives, sends];
-    let mut nodes = choices.map(|word| word as u16).to_vec();
-    nodes.resize(3 * (4 + branches), 0);
-    let branch = |at: usize| match at < receives {
-        true => [2, f, first_input + at as u16, 4 + at as u16],
-        false => [1, g, h, 4 + at as u16],
-    };
-    let branches = (0..branches).flat_map(branch).collect();
-    let arguments = vec![0, 0, 1];
+    let (r, x, g, h, first_input) = (32, 33, 34, 35, 36);
+    let (receives, sends, values) = (28, 180, 33);
+    let names = [vec![0], vec![1; 3 + receives]].concat();
+    let definitions = vec![0, 0, 0, 0, 1, 1, 0, 0, 2, 2, 0, 0];
+    // Branches: x, g, the receives on x, h, the sends on g, the sends on p0.
+    let for_h = 2 + receives;
+    let first_send = for_h + 1;
+    let first_value = first_send + sends;
+    let count = first_value + values;
+    let inner = [
+        [1, 0, 1],
+        [1, 1, 1],
+        [2, r, 6],
+        [1, 2, receives],
+        [1, for_h, 1],
+        [1, first_send, sends],
+        [1, first_value, values],
+    ];
+    let mut nodes: Vec<usize> = inner.concat();
+    let mut branches: Vec<usize> = Vec::new();
+    for at in 0..count {
+        let stop = nodes.len() / 3;
+        branches.extend(match at {
+            0 => [2, 0, x, 3],
+            1 => [2, 0, g, 4],
+            at if at < for_h => [2, x, first_input + at - 2, stop],
+            at if at == for_h => [2, 0, h, 5],
+            at if at < first_value => [1, g, h, stop],
+            at => [1, 0, at - first_value, stop],
+        });
+        if branches.ends_with(&[stop]) {
+            nodes.extend([0, 0, 0]);
+        }
+    }
+    let words = |list: Vec<usize>| list.into_iter().map(|word| word as u16).collect();
     encode(
         32,
-        [names, definitions, vec![0, 2], nodes, branches, arguments],
+        [
+            names,
+            definitions,
+            vec![0, 1, 2],
+            words(nodes),
+            words(branches),
+            vec![],
+        ],
     )
 }
 
 fn play_e(writer: &mut Writer) {
     writer.table(&E);
-    for room in [115, 114, 0, 120, 115] {
+    for room in [E_WORDS, E_WORDS - 1, 0, E_WORDS + 5, E_WORDS] {
         writer.ask('z', &[]);
         writer.ask('b', &[room]);
     }
-    for (length, number) in [(16, 7), (16, 9), (16, 4_294_967_295), (16, 0), (16, 1)] {
-        writer.ask('l', &[length]);
+    let channel = E_RUN[0][1];
+    for number in [channel, E_TRANSITIONS, 4_294_967_295, 0, 1] {
+        writer.ask('l', &[E_PLACES]);
         writer.ask('r', &[]);
         writer.ask('f', &[number]);
         writer.ask('g', &[4]);
@@ -122,7 +156,7 @@ fn play_e(writer: &mut Writer) {
     }
     writer.ask('r', &[]);
     writer.ask('g', &[4]);
-    for number in [0, 7, 2, 5] {
+    for number in E_RUN[0] {
         writer.ask('f', &[number]);
         for room in [4, 3] {
             writer.ask('g', &[room]);
@@ -149,41 +183,50 @@ fn play_e(writer: &mut Writer) {
 fn look_at_e(writer: &mut Writer) {
     writer.ask('r', &[]);
     let most = 18_446_744_073_709_551_615;
-    for room in [16, 15, 0, 17, 40, 32_768, 32_769, most] {
+    let (exact, channel) = (E_PLACES, E_RUN[0][1]);
+    for room in [exact, exact - 1, 0, exact + 1, 40, 32_768, 32_769, most] {
         writer.ask('e', &[0, room]);
     }
-    for number in [9, 4_294_967_295, 4_294_967_296, 4_294_967_303, most] {
-        writer.ask('e', &[number, 16]);
+    let beyond = [E_TRANSITIONS, 4_294_967_295, 4_294_967_296];
+    for number in [&beyond[..], &[4_294_967_296 + channel, most]].concat() {
+        writer.ask('e', &[number, exact]);
     }
-    writer.ask('e', &[7]);
+    writer.ask('e', &[channel]);
     writer.ask('e', &[]);
-    for fired in [1, 8, 3, 6] {
-        for number in 0..9 {
-            writer.ask('e', &[number, 16]);
+    for fired in E_RUN[1] {
+        for number in 0..E_TRANSITIONS + 1 {
+            writer.ask('e', &[number, exact]);
         }
         writer.ask('f', &[fired]);
     }
     writer.ask('r', &[]);
-    let (initial, arc_start) = (8, 14 + 6 * 7 + 3);
-    writer.ask('i', &[initial, 6]);
+    // The places of [r=1], node 1, node 2's end and [x=1].
+    let (made, standing, ended, received) = (0, 9, 11, 2);
+    let (initial, arc_start) = (8, 14 + 6 * channel + 3);
+    let [first, second, start] = [initial, initial + 1, arc_start].map(|at| image_word(writer, at));
+    writer.ask('i', &[initial, second]);
     writer.ask('i', &[arc_start, 0]);
-    writer.ask('m', &[12, 2]);
-    writer.ask('e', &[9, 0]);
-    writer.ask('i', &[initial, 5]);
-    writer.ask('e', &[9, 0]);
-    writer.ask('m', &[12, 0]);
-    writer.ask('e', &[9, 0]);
-    writer.ask('e', &[7, 0]);
-    writer.ask('i', &[arc_start, 99]);
-    writer.ask('m', &[3, 1]);
-    writer.ask('e', &[7, 0]);
-    writer.ask('m', &[0, 1]);
-    writer.ask('m', &[10, 1]);
-    writer.ask('e', &[7, 0]);
-    writer.ask('m', &[3, 0]);
-    for room in [0, 15, 16, 18] {
-        writer.ask('e', &[7, room]);
+    writer.ask('m', &[ended, 2]);
+    writer.ask('e', &[E_TRANSITIONS, 0]);
+    writer.ask('i', &[initial, first]);
+    writer.ask('e', &[E_TRANSITIONS, 0]);
+    writer.ask('m', &[ended, 0]);
+    writer.ask('e', &[E_TRANSITIONS, 0]);
+    writer.ask('e', &[channel, 0]);
+    writer.ask('i', &[arc_start, start]);
+    writer.ask('m', &[received, 1]);
+    writer.ask('e', &[channel, 0]);
+    writer.ask('m', &[made, 1]);
+    writer.ask('m', &[standing, 1]);
+    writer.ask('e', &[channel, 0]);
+    writer.ask('m', &[received, 0]);
+    for room in [0, exact - 1, exact, exact + 2] {
+        writer.ask('e', &[channel, room]);
     }
+}
+
+fn image_word(writer: &Writer, at: u64) -> u64 {
+    writer.session.image[at as usize].into()
 }
 
 /// Table E with a word changed, cut and lengthened; the stopped table and its variant.
@@ -218,7 +261,7 @@ fn play_variants(writer: &mut Writer) {
     for words in variants {
         writer.table(&words);
         writer.ask('z', &[]);
-        writer.ask('b', &[115]);
+        writer.ask('b', &[E_WORDS]);
         writer.ask('s', &[4]);
         writer.ask('g', &[4]);
         writer.ask('o', &[3]);
@@ -236,10 +279,11 @@ fn play_variants(writer: &mut Writer) {
 }
 
 /// Builds a table, runs it firing by firing with a read-back after each, and walks its states.
-fn walk(writer: &mut Writer, table: &[u16], places: u64) {
+fn walk(writer: &mut Writer, table: &[u16]) {
     writer.table(table);
     writer.ask('z', &[]);
     writer.ask('b', &[1024]);
+    let places = image_word(writer, 0);
     writer.ask('l', &[places]);
     writer.ask('r', &[]);
     writer.ask('g', &[8]);

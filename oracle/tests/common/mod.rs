@@ -1,10 +1,11 @@
 //! What the tests over random tables share.
 #![allow(dead_code)]
 
-use std::collections::HashMap;
+use std::collections::{BTreeSet, HashMap};
 
 use oracle::places::Places;
 use oracle::random::Random;
+use oracle::reach::Reach;
 use oracle::table::{accept, NameKind, Node, Table};
 use oracle::{build, fire, open_steps, read, replay, size, start, step};
 
@@ -221,13 +222,74 @@ pub fn private_count(table: &Table) -> usize {
     }
 }
 
+/// Document 02's reach of each name, as a set of public and restricted names: the rules of document
+/// 000, section 7.3, and of calls, taken one at a time in any order until none adds a name.
+pub fn reaches(table: &Table, random: &mut Random) -> Vec<BTreeSet<usize>> {
+    let own = |name: usize| match name < table.publics || table.is_restricted(name) {
+        true => BTreeSet::from([name]),
+        false => BTreeSet::new(),
+    };
+    let mut sets: Vec<BTreeSet<usize>> = (0..table.name_count()).map(own).collect();
+    // Who takes in whom, if the reaches of two channels overlap.
+    let mut rules: Vec<(usize, usize, Option<[usize; 2]>)> = Vec::new();
+    for send in 0..table.branches.len() {
+        for receive in 0..table.branches.len() {
+            if let Some(pair) = table.pair(send, receive) {
+                let channels = [pair.sending, pair.receiving];
+                rules.push((pair.received, pair.sent, Some(channels)));
+            }
+        }
+    }
+    for (node, kind) in table.nodes.iter().enumerate() {
+        if let Node::Call { definition, .. } = *kind {
+            let formals = table.definitions[definition].formals();
+            let arguments = &table.arguments[table.argument_range(node)];
+            rules.extend(
+                formals
+                    .zip(arguments)
+                    .map(|(formal, &name)| (formal, name, None)),
+            );
+        }
+    }
+    loop {
+        random.shuffle(&mut rules);
+        let adds = |sets: &[BTreeSet<usize>], &(taker, taken, channels): &(_, _, Option<_>)| {
+            let open = channels
+                .is_none_or(|[one, other]: [usize; 2]| !sets[one].is_disjoint(&sets[other]));
+            let taker: usize = taker;
+            let taken: usize = taken;
+            open && !sets[taken].is_subset(&sets[taker])
+        };
+        let Some(&(taker, taken, _)) = rules.iter().find(|rule| adds(&sets, rule)) else {
+            return sets;
+        };
+        let more = sets[taken].clone();
+        sets[taker].extend(more);
+    }
+}
+
+/// The values that a reach stands for: its publics, and all private ones if it has a restricted
+/// name.
+pub fn values_in(table: &Table, set: &BTreeSet<usize>) -> Vec<usize> {
+    let (p, n) = (table.publics, private_count(table));
+    let privates = match set.iter().any(|&name| name >= p) {
+        true => p..p + n,
+        false => p..p,
+    };
+    let publics = set.iter().copied().filter(|&name| name < p);
+    publics.chain(privates).collect()
+}
+
 /// How the names of a marking come to their values.
 #[derive(Clone, Copy, PartialEq, Eq)]
 pub enum Values {
-    /// Many inputs and formals have one value, so that steps are open.
+    /// Many inputs and formals have one value, so that steps are open; each private value in use
+    /// has an origin, a restricted name in the reach of all that have it.
     Shared,
-    /// Each name has a private value of its own.
+    /// Each name has a private value of its own, where it can have one.
     Apart,
+    /// Any values of the names' reaches.
+    Any,
 }
 
 /// A random marking that stands for a state, reached or not.
@@ -242,25 +304,70 @@ pub fn standing_marking(net: &Net, random: &mut Random, how: Values) -> Vec<u8> 
     }
     let mut left: Vec<usize> = places.private_values().collect();
     random.shuffle(&mut left);
-    let favourite = random.pick(&left);
-    for name in table.bound_names() {
-        let value = if !held.contains(&name) {
-            None
-        } else if table.is_restricted(name) || how == Values::Apart && !left.is_empty() {
-            left.pop()
-        } else if random.chance(60) && favourite.is_some() {
-            favourite
+    let mut origins: Vec<(usize, usize)> = Vec::new();
+    let mut values = vec![None; table.names.len()];
+    // Restricted names choose first: no two of them have one value.
+    held.sort_by_key(|&name| !table.is_restricted(name));
+    for name in held {
+        let own = places.values_of(name);
+        let private = own.private_count() > 0;
+        let any = own.into_iter().nth(random.below(own.len()));
+        values[name - table.publics] = if table.is_restricted(name) {
+            let value = left.pop();
+            origins.push((value.unwrap(), name));
+            value
         } else {
-            Some(random.below(places.values().len()))
+            match how {
+                Values::Apart if private => left.pop(),
+                Values::Shared if private => {
+                    shared_value(net, random, name, &mut left, &mut origins)
+                }
+                _ => any,
+            }
         };
+    }
+    for (name, value) in table.bound_names().zip(values) {
         mark_row(net, &mut marking, name, value);
     }
     mark_free(net, &mut marking);
     marking
 }
 
-/// A control place of a thread, a choice rather than another, and the names held there: none, where
-/// there is no value that they could have.
+/// A value of a name with a private reach: often a private one whose origin it reaches, at times a
+/// public one.
+fn shared_value(
+    net: &Net,
+    random: &mut Random,
+    name: usize,
+    left: &mut Vec<usize>,
+    origins: &mut Vec<(usize, usize)>,
+) -> Option<usize> {
+    let reach = Reach::least(&net.table);
+    let own = net.places.values_of(name);
+    let reached = |&(value, origin): &(usize, usize)| reach.reaches(name, origin).then_some(value);
+    let known: Vec<usize> = origins.iter().filter_map(reached).collect();
+    let publics: Vec<usize> = own
+        .into_iter()
+        .filter(|&value| value < net.table.publics)
+        .collect();
+    if random.chance(30) && !publics.is_empty() {
+        return random.pick(&publics);
+    }
+    if random.chance(70) && !known.is_empty() {
+        return random.pick(&known);
+    }
+    let restricted: Vec<usize> = net
+        .table
+        .bound_names()
+        .filter(|&origin| net.table.is_restricted(origin) && reach.reaches(name, origin))
+        .collect();
+    let value = left.pop();
+    origins.push((value.unwrap(), random.pick(&restricted).unwrap()));
+    value
+}
+
+/// A control place of a thread, a choice rather than another, and the names held there: each of
+/// them can have a value.
 fn random_control(net: &Net, random: &mut Random, thread: usize) -> (usize, Vec<usize>) {
     let (table, places) = (&net.table, &net.places);
     let nodes: Vec<usize> = (0..table.nodes.len())
@@ -281,7 +388,7 @@ fn random_control(net: &Net, random: &mut Random, thread: usize) -> (usize, Vec<
         let control: Vec<usize> = places.of_node(table, node).collect();
         let at = random.below(control.len());
         let names = held_at(table, node, at);
-        if names.is_empty() || !places.values().is_empty() {
+        if names.iter().all(|&name| !places.values_of(name).is_empty()) {
             return (control[at], names);
         }
     }
@@ -304,9 +411,9 @@ pub fn held_at(table: &Table, node: usize, at: usize) -> Vec<usize> {
 
 fn mark_row(net: &Net, marking: &mut [u8], name: usize, value: Option<usize>) {
     if let Some(value) = value {
-        marking[net.places.equal(&net.table, name, value)] = 1;
+        marking[net.places.equal(name, value)] = 1;
     }
-    if !net.table.is_restricted(name) {
+    if !net.table.is_restricted(name) && net.places.values_of(name).private_count() > 0 {
         for other in net
             .places
             .private_values()
@@ -324,7 +431,7 @@ fn mark_free(net: &Net, marking: &mut [u8]) {
         let mut restricted = table
             .bound_names()
             .filter(|&name| table.is_restricted(name));
-        let taken = restricted.any(|name| marking[places.equal(table, name, value)] == 1);
+        let taken = restricted.any(|name| marking[places.equal(name, value)] == 1);
         marking[places.free(value)] = u8::from(!taken);
     }
 }

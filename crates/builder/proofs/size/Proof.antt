@@ -12,6 +12,9 @@ use Rattle.builder.proofs.size.Tie as tie
 slice-aggregate-measure : tie.Need-slice-aggregate-measure
 slice-aggregate-measure c = search needs
 
+slice-aggregate-measure-2 : tie.Need-slice-aggregate-measure-2
+slice-aggregate-measure-2 c = search needs
+
 measure-requires : tie.Need-measure-requires
 measure-requires c κs = search needs
 
@@ -23,7 +26,7 @@ slice-aggregate-length-of c = search needs
 
 length-of-requires : tie.Need-length-of-requires
 length-of-requires c κs =
-    let m = measured-net _ _ _ _ (c .before .before .before .before .before .measure .ensures) _ (c .before .before .totals .given .1) in
+    let m = measured-net _ _ _ _ _ _ (c .before .before .before .before .before .before .measure .ensures) _ (c .before .before .totals .given .1) in
     (few-tokens _ _ (m .0), few-totals _ (m .0 .accepted) _ (m .0) _ (m .1))
 
 enum-known-verdict : tie.Need-enum-known-verdict
@@ -34,23 +37,26 @@ enum-told c = search needs
 
 returns : tie.Need-returns
 returns c =
-    let m = measured-net _ _ _ _ (c .before .before .before .before .before .before .measure .ensures) _ (c .before .before .before .totals .given .1) in
+    let c3 = c .before .before .before in
+    let m = measured-net _ _ _ _ _ _ (c3 .before .before .before .before .measure .ensures) _ (c3 .totals .given .1) in
     size-answer _ _ (m .0 .accepted) (c .length-of .ensures ∙ words-are _ (m .0 .accepted) _ (m .0) _ (m .1) _ refl)
 
 returns-2 : tie.Need-returns-2
 returns-2 c =
-    let k = measured-refused _ _ _ _ (c .before .before .before .before .measure .ensures) _ (c .before .verdict .given .1) in
+    let k = measured-refused _ _ _ _ _ _ (c .before .before .before .before .before .measure .ensures) _ (c .before .verdict .given .1) in
     no-size _ _ (k .0) (k .1)
 
 returns-3 : tie.Need-returns-3
-returns-3 c = absurd (measured-short _ _ _ _ (c .before .before .before .measure .ensures) (c .enum-told .given .1) (omega
-    (arith, c .before .before .before .measure .kept .1 .0)))
+returns-3 c =
+    let m = c .before .before .before .before .measure in
+    absurd (measured-short _ _ _ _ _ _ (m .ensures) (c .enum-told .given .1) (omega (arith, m .kept .1 .0)) (omega (arith, m .kept .1 .1 .0)))
 
 pub size-spec : {M : Type 1} → statement M
 size-spec =
     tie.close
     (tie.spec
     slice-aggregate-measure
+    slice-aggregate-measure-2
     measure-requires
     enum-known-totals
     slice-aggregate-length-of

@@ -14,7 +14,7 @@ use Rattle.builder.proofs.write_image.Tie as tie
 
 length-of-requires : tie.Need-length-of-requires
 length-of-requires c κs =
-    let s = c .before .before .before in
+    let s = c .before .before .before .before in
     let w = s .args .table .now in
     let x = s .args .index .now in
     let ok = s .pre .0 .accepted in
@@ -24,7 +24,7 @@ length-of-requires c κs =
 
 returns : tie.Need-returns
 returns c =
-    let s = c .before .before .before .before .before in
+    let s = c .before .before .before .before .before .before in
     let w = s .args .table .now in
     let x = s .args .index .now in
     let ok = s .pre .0 .accepted in
@@ -34,7 +34,7 @@ returns c =
 
 header-requires : tie.Need-header-requires
 header-requires c κs =
-    let s = c .before .before .before .before .before .before in
+    let s = c .before .before .before .before .before .before .before in
     let w = s .args .table .now in
     let x = s .args .index .now in
     let ok = s .pre .0 .accepted in
@@ -52,9 +52,9 @@ token-count-requires c κs = search needs
 add-base : tie.Need-add-base
 add-base c = omega (arith, c .token-count .ensures .small)
 
-mul-t9 : tie.Need-mul-t9
-mul-t9 c =
-    let s = c .before .before .before .before .before .before .before .before .before .before .before .before .before .before .before in
+mul-t10 : tie.Need-mul-t10
+mul-t10 c =
+    let s = c .before .before .before .before .before .before .before .before .before .before .before .before .before .before .before .before in
     let w = s .args .table .now in
     let x = s .args .index .now in
     let ok = s .pre .0 .accepted in
@@ -62,9 +62,9 @@ mul-t9 c =
     let e = s .pre .1 in
     omega (arith, few-totals w ok x L (s .args .totals) e .few-transitions)
 
-add-t16 : tie.Need-add-t16
-add-t16 c =
-    let s = c .before .before .before .before .before .before .before .before .before .before .before .before .before .before .before in
+add-t17 : tie.Need-add-t17
+add-t17 c =
+    let s = c .before .before .before .before .before .before .before .before .before .before .before .before .before .before .before .before in
     let w = s .args .table .now in
     let x = s .args .index .now in
     let ok = s .pre .0 .accepted in
@@ -74,7 +74,7 @@ add-t16 c =
 
 nodes-requires : tie.Need-nodes-requires
 nodes-requires c κs =
-    let s = c .before .before .before .before .before .before .before .before .before .before .before .before .before .before .before .before in
+    let s = c .before .before .before .before .before .before .before .before .before .before .before .before .before .before .before .before .before in
     let w = s .args .table .now in
     let x = s .args .index .now in
     let ok = s .pre .0 .accepted in
@@ -93,7 +93,7 @@ nodes-requires c κs =
 communications-requires : tie.Need-communications-requires
 communications-requires c κs =
     let s = c .before .before .before .before .before .before .before .before .before .before .before .before .before .before .before .before .before
-    .before .before .before in
+    .before .before .before .before in
     let w = s .args .table .now in
     let x = s .args .index .now in
     let ok = s .pre .0 .accepted in
@@ -104,6 +104,7 @@ communications-requires c κs =
     let room : length (imageOf w) ≤ length (s .args .out .now) = omega
     (arith, n, c .before .before .before .before .before .before .before .before .before .before .before .before .before .before .before .if1 .left) in (
       L,
+      s .pre .2,
       inside-pairs w ok x L _ e _ _ _ room (c .before .before .before .before .before .before .before .before .before .before .before .before .before
           .header .ensures) (c .before .before .before .before .before .before .before .before .before .initial .ensures) _ (rw
           (c .before .before .before .before .before .before .token-count .ensures .is) at (c .before .before .before .nodes .ensures)),
@@ -115,7 +116,7 @@ same-length c = search needs
 returns-2 : tie.Need-returns-2
 returns-2 c =
     let s = c .before .before .before .before .before .before .before .before .before .before .before .before .before .before .before .before .before
-    .before .before .before .before .before .before in
+    .before .before .before .before .before .before .before in
     let w = s .args .table .now in
     let x = s .args .index .now in
     let ok = s .pre .0 .accepted in
@@ -147,8 +148,8 @@ write-image-spec =
     initial-requires
     token-count-requires
     add-base
-    mul-t9
-    add-t16
+    mul-t10
+    add-t17
     nodes-requires
     communications-requires
     same-length

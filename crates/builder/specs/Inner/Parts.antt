@@ -1,29 +1,37 @@
 -- What is written of a table's net: the heads, the transitions in turn, the chain of a node, and a send with a receive.
 use mathlib.Core.Path.{_≡_}
-use mathlib.Core.Bool.{true}
+use mathlib.Core.Bool.{true, not}
+use mathlib.Core.Logic.{_⊎_}
 use mathlib.Core.List.{List, [], _∷_, map}
 use Prim.Native.Nat.{ℕ, _+_, _≤_, _<_}
-use lib.Dec.{ltb}
 use lib.ListN.{length, take}
-use Rattle.lists.specs.Lists.{pick, word, from, range, flat, member, ascends}
-use Rattle.scheme.specs.Words.{publics, bounds, nodes, branches, channel, branchName, next, nodeFirst, nodeSecond, isSend, isReceive}
+use Rattle.lists.specs.Lists.{pick, same, word, from, range, flat, member, ascends}
+use Rattle.scheme.specs.Words.{publics, bounds, nodes, branches, channel, branchName, next, nodeFirst, nodeSecond, argument, isSend, isReceive}
 use Rattle.scheme.specs.Owners.{home, branchThread}
 use Rattle.scheme.specs.Scheme.{scheme}
 use Rattle.net.specs.Image.{labelOf}
 use Rattle.net.specs.Net.{Transition}
 use Rattle.places.specs.Values.{privateValuesOf}
-use Rattle.places.specs.Places.{Place, controls, common}
+use Rattle.places.specs.Places.{Place, equals, differs, controls, common}
+use Rattle.places.specs.Rows.{numberOf}
 use Rattle.places.specs.Transitions.{Description, making, communicating, sentOn, ofPair}
 use Rattle.places.specs.Image.{transitionOf}
-use Rattle.places.specs.Inner.Arcs.{insert, numbersOf, startsAt}
+use Rattle.places.specs.Inner.Arcs.{insert, exists, numbersOf, startsAt}
 use Rattle.places.specs.Inner.Plan.{today, values, controlOf, rowOf, reached, Reads}
 use Rattle.builder.specs.Inner.Writing
 use Rattle.builder.specs.Inner.Writing.{heads, putAll, rise}
-use Rattle.places.specs.declared.layout.Reach.{Reach}
+use Rattle.builder.specs.Inner.Spans.{Narrow, Parted, valuesIn}
+use Rattle.places.specs.declared.reach.Reach.{Reach}
+use Rattle.places.specs.declared.count.Side.{Side}
 use Rattle.builder.specs.declared.write.Heads.{Heads}
 use Rattle.builder.specs.declared.write.Arcs.{Arcs}
+use Rattle.builder.specs.declared.write.Risers.{Risers}
+use Rattle.builder.specs.declared.spans.Values.{Values}
 use Rattle.builder.specs.declared.chain.Chain.{Chain}
 use Rattle.builder.specs.declared.communications.Pair.{Pair}
+use Rattle.builder.specs.declared.communications.Spots.{Spots}
+use Rattle.builder.specs.declared.communications.Way.{Way}
+use Rattle.builder.specs.declared.communications.Course.{Course}
 
 abbrev pub ofTable : List ℕ → Description → Transition
 ofTable w d = transitionOf (scheme w) (today w) d
@@ -63,10 +71,6 @@ abbrev pub told : List ℕ → ℕ → ℕ → ℕ → ℕ → Description
 told w s r i j =
     communicating (scheme w) (today w) s (channel w s) (branchName w s) (next w s) r (channel w r) (branchName w r) (next w r) i j
 
--- their communications at one channel value
-abbrev pub sentTold : List ℕ → ℕ → ℕ → ℕ → List Description
-sentTold w s r i = map (told w s r i) (sentOn (scheme w) (today w) (channel w s) (branchName w s) i)
-
 -- the communications of a branch with another one, with all, and of all
 abbrev pub withBranch : List ℕ → ℕ → ℕ → List Description
 withBranch w s r = ofPair (scheme w) (today w) s (scheme w .branch s) r (scheme w .branch r)
@@ -98,6 +102,9 @@ abbrev pub arrow : ℕ → ℕ → ℕ → List ℕ → List ℕ → Transition
 arrow kind a b ins outs = record { label = labelOf kind a b; inputs = ins; outputs = outs }
 
 -- the numbers of arcs, in eight words each
+abbrev pub arcs : List ℕ → ℕ → List ℕ → ℕ → Arcs
+arcs ins inputs outs outputs = record { ins = ins; inputs = inputs; outs = outs; outputs = outputs }
+
 abbrev pub insOf : Arcs → List ℕ
 insOf t = take (t .inputs) (t .ins)
 
@@ -122,13 +129,105 @@ pub record Tells (w : List ℕ) (p : Pair) (i j : ℕ) (t : Arcs) : Type 0 where
   pub ins-are : insOf t ≡ ofTable w (told w (p .send) (p .receive) i j) .inputs
   pub outs-are : outsOf t ≡ ofTable w (told w (p .send) (p .receive) i j) .outputs
 
--- values of a bound name that is sent on another one, all public or all private
-pub record Run (w : List ℕ) (p : Pair) (low count : ℕ) : Type 0 where
+-- the receive may hear at channel value i, which both channels may have in common
+pub record Hears (w : List ℕ) (p : Pair) (i : ℕ) : Type 0 where
+  pub reads : Reads w (channel w (p .receive)) i
+  pub shared : member i (common (scheme w) (today w) (channel w (p .send)) (channel w (p .receive))) ≡ true
+
+-- both channels may have channel value i, and the sent name sent value j
+pub record Can (w : List ℕ) (p : Pair) (i j : ℕ) : Type 0 where
+  pub channel : Reads w (channel w (p .send)) i
+  pub heard : Hears w p i
+  pub sent : Reads w (branchName w (p .send)) j
+
+-- ---- the places of names
+
+-- the number of a place, and of none where the net does not have it
+abbrev pub noSpot : ℕ
+noSpot = 4294967295
+
+unfoldable pub spotOf : List ℕ → Place → ℕ
+spotOf w p = pick (exists (scheme w) (today w) p) (numberOf (scheme w) (today w) p) noSpot
+
+pub record Spotted (w : List ℕ) (p : Pair) (i j : ℕ) (t : Spots) : Type 0 where
+  pub channel-is : t .channel ≡ spotOf w (equals (p .channel) i)
+  pub heard-is : t .heard ≡ spotOf w (equals (p .heard) i)
+  pub sent-is : t .sent ≡ spotOf w (equals (p .sent) j)
+  pub bound-is : t .bound ≡ spotOf w (equals (p .bound) j)
+  pub free-is : t .free ≡ spotOf w (differs (p .bound) j)
+
+-- ---- runs of values
+
+-- the channel value and the sent value of value v of a run
+abbrev pub channelAt : Way → ℕ → ℕ
+channelAt way v = pick (way .channels) v (way .other)
+
+abbrev pub sentAt : Way → ℕ → ℕ
+sentAt way v = pick (way .sents) v (way .other)
+
+abbrev pub toldBy : List ℕ → Pair → Way → ℕ → Description
+toldBy w p way v = told w (p .send) (p .receive) (channelAt way v) (sentAt way v)
+
+-- the numbers that rise
+abbrev pub risersOf : Way → Spots → Risers
+risersOf way t = record {
+  a = pick (way .channels) (t .channel) noSpot;
+  b = pick (way .channels) (t .heard) noSpot;
+  c = pick (way .sents) (t .sent) noSpot;
+  d = pick (way .sents) (t .bound) noSpot;
+  e = pick (way .sents) (t .free) noSpot;
+}
+
+abbrev pub risersIn : Risers → List ℕ
+risersIn r = r .a ∷ r .b ∷ r .c ∷ r .d ∷ r .e ∷ []
+
+-- a name sent on itself goes with its channel
+abbrev pub Together : Pair → Way → Type 0
+Together p way = p .sent ≡ p .channel → (way .channels ≡ true) × (way .sents ≡ true)
+
+-- values that follow one another, all public or all private, and can all be told
+pub record Telling (w : List ℕ) (p : Pair) (way : Way) (low count : ℕ) : Type 0 where
   pub some : 0 < count
-  pub bound : publics w ≤ p .sent
-  pub other : p .sent ≡ p .channel → ⊥
-  pub reads : (v : ℕ) → low ≤ v → v < low + count → Reads w (branchName w (p .send)) v
-  pub kind : (v : ℕ) → low ≤ v → v < low + count → ltb v (publics w) ≡ ltb low (publics w)
+  pub few : low + count ≤ 64
+  pub kind : (low + count ≤ publics w) ⊎ (publics w ≤ low)
+  pub together : Together p way
+  pub can : (v : ℕ) → low ≤ v → v < low + count → Can w p (channelAt way v) (sentAt way v)
+
+-- values that can all be told
+pub record Told (w : List ℕ) (p : Pair) (way : Way) (x : Values) : Type 0 where
+  pub narrow : Narrow x
+  pub parted : Parted (publics w) x
+  pub together : Together p way
+  pub can : (v : ℕ) → member v (valuesIn x) ≡ true → Can w p (channelAt way v) (sentAt way v)
+
+-- how the communications of a send of name z on channel a are gone through
+pub record Coursed (w : List ℕ) (a z : ℕ) (c : Course) : Type 0 where
+  pub narrow : Narrow (c .values)
+  pub single : c .channels ≡ true → length (valuesIn (c .values)) ≡ 1
+  pub own : z ≡ a → (c .channels ≡ true) × (c .sents ≡ true)
+  pub others : (z ≡ a → ⊥) → (c .sents ≡ not (c .channels)) × Parted (publics w) (c .values) × (valuesIn (c .values) ≡ values w z)
+
+-- a pair by what is told of both branches
+abbrev pub pairOf : Side → Side → Pair
+pairOf s r = record {
+  send = s .branch;
+  receive = r .branch;
+  channel = s .channel;
+  sent = s .name;
+  heard = r .channel;
+  bound = r .name;
+  sender = s .place;
+  onsend = s .on;
+  receiver = r .place;
+  onreceive = r .on;
+}
+
+-- formal f may hold what argument a may hold; so each of `count` formals
+abbrev pub Takes : List ℕ → ℕ → ℕ → Type 0
+Takes w f a = (v : ℕ) → member v (values w a) ≡ true → member v (values w f) ≡ true
+
+abbrev pub TakesAll : List ℕ → ℕ → ℕ → ℕ → Type 0
+TakesAll w f a count = (i : ℕ) → i < count → Takes w (f + i) (argument w (a + i))
 
 -- the first words of a list, which ascend
 pub record Rising (list : List ℕ) (count : ℕ) : Type 0 where
@@ -139,6 +238,11 @@ pub record Rising (list : List ℕ) (count : ℕ) : Type 0 where
 pub record Inserted (x count : ℕ) (before : List ℕ) (r : ℕ) (after : List ℕ) : Type 0 where
   pub size : r ≡ length (insert x (take count before))
   pub first : take r after ≡ insert x (take count before)
+
+-- so, where there is a number to put in
+pub record Entered (x count : ℕ) (before : List ℕ) (r : ℕ) (after : List ℕ) : Type 0 where
+  pub size : r ≡ pick (same x noSpot) count (length (insert x (take count before)))
+  pub first : take r after ≡ pick (same x noSpot) (take count before) (insert x (take count before))
 
 -- the first `count` words are the numbers of those of the places that the net has
 pub record Filled (w list : List ℕ) (count : ℕ) (ps : List Place) : Type 0 where
@@ -158,6 +262,6 @@ pairTold w s r =
 abbrev pub ValueAt : ℕ → Reach → ℕ → ℕ → Type 0
 ValueAt p r k v = (n : ℕ) → k < length (reached p n r) → v ≡ word (reached p n r) k
 
--- how many values a reach with n private values has, however many public ones there are
-abbrev pub CountOf : ℕ → Reach → ℕ → Type 0
-CountOf n r k = (p : ℕ) → k ≡ length (reached p n r)
+-- how many values a reach with p public and n private values has
+abbrev pub CountOf : ℕ → ℕ → Reach → ℕ → Type 0
+CountOf p n r k = k ≡ length (reached p n r)

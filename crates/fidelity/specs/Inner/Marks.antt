@@ -11,7 +11,7 @@ use Rattle.lists.specs.Lists as Lists
 use Rattle.lists.specs.Lists.{pick, same, member}
 use Rattle.scheme.specs.Scheme.{Scheme}
 use Rattle.process.specs.States.{put}
-use Rattle.places.specs.Values.{Values}
+use Rattle.places.specs.Values.{Values, shares}
 use Rattle.places.specs.Places.{Place, equals, differs, free, control}
 use Rattle.places.specs.Transitions.{Move, Test, Command, skip, take, release, Description, isInput, isOutput, isLeft, isReached}
 use Rattle.readback.specs.Configurations.{Spot, spot, Configuration, heldHere, isSpot}
@@ -144,6 +144,15 @@ module _ (S : Scheme) (U : Values) where
     pub held : (x : ℕ) → S .publics ≤ x → given (c .value x) ≡ isHeld S (c .at (S .nameThread x)) x
     pub allowed : (x v : ℕ) → S .publics ≤ x → c .value x ≡ some v → (x < S .publics + S .bounds) × (allows x v ≡ true)
     pub apart : (r s v : ℕ) → S .restricted r ≡ true → S .restricted s ≡ true → c .value r ≡ some v → c .value s ≡ some v → r ≡ s
+
+  -- a value that both channels of a communication can have
+  abbrev pub Meets : ℕ → ℕ → ℕ → Type 0
+  Meets a e i = (ltb i (S .publics) || shares S U a e) ≡ true
+
+  -- every private value in use stems from one restricted name, which is in the reach of all that hold it
+  pub record Sourced (c : Configuration) : Type 0 where
+    pub origin : ℕ → ℕ
+    pub stems : (x v : ℕ) → S .publics ≤ v → c .value x ≡ some v → (U .origins x (origin v) ≡ true) × (S .restricted (origin v) ≡ true)
 
   -- a value that name x can have, with a place or public
   abbrev pub Takes : ℕ → ℕ → Type 0

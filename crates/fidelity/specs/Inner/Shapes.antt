@@ -82,12 +82,17 @@ module _ (S : Scheme) (U : Values) where
         → (S .thread (S .home s) ≡ S .thread (S .home r) → ⊥) → member i (common S U a e) ≡ true → Takes S U z j → allows S U y j ≡ true
         → (z ≡ a → j ≡ i) → Described (communicating S U s a z l r e y m i j)
 
-  -- the values suffice: what a name is given it may hold, and at every New some private value is in no name
+  -- the values suffice: what a name is given it may hold, what comes to a name comes into its reach, and at every New some private value is in no name
   pub record EnoughValues : Type 0 where
     pub copies : (n d j v : ℕ) → S .node n ≡ call d → j < length (S .formals d) → Takes S U (getD (S .arguments n) j 0) v
         → allows S U (getD (S .formals d) j 0) v ≡ true
+    pub copied : (n d j o : ℕ) → S .node n ≡ call d → j < length (S .formals d) → U .origins (getD (S .arguments n) j 0) o ≡ true
+        → U .origins (getD (S .formals d) j 0) o ≡ true
     pub meets : (s a z l r e y m i j : ℕ) → S .branch s ≡ send a z l → S .branch r ≡ receive e y m → (S .thread (S .home s) ≡ S .thread (S .home r) → ⊥)
         → member i (common S U a e) ≡ true → Takes S U z j → allows S U y j ≡ true
+    pub met : (s a z l r e y m i o : ℕ) → S .branch s ≡ send a z l → S .branch r ≡ receive e y m → (S .thread (S .home s) ≡ S .thread (S .home r) → ⊥)
+        → member i (common S U a e) ≡ true → U .origins z o ≡ true → U .origins y o ≡ true
+    pub own : (r : ℕ) → S .restricted r ≡ true → U .origins r r ≡ true
     pub makes : (r v : ℕ) → S .restricted r ≡ true → S .publics ≤ v → v < S .publics + U .privates → allows S U r v ≡ true
     pub private : (x v : ℕ) → S .restricted x ≡ true → allows S U x v ≡ true → S .publics ≤ v
     pub room : (c : Configuration) → WellFormed S U c → (n r l : ℕ) → S .node n ≡ new r l → c .at (S .thread n) ≡ spot n 0

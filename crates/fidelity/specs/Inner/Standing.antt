@@ -1,9 +1,8 @@
 -- A configuration that stands for a state of the plain process, but for the names of private values.
-use Prim.Native.Nat.{ℕ, zero, suc, _+_, _≤_, _<_}
+use Prim.Native.Nat.{ℕ, _<_}
 use mathlib.Core.Path.{_≡_}
-use mathlib.Core.Bool.{Bool, true, false}
-use mathlib.Core.Option.{Option, none, some}
-use mathlib.Core.List.{List, [], _∷_, map}
+use mathlib.Core.Option.{Option, some}
+use mathlib.Core.List.{List, map}
 use Rattle.lists.specs.Lists.{pick, bit}
 use Rattle.scheme.specs.Scheme.{Scheme}
 use Rattle.process.specs.States.{State, valueOf}
@@ -12,9 +11,8 @@ use Rattle.process.specs.Labels.{stepOf}
 use Rattle.net.specs.Image.{Label, isBookkeeping}
 use Rattle.places.specs.Values.{Values}
 use Rattle.places.specs.Places.{places}
-use Rattle.places.specs.Transitions.{Description}
-use Rattle.readback.specs.Configurations.{Spot, spot, Configuration, nodeShown, nameShownAt, nameShown}
-use Rattle.fidelity.specs.Inner.Marks.{given, mark, WellFormed}
+use Rattle.readback.specs.Configurations.{Spot, Configuration, nodeShown, nameShownAt, nameShown}
+use Rattle.fidelity.specs.Inner.Marks.{given, mark, WellFormed, Sourced}
 
 -- the names have values at the same places, and equal ones at the same places. Public names are among the names and have themselves.
 pub record Alike (e s : ℕ → Option ℕ) : Type 0 where
@@ -38,6 +36,7 @@ module _ (S : Scheme) where
 module _ (S : Scheme) (U : Values) where
   pub record Shows (c : Configuration) (s : State) : Type 0 where
     pub formed : WellFormed S U c
+    pub sourced : Sourced S U c
     pub nodes : (θ : ℕ) → nodeShown S (c .at θ) ≡ s .node θ
     pub alike : Alike (shown S c) (s .value)
     pub public : (x : ℕ) → x < S .publics → s .value x ≡ some x

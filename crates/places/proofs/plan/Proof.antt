@@ -1,5 +1,5 @@
 -- `places::plan` meets its contract: the table, then room, then the index and what stands behind it.
-use mathlib.Core.Path.{refl, sym, ap, _∙_}
+use mathlib.Core.Path.{sym, ap, _∙_}
 use mathlib.Core.List.{List, _++_}
 use Prim.Native.Nat.{ℕ}
 use native.Mathlib.Omega.{arith}
@@ -20,13 +20,13 @@ is-accepted-requires : tie.Need-is-accepted-requires
 is-accepted-requires c κs = search needs
 
 returns : tie.Need-returns
-returns c = is-refused _ _ ready refl _ (sym (c .before .is-accepted .ensures) ∙ not-true _ (c .if1 .taken)) (c .before .before .check .ensures)
+returns c = is-refused _ _ _ (sym (c .before .is-accepted .ensures) ∙ not-true _ (c .if1 .taken)) (c .before .before .check .ensures)
 
 returns-2 : tie.Need-returns-2
 returns-2 c =
     let c2 = c .before .before in
     let c3 = c2 .before in
-    is-short _ _ ready refl (accepted-here _ _ (sym (c2 .is-accepted .ensures) ∙ not-false _ (c .before .if1 .left)) (c3 .check .ensures)) (c .if2 .taken)
+    is-short _ _ (accepted-here _ _ (sym (c2 .is-accepted .ensures) ∙ not-false _ (c .before .if1 .left)) (c3 .check .ensures)) (c .if2 .taken)
 
 fill-requires : tie.Need-fill-requires
 fill-requires c κs = search needs
@@ -63,7 +63,7 @@ returns-3 c =
     ap (outcome ready)
     (c2 .lay-out .ensures
     ∙ ap (λ (l : List ℕ). planWords w ++ l) (filled-rest w (a .index .now) _ _ (c6 .fill .ensures) (omega (arith, c8 .if2 .left))))
-    ∙ is-laid w (a .index .now) ready refl (accepted-here w _ (sym (c10 .is-accepted .ensures) ∙ not-false _ (c9 .if1 .left)) (c11 .check .ensures))
+    ∙ is-laid w (a .index .now) (accepted-here w _ (sym (c10 .is-accepted .ensures) ∙ not-false _ (c9 .if1 .left)) (c11 .check .ensures))
     (c8 .if2 .left)
 
 pub plan-spec : {M : Type 1} → statement M

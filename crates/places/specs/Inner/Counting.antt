@@ -1,18 +1,24 @@
 -- Counts of transitions and of their arcs, by multiplication.
+use mathlib.Core.Path.{_≡_}
 use mathlib.Core.Bool.{_&&_, not}
-use mathlib.Core.List.{List, [], _∷_}
-use Prim.Native.Nat.{ℕ, _+_, _*_, _<_}
+use mathlib.Core.List.{List, [], _∷_, map}
+use Prim.Native.Nat.{ℕ, _+_, _*_, _≤_, _<_}
 use lib.Dec.{ltb, leb}
 use lib.ListN.{length}
-use Rattle.lists.specs.Lists.{pick, bit, same, range, from, keep}
+use Rattle.lists.specs.Lists.{pick, bit, same, word, range, from, keep}
 use Rattle.scheme.specs.Words.{publics, nodes, branches, isStop, isChoice, isNew, isSilent, isSend, isReceive}
 use Rattle.scheme.specs.Words.{nodeFirst, nodeSecond, channel, branchName, argumentsOf}
 use Rattle.scheme.specs.Owners.{held, branchThread}
+use Rattle.scheme.specs.Index.{branchThreadAt}
 use Rattle.scheme.specs.Scheme.{scheme}
 use Rattle.net.specs.Net.{Transition}
 use Rattle.places.specs.Places.{common}
-use Rattle.places.specs.Inner.Plan.{today, privatesOf, values, freeNames}
+use Rattle.places.specs.Inner.Plan.{today, privatesOf, values, readNames}
+use Rattle.places.specs.Plan.{reachIn}
+use Rattle.places.specs.Sides.{sideIn, sideAt, receivesOf, partnerSet, setsAt}
+use Rattle.places.specs.Sets.{bitAt}
 use Rattle.places.specs.Answers.{Sums, sums}
+use Rattle.places.specs.declared.count.Sending.{Sending}
 
 -- every count is below 2³²
 pub record Few (s : Sums) : Type 0 where
@@ -38,26 +44,6 @@ over step s [] = s
 over step s (x ∷ xs) = over step (step s x) xs
 
 module _ (w : List ℕ) where
-  -- the releases of a name
-  unfoldable pub releaseSums : Sums → ℕ → Sums
-  releaseSums s z = pick (scheme w .restricted z) (addTimes s (privatesOf w) 2 2) (addTimes (addTimes s (publics w) 2 1) (privatesOf w) 2 2)
-
-  -- the copies of an argument
-  unfoldable pub copySums : Sums → ℕ → Sums
-  copySums s a =
-      pick (ltb a (publics w)) (addTimes s 1 1 2)
-      (pick (scheme w .restricted a) (addTimes s (privatesOf w) 3 3) (addTimes (addTimes s (publics w) 2 3) (privatesOf w) 3 3))
-
-  unfoldable pub silentSums : Sums → ℕ → Sums
-  silentSums s b = pick (isSilent w b) (addTimes s 1 1 1) s
-
-  unfoldable pub nodeSums : Sums → ℕ → Sums
-  nodeSums s n =
-      pick (isStop w n) (over releaseSums s (held w n))
-      (pick (isChoice w n) (over silentSums s (from (nodeFirst w n) (nodeSecond w n)))
-      (pick (isNew w n) (addTimes s (privatesOf w) (freeNames w + 2) (freeNames w + 2))
-      (over releaseSums (over copySums (addTimes s 1 1 1) (argumentsOf w n)) (held w n))))
-
   -- 1 for a bound name, 0 for a public one
   abbrev pub boundBit : ℕ → ℕ
   boundBit x = bit (not (ltb x (publics w)))
@@ -68,6 +54,25 @@ module _ (w : List ℕ) where
 
   abbrev pub privateCount : List ℕ → ℕ
   privateCount vs = length (keep (λ v. leb (publics w) v) vs)
+
+  -- the releases of a name
+  unfoldable pub releaseSums : Sums → ℕ → Sums
+  releaseSums s z = addTimes (addTimes s (publicCount (values w z)) 2 1) (privateCount (values w z)) 2 2
+
+  -- the copies of an argument
+  unfoldable pub copySums : Sums → ℕ → Sums
+  copySums s a =
+      addTimes (addTimes s (publicCount (values w a)) (boundBit a + 1) (boundBit a + 2)) (privateCount (values w a)) (boundBit a + 2) (boundBit a + 2)
+
+  unfoldable pub silentSums : Sums → ℕ → Sums
+  silentSums s b = pick (isSilent w b) (addTimes s 1 1 1) s
+
+  unfoldable pub nodeSums : Sums → ℕ → Sums
+  nodeSums s n =
+      pick (isStop w n) (over releaseSums s (held w n))
+      (pick (isChoice w n) (over silentSums s (from (nodeFirst w n) (nodeSecond w n)))
+      (pick (isNew w n) (addTimes s (privatesOf w) (readNames w + 2) (readNames w + 2))
+      (over releaseSums (over copySums (addTimes s 1 1 1) (argumentsOf w n)) (held w n))))
 
   -- the communications of send b and receive r
   unfoldable pub pairSums : ℕ → Sums → ℕ → Sums
@@ -89,3 +94,27 @@ module _ (w : List ℕ) where
 
   unfoldable pub allSums : Sums
   allSums = over sendSums (over nodeSums (sums 0 0 0) (range (nodes w))) (range (branches w))
+
+-- the communications of send b with the receives of a set
+unfoldable pub setSums : List ℕ → ℕ → Sums → ℕ → Sums
+setSums w b s set = over (pairSums w b) s (map (word (receivesOf w)) (keep (bitAt set) (range 64)))
+
+-- what the code has read of a send
+pub record Sends (w index : List ℕ) (b : ℕ) (s : Sending) : Type 0 where
+  pub branch-is : s .branch ≡ b
+  pub thread-is : s .thread ≡ branchThreadAt w index b
+  pub channel-is : s .channel ≡ channel w b
+  pub name-is : s .name ≡ branchName w b
+  pub values-are : s .values ≡ reachIn index (channel w b)
+  pub channels-are : s .channels ≡ boundBit w (channel w b)
+  pub names-are : s .names ≡ boundBit w (branchName w b)
+  pub publics-are : s .publics ≡ publicCount w (values w (branchName w b))
+  pub privates-are : s .privates ≡ privateCount w (values w (branchName w b))
+  pub few-publics : s .publics ≤ 64
+  pub few-privates : s .privates ≤ 32
+
+-- the list tells of the receives of the table, and which of them each branch can meet
+pub record Pairs (w index list : List ℕ) : Type 0 where
+  pub few : length (receivesOf w) ≤ 32
+  pub sides-are : (k : ℕ) → k < length (receivesOf w) → sideAt list k ≡ sideIn w index (word (receivesOf w) k)
+  pub sets-are : (s : ℕ) → s < branches w → word list (setsAt + s) ≡ partnerSet w index s

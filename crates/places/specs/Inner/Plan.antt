@@ -1,16 +1,17 @@
 -- Short names for where rows and control places start and for the values of a name, and what is known of names and values while a net is built.
 use mathlib.Core.Path.{_≡_}
-use mathlib.Core.Bool.{true, false, not}
+use mathlib.Core.Bool.{true, false, not, _&&_}
 use mathlib.Core.List.{List, [], _∷_, _++_}
-use Prim.Native.Nat.{ℕ, _+_, _-_, _*_, _≤_, _<_}
+use Prim.Native.Nat.{ℕ, _+_, _*_, _≤_, _<_}
 use lib.ListN.{length}
-use Rattle.lists.specs.Lists.{pick, from, keep, member}
+use Rattle.lists.specs.Lists.{pick, same, from, range, keep, member}
 use Rattle.scheme.specs.Words.{publics, bounds, names, argument}
 use Rattle.scheme.specs.Scheme.{scheme}
 use Rattle.places.specs.Values.{Values, valuesOf}
-use Rattle.places.specs.Held.{valuesFor}
+use Rattle.places.specs.Reach.{valuesFor, hasPrivates}
+use Rattle.places.specs.Sets.{bitAt}
 use Rattle.places.specs.Rows.{rowStart, controlStart}
-use Rattle.places.specs.declared.layout.Reach.{Reach}
+use Rattle.places.specs.declared.reach.Reach.{Reach}
 
 -- the values in force
 abbrev pub today : List ℕ → Values
@@ -33,15 +34,17 @@ rowOf w x = rowStart (scheme w) (today w) x
 abbrev pub freeNames : List ℕ → ℕ
 freeNames w = length (keep (λ x. not (scheme w .restricted x)) (from (publics w) (bounds w)))
 
+-- those of them that may hold private values: New reads their rows
+abbrev pub readNames : List ℕ → ℕ
+readNames w = length (keep (λ x. not (scheme w .restricted x) && hasPrivates (scheme w) x) (from (publics w) (bounds w)))
+
 -- ---- values of a name, as a reach with p public and n private values
 
 unfoldable pub reached : ℕ → ℕ → Reach → List ℕ
-reached p n r = from (r .low) (r .high - r .low) ++ pick (r .privates) (from p n) []
+reached p n r = keep (bitAt (r .publics)) (range p) ++ pick (not (same (r .restricted) 0)) (from p n) []
 
 pub record Lists (p n : ℕ) (r : Reach) (vs : List ℕ) : Type 0 where
   pub is : reached p n r ≡ vs
-  pub order : r .low ≤ r .high
-  pub inside : r .high ≤ p
 
 -- bound name x may hold v
 pub record Holds (w : List ℕ) (x v : ℕ) : Type 0 where
@@ -59,12 +62,9 @@ pub record Differs (w : List ℕ) (x v : ℕ) : Type 0 where
   pub low : publics w ≤ x
   pub high : x < names w
   pub free : scheme w .restricted x ≡ false
+  pub reads : hasPrivates (scheme w) x ≡ true
   pub private : publics w ≤ v
   pub value : v < publics w + privatesOf w
-
--- values that both reaches list
-abbrev pub InBoth : Reach → Reach → Reach → Type 0
-InBoth a b r = (p n : ℕ) (vs us : List ℕ) → Lists p n a vs → Lists p n b us → Lists p n r (keep (λ i. member i us) vs)
 
 -- the words of a header
 abbrev pub headerOf : ℕ → ℕ → ℕ → ℕ → ℕ → List ℕ

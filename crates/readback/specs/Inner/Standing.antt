@@ -2,11 +2,12 @@
 use mathlib.Core.Bool.{Bool, not, _&&_, _||_}
 use mathlib.Core.Option.{Option, none, some}
 use mathlib.Core.List.{List, [], _∷_, map}
-use Prim.Native.Nat.{ℕ, _+_, _-_}
+use Prim.Native.Nat.{ℕ, _+_}
 use lib.ListN.{length}
-use Rattle.lists.specs.Lists.{pick, bit, same, from, range, every, keep, flat, member}
+use Rattle.lists.specs.Lists.{pick, bit, same, word, from, range, every, keep, flat, member}
 use Rattle.scheme.specs.Scheme.{Scheme}
-use Rattle.places.specs.Held.{valuesFor}
+use Rattle.places.specs.Values.{valuesOf}
+use Rattle.places.specs.Reach.{valuesFor, hasPrivates}
 use Rattle.places.specs.Places.{controls}
 use Rattle.places.specs.Rows.{rowStart, freeStart, controlStart}
 use Rattle.readback.specs.Configurations.{Spot, spot, heldHere}
@@ -25,9 +26,12 @@ valueOf (v ∷ vs) = some v
 abbrev pub justOne : Bool → Bool → Bool
 justOne a b = pick a (not b) b
 
--- the least value that a bound name may hold
-abbrev pub lowest : Scheme → ℕ → ℕ
-lowest S x = pick (S .restricted x) (S .publics) 0
+-- how many public values, and how many private ones, a bound name may hold
+abbrev pub publicCount : Scheme → ℕ → ℕ
+publicCount S x = length (keep (valuesFor S .origins x) (range (S .publics)))
+
+abbrev pub privateCount : Scheme → ℕ → ℕ
+privateCount S x = pick (hasPrivates S x) (valuesFor S .privates) 0
 
 module _ (S : Scheme) (m : List ℕ) where
   -- the marked control places of a node
@@ -41,17 +45,17 @@ module _ (S : Scheme) (m : List ℕ) where
   abbrev pub spotsAt : ℕ → List Spot
   spotsAt t = spotsBelow (S .nodes) t
 
-  -- the marked values of a bound name
+  -- the marked values of a bound name: place i of its row is of value i
   unfoldable pub valuesAt : ℕ → List ℕ
-  valuesAt x = map (λ i. lowest S x + i) (hits m (rowStart S (valuesFor S) x) (S .publics + valuesFor S .privates - lowest S x))
+  valuesAt x = map (word (valuesOf S (valuesFor S) x)) (hits m (rowStart S (valuesFor S) x) (length (valuesOf S (valuesFor S) x)))
 
   -- "[x≠n] is marked exactly without [x=n]"
   abbrev pub opposedAt : ℕ → ℕ → Bool
   opposedAt x i =
-      justOne (token m (rowStart S (valuesFor S) x + S .publics + i)) (token m (rowStart S (valuesFor S) x + S .publics + valuesFor S .privates + i))
+      justOne (token m (rowStart S (valuesFor S) x + publicCount S x + i)) (token m (rowStart S (valuesFor S) x + publicCount S x + privateCount S x + i))
 
   abbrev pub opposedFor : ℕ → Bool
-  opposedFor x = S .restricted x || every (opposedAt x) (range (valuesFor S .privates))
+  opposedFor x = S .restricted x || every (opposedAt x) (range (privateCount S x))
 
   unfoldable pub opposedAll : Bool
   opposedAll = every opposedFor (from (S .publics) (S .bounds))

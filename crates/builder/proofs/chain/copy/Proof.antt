@@ -14,7 +14,7 @@ use Rattle.builder.specs.Inner.Parts.{Filled, ofTable, arrow}
 use Rattle.places.proofs.Controls.{few-nodes, few-publics, few-bounds}
 use Rattle.builder.proofs.Chains.{Next, chain-few, has-difference, next-place, own-place, own-number, put-from, inside-as}
 use Rattle.builder.proofs.Filling.{fill-none, fill-with, fill-without, fill-few, fill-rising}
-use Rattle.builder.proofs.Copying.{read-few, free-holds, no-difference, copy-arrow}
+use Rattle.builder.proofs.Copying.{holds-differs, no-difference, copy-arrow}
 use borrow.Author.Needs.{needs}
 use Rattle.builder.proofs.chain.copy.Statement.{statement}
 use Rattle.builder.proofs.chain.copy.Tie as tie
@@ -54,8 +54,7 @@ abbrev next : (s : tie.Start) → Next (table s) (s .args .c) (s .args .x .k)
 next s = next-place (table s) (s .args .c) (s .pre .1) (s .args .x .k) (s .pre .2)
 
 holds : (s : tie.Start) → Holds (table s) (s .args .x .formal) (s .args .v)
-holds s = free-holds (table s) (s .args .x .formal) (s .args .v) (s .pre .3) (s .pre .4) (s .pre .5) (read-few (table s) (s .args .x .argument)
-    (s .args .v) (s .pre .6))
+holds s = s .pre .7
 
 -- how many public names there are, as it is read
 known : (c : tie.After-insert-equals) → c .before .before .word16 .result ≡ publics (table (start1 c))
@@ -89,7 +88,7 @@ met c =
     (λ x. rw (x .5, x .6) (
       fill-with w l _ (b .insert-equals .result) _ (x .2 .result) (differs (a .x .formal) (a .v)) (read s)
           (has-difference w (a .x .formal) (a .v)
-          (record { low = p .3; high = p .4; free = p .5; private = omega (arith, known b, x .0 .taken); value = read-few w (a .x .argument) (a .v) (p .6) }))
+          (holds-differs w (p .0 .accepted) (a .x .formal) (a .v) (p .5) (p .7) (omega (arith, known b, x .0 .taken))))
           (x .2 .ensures) (x .3 .ensures) (first b),
       x .3 .kept .0 ∙ k,
     ))
@@ -173,13 +172,8 @@ differs-requires c κs =
     let s = start3 (c .before .before .before) in
     let p = s .pre in (
       p .0,
-      record {
-        low = p .3;
-        high = p .4;
-        free = p .5;
-        private = omega (arith, known (c .before .before .before .before .before .before .before .before .before .before), c .before .if1 .taken);
-        value = read-few (table s) (s .args .x .argument) (s .args .v) (p .6);
-      },
+      holds-differs (table s) (p .0 .accepted) (s .args .x .formal) (s .args .v) (p .5) (p .7)
+          (omega (arith, known (c .before .before .before .before .before .before .before .before .before .before), c .before .if1 .taken)),
     )
 
 insert-requires-2 : tie.Need-insert-requires-2
@@ -229,7 +223,7 @@ transition-requires c κs =
       omega (arith, b .insert3 .kept .0, met j .1, fill-few w _ _ _ (inputs b)),
       omega
           (arith, o .insert .kept .0, g .insert-equals2 .kept .1 .1 .0, g .before .before .before .insert-equals .kept .1 .1 .0, fill-few w _ _ _ (outputs o)),
-      inside-as w (a .out .now) (a .h) _ _ (arrow-is b) (p .7),
+      inside-as w (a .out .now) (a .h) _ _ (arrow-is b) (p .8),
     )
 
 same-length : tie.Need-same-length

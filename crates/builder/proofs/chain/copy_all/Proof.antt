@@ -1,7 +1,7 @@
 -- `builder::chain::copy_all` meets its contract. Loop: the copies of the formals behind the first i are left. Measure: formals left.
-use mathlib.Core.Path.{_≡_, refl, sym, ap, _∙_}
+use mathlib.Core.Path.{_≡_, refl, sym, ap, subst, _∙_}
 use mathlib.Core.List.{map}
-use Prim.Native.Nat.{_+_, _-_, _≤_}
+use Prim.Native.Nat.{ℕ, _+_, _-_, _≤_}
 use native.Mathlib.Omega.{arith}
 use lib.ListN.{length}
 use Rattle.lists.specs.Lists.{from}
@@ -9,7 +9,7 @@ use Rattle.lists.proofs.Ranges.{member-from}
 use Rattle.scheme.specs.Scheme.{scheme}
 use Rattle.places.specs.Transitions.{copies}
 use Rattle.places.specs.Inner.Plan.{today, argumentName}
-use Rattle.builder.specs.Inner.Parts.{put, state, ofTable}
+use Rattle.builder.specs.Inner.Parts.{put, state, ofTable, Takes}
 use Rattle.builder.proofs.Writing.{put-none}
 use Rattle.builder.proofs.Chains.{chain-few, state-length}
 use Rattle.builder.proofs.ChainLoops.{part-inside, part-more, argument-member, copies-start, copies-more, copies-done}
@@ -92,7 +92,8 @@ copy-formal-requires c κs =
       f .1,
       f .2,
       n,
-      part-inside (ofTable w) _ (state (l .out) (l .q)) _ _ (l .inv .0 ∙ ap (put w (l .out) (l .q)) e) (p .6),
+      subst (λ (z : ℕ). Takes w (a .x .formal + l .i) z) (sym (y .ensures .is)) (p .6 (l .i) u),
+      part-inside (ofTable w) _ (state (l .out) (l .q)) _ _ (l .inv .0 ∙ ap (put w (l .out) (l .q)) e) (p .7),
     )
 
 add-i : tie.Need-add-i Inv-loop μ-loop

@@ -46,7 +46,7 @@ privates-requires c κs = search needs
 value-count-requires : tie.Need-value-count-requires Inv-loop μ-loop
 value-count-requires c κs =
     let s = c .before .before .before .before .before .before in
-    count-asks (s .args .table .now) (s .args .index .now) (s .args .x .argument) _ _ (s .pre .0) (c .privates .ensures .is) (c .before .reach-of .ensures)
+    count-asks (s .args .table .now) (s .args .index .now) _ (s .pre .0) (c .privates .ensures .is)
 
 loop-holds : tie.Need-loop-holds Inv-loop μ-loop
 loop-holds c = (refl, refl, omega arith)
@@ -70,9 +70,10 @@ copy-requires c κs =
       p .4,
       p .5,
       record { high = p .6; value = t .member-is (l .i) (v .result) u (v .ensures) },
+      record { low = p .3; high = p .4; value = p .7 (v .result) (t .member-is (l .i) (v .result) u (v .ensures)) },
       map-inside (ofTable w) _ (state (l .out) (l .q)) (values w (a .x .argument)) (l .i) (copying (scheme w) (today w) (a .c .node) (a .c .to) (a .x .k)
           (a .x .formal) (a .x .argument))
-          (l .inv .0) (v .result) u (t .value-is (l .i) (v .result) u (v .ensures)) (p .7),
+          (l .inv .0) (v .result) u (t .value-is (l .i) (v .result) u (v .ensures)) (p .8),
     )
 
 add-i : tie.Need-add-i Inv-loop μ-loop

@@ -1,8 +1,8 @@
 -- `builder::chain::given_back` meets its contract.
-use mathlib.Core.Path.{_≡_}
-use mathlib.Core.Bool.{true, false}
-use Rattle.scheme.specs.Scheme.{scheme}
-use Rattle.places.proofs.Names.{held-value, kind-restricted, kind-free}
+use mathlib.Core.Path.{_≡_, _∙_}
+use native.Mathlib.Omega.{arith}
+use Rattle.places.proofs.Names.{kind-restricted, kind-free}
+use Rattle.places.proofs.Plans.{row-is, free-is, privates-are}
 use borrow.Author.Needs.{needs}
 use Rattle.builder.proofs.chain.given_back.Statement.{statement}
 use Rattle.builder.proofs.chain.given_back.Tie as tie
@@ -10,45 +10,53 @@ use Rattle.builder.proofs.chain.given_back.Tie as tie
 name-kind-requires : tie.Need-name-kind-requires
 name-kind-requires c κs = search needs
 
--- what the kind tells
-restricted : (c : tie.Then1) → let c4 = c .before .before .before .before in scheme (c4 .args .table .now) .restricted (c4 .args .z) ≡ true
-restricted c =
-    let s = c .before .before .before .before in
-    kind-restricted (s .args .table .now) (s .args .z) (c .before .name-kind .result) (s .pre .1 .low) (s .pre .1 .high) (c .before .name-kind .ensures .is)
-    (c .if1 .taken)
-
-unrestricted : (c : tie.Else1) → let c4 = c .before .before .before .before in scheme (c4 .args .table .now) .restricted (c4 .args .z) ≡ false
-unrestricted c =
-    let s = c .before .before .before .before in
-    kind-free (s .args .table .now) (s .args .z) (c .before .name-kind .result) (s .pre .1 .low) (s .pre .1 .high) (c .before .name-kind .ensures .is)
-    (c .if1 .left)
-
-free-place-requires : tie.Need-free-place-requires
-free-place-requires c κs =
-    let s = c .before .before .before .before in
-    (s .pre .0, s .pre .2, held-value (s .args .table .now) (s .args .z) (s .args .v) (s .pre .1))
+free-start-requires : tie.Need-free-start-requires
+free-start-requires c κs = search needs
 
 returns : tie.Need-returns
-returns c = rw (restricted (c .before)) (c .free-place .ensures)
+returns c =
+    let k = c .before .before .name-kind in
+    let s = c .before .before .before .before .before in
+    let w = s .args .table .now in
+    rw (kind-restricted w (s .args .z) (k .result) (s .pre .1) (s .pre .2) (k .ensures .is) (c .before .if1 .taken))
+    (c .free-start .ensures .is ∙ free-is w (s .args .index .now) (s .pre .0))
 
-differs-requires : tie.Need-differs-requires
-differs-requires c κs =
-    let s = c .before .before .before .before in
-    let h = s .pre .1 in (
-      s .pre .0,
-      record {
-        low = h .low;
-        high = h .high;
-        free = unrestricted c;
-        private = s .pre .2;
-        value = held-value (s .args .table .now) (s .args .z) (s .args .v) h;
-      },
-    )
+row-start-requires : tie.Need-row-start-requires
+row-start-requires c κs = search needs
+
+add-result : tie.Need-add-result
+add-result c = search needs
+
+privates-requires : tie.Need-privates-requires
+privates-requires c κs = search needs
+
+add-result-2 : tie.Need-add-result-2
+add-result-2 c = search needs
 
 returns-2 : tie.Need-returns-2
-returns-2 c = rw (unrestricted (c .before)) (c .differs .ensures)
+returns-2 c =
+    let k = c .before .before .before .name-kind in
+    let s = c .before .before .before .before .before .before in
+    let w = s .args .table .now in
+    let x = s .args .index .now in
+    rw (kind-free w (s .args .z) (k .result) (s .pre .1) (s .pre .2) (k .ensures .is) (c .before .before .if1 .left))
+    (omega (
+      arith,
+      c .before .row-start .ensures .is,
+      row-is w x (s .pre .0) (s .args .z) (s .pre .1) (s .pre .2),
+      c .privates .ensures .is,
+      privates-are w x (s .pre .0),
+    ))
 
 pub given-back-spec : {M : Type 1} → statement M
 given-back-spec =
     tie.close
-    (tie.spec name-kind-requires free-place-requires returns differs-requires returns-2)
+    (tie.spec
+    name-kind-requires
+    free-start-requires
+    returns
+    row-start-requires
+    add-result
+    privates-requires
+    add-result-2
+    returns-2)

@@ -1,124 +1,120 @@
--- `builder::chain::release_name` meets its contract. Loop: the releases of the values behind the first i are left. Measure: values left.
-use mathlib.Core.Path.{_≡_, refl, _∙_}
-use mathlib.Core.List.{map}
-use Prim.Native.Nat.{_-_, _≤_, _<_}
-use native.Mathlib.Omega.{arith}
-use lib.ListN.{length, drop}
-use Rattle.scheme.specs.Scheme.{scheme}
-use Rattle.places.specs.Transitions.{releasing}
-use Rattle.places.specs.Inner.Plan.{today, values}
-use Rattle.builder.specs.Inner.Parts.{put, state, ofTable}
-use Rattle.builder.proofs.Chains.{state-length}
-use Rattle.builder.proofs.ValueLoops.{map-done, map-inside, map-more, Valued, valued, value-asks, count-asks}
+-- `builder::chain::release_name` meets its contract.
+use mathlib.Core.Path.{_≡_, sym, _∙_}
+use borrow.Author.Tests.{not-true, not-false}
+use Rattle.places.proofs.Plans.{privates-are}
+use Rattle.builder.specs.Inner.Parts.{state}
+use Rattle.builder.proofs.Released.{Listed, releasable, publics-fit, privates-fit, publics-inside, publics-only, privates-inside, privates-too}
 use borrow.Author.Needs.{needs}
 use Rattle.builder.proofs.chain.release_name.Statement.{statement}
 use Rattle.builder.proofs.chain.release_name.Tie as tie
 
-abbrev Inv-loop : tie.InvT-loop
-Inv-loop table index out₀ c k z publics r count q₀ i₀ out q i =
-    (put table out₀ q₀ (map (releasing (scheme table) (today table) (c .node) (c .to) k z) (values table z))
-    ≡ put table out q (map (releasing (scheme table) (today table) (c .node) (c .to) k z) (drop i (values table z))))
-    × (length out ≡ length out₀) × (i ≤ count)
-
-abbrev μ-loop : tie.MeasureT-loop
-μ-loop table index out₀ c k z publics r count q₀ i₀ out q i = count - i
-
 -- the values of the name, as they are read
-told : (c : tie.After-value-count Inv-loop μ-loop)
-    → Valued (c .before .before .before .before .before .before .before .args .table .now)
-    (c .before .before .before .before .before .before .before .args .z) (c .before .before .before .word16 .result) (c .before .privates .result)
-    (c .before .before .reach-of .result) (c .value-count .result)
-told c =
-    let s = c .before .before .before .before .before .before .before in
-    valued (s .args .table .now) (s .args .index .now) (s .args .z) _ _ _ _ (s .pre .0) (c .before .before .before .word16 .ensures .is)
-    (c .before .privates .ensures .is)
-    (c .before .before .reach-of .ensures) (c .value-count .ensures)
+listed : (c : tie.After-publics-of)
+    → let a = c .before .before .before .before .before .before .args in
+    Listed (a .table .now) (a .index .now) (a .c) (a .k) (a .z) (c .before .before .reach-of .result) (c .before .row-start .result) (c .publics-of .result)
+listed c =
+    let p = c .before .before .before .before .before .before .pre in
+    record {
+      laid = p .0;
+      chained = p .1;
+      inside = p .2;
+      low = p .3;
+      high = p .4;
+      reach-told = c .before .before .reach-of .ensures;
+      row-told = c .before .row-start .ensures .is;
+      count-told = c .publics-of .ensures .0;
+    }
 
-word16-requires : tie.Need-word16-requires Inv-loop μ-loop
-word16-requires c κs = search needs
-
-reach-of-requires : tie.Need-reach-of-requires Inv-loop μ-loop
+reach-of-requires : tie.Need-reach-of-requires
 reach-of-requires c κs = search needs
 
-privates-requires : tie.Need-privates-requires Inv-loop μ-loop
+row-start-requires : tie.Need-row-start-requires
+row-start-requires c κs = search needs
+
+publics-of-requires : tie.Need-publics-of-requires
+publics-of-requires c κs = search needs
+
+release-publics-requires : tie.Need-release-publics-requires
+release-publics-requires c κs =
+    let c1 = c .before in
+    let a = c1 .before .before .before .before .before .before .args in
+    let p = c1 .before .before .before .before .before .before .pre in
+    let q = listed c1 in (
+      releasable q,
+      publics-fit q,
+      publics-inside q (state (a .out .now) (a .h)) (p .5),
+    )
+
+has-privates-requires : tie.Need-has-privates-requires
+has-privates-requires c κs = search needs
+
+same-length : tie.Need-same-length
+same-length c = search needs
+
+returns : tie.Need-returns
+returns c =
+    let c6 = c .before .before .before .before .before .before in
+    let a = c6 .before .before .before .before .before .before .args in
+    let q = listed c6 in
+    publics-only q (state (a .out .now) (a .h)) _ (c .before .before .before .before .release-publics .ensures)
+    (sym (c .before .has-privates .ensures) ∙ not-true _ (c .if1 .taken))
+
+add-first : tie.Need-add-first
+add-first c = search needs
+
+given-back-requires : tie.Need-given-back-requires
+given-back-requires c κs = search needs
+
+privates-requires : tie.Need-privates-requires
 privates-requires c κs = search needs
 
-value-count-requires : tie.Need-value-count-requires Inv-loop μ-loop
-value-count-requires c κs =
-    let s = c .before .before .before .before .before .before in
-    count-asks (s .args .table .now) (s .args .index .now) (s .args .z) _ _ (s .pre .0) (c .privates .ensures .is) (c .before .reach-of .ensures)
-
-loop-holds : tie.Need-loop-holds Inv-loop μ-loop
-loop-holds c = (refl, refl, omega arith)
-
-value-at-requires : tie.Need-value-at-requires Inv-loop μ-loop
-value-at-requires c κs = value-asks _ _ _ _ _ _ (told (c .before .before)) (c .before .loop .i) (c .loop-test .taken)
-
-release-requires : tie.Need-release-requires Inv-loop μ-loop
-release-requires c κs =
-    let a = c .before .before .before .before .before .before .before .before .before .before .before .args in
-    let p = c .before .before .before .before .before .before .before .before .before .before .before .pre in
-    let w = a .table .now in
-    let l = c .before .before .before .loop in
-    let t = told (c .before .before .before .before) in
-    let v = c .before .value-at in
-    let u : l .i < length (values w (a .z)) = omega (arith, t .count-is, c .before .before .loop-test .taken) in (
-      p .0,
-      p .1,
-      p .2,
-      record { low = p .3; high = p .4; value = t .member-is (l .i) (v .result) u (v .ensures) },
-      map-inside (ofTable w) _ (state (l .out) (l .q)) (values w (a .z)) (l .i) (releasing (scheme w) (today w) (a .c .node) (a .c .to) (a .k) (a .z))
-          (l .inv .0) (v .result) u (t .value-is (l .i) (v .result) u (v .ensures)) (p .5),
+release-privates-requires : tie.Need-release-privates-requires
+release-privates-requires c κs =
+    let c9 = c .before .before .before .before .before .before .before .before .before in
+    let a = c9 .before .before .before .before .before .before .args in
+    let p = c9 .before .before .before .before .before .before .pre in
+    let q = listed c9 in
+    let g = c .before .before .given-back in
+    let e = c .privates .ensures .is ∙ privates-are (a .table .now) (a .index .now) (p .0) in
+    let f = privates-fit q (g .result) (c .privates .result) (g .ensures) e in (
+      releasable q,
+      f .0,
+      f .1,
+      privates-inside q (state (a .out .now) (a .h)) _ (c .before .before .before .before .before .before .before .release-publics .ensures)
+          (sym (c .before .before .before .before .has-privates .ensures) ∙ not-false _ (c .before .before .before .if1 .left)) (g .result) (g .ensures)
+          (c .privates .result) e (p .5),
     )
 
-add-i : tie.Need-add-i Inv-loop μ-loop
-add-i c = search needs
+same-length-2 : tie.Need-same-length-2
+same-length-2 c = search needs
 
-loop-less : tie.Need-loop-less Inv-loop μ-loop
-loop-less c = omega arith
-
-loop-again : tie.Need-loop-again Inv-loop μ-loop
-loop-again c =
-    let a = c .before .before .before .before .before .before .before .before .before .before .before .before .before .before .args in
-    let p = c .before .before .before .before .before .before .before .before .before .before .before .before .before .before .pre in
-    let w = a .table .now in
-    let l = c .before .before .before .before .before .before .loop in
-    let t = told (c .before .before .before .before .before .before .before) in
-    let v = c .before .before .before .before .value-at in
-    let u : l .i < length (values w (a .z)) = omega (arith, t .count-is, c .before .before .before .before .before .loop-test .taken) in (
-      map-more (ofTable w) _ (state (l .out) (l .q)) (values w (a .z)) (l .i) (releasing (scheme w) (today w) (a .c .node) (a .c .to) (a .k) (a .z))
-          (l .inv .0) (v .result) u (t .value-is (l .i) (v .result) u (v .ensures)) _ (c .before .before .release .ensures),
-      state-length w (l .out) _ (l .q) _ _ (c .before .before .release .ensures) ∙ l .inv .1,
-      omega (arith, c .before .before .before .before .before .loop-test .taken),
-    )
-
-same-length : tie.Need-same-length Inv-loop μ-loop
-same-length c = c .before .loop .inv .1
-
-returns : tie.Need-returns Inv-loop μ-loop
-returns c =
-    let a = c .before .before .before .before .before .before .before .before .before .args in
-    let p = c .before .before .before .before .before .before .before .before .before .pre in
-    let w = a .table .now in
-    let l = c .before .loop in
-    map-done (ofTable w) _ (state (l .out) (l .q)) (values w (a .z)) (l .i) (releasing (scheme w) (today w) (a .c .node) (a .c .to) (a .k) (a .z)) (l .inv .0)
-    (omega (arith, told (c .before .before) .count-is, c .loop-test .left))
+returns-2 : tie.Need-returns-2
+returns-2 c =
+    let c6 = c .before .before .before .before .before .before in
+    let c10 = c6 .before .before .before .before in
+    let c12 = c10 .before .before in
+    let s = c12 .before .before .before .before .before .before in
+    let a = s .args in
+    let g = c .before .before .before .before .before .given-back in
+    let n = c .before .before .before .privates in
+    privates-too (listed c12) (state (a .out .now) (a .h)) _ (c10 .release-publics .ensures)
+    (sym (c6 .before .has-privates .ensures) ∙ not-false _ (c6 .if1 .left)) (g .result) (g .ensures) (n .result)
+    (n .ensures .is ∙ privates-are (a .table .now) (a .index .now) (s .pre .0)) _ (c .before .before .release-privates .ensures)
 
 pub release-name-spec : {M : Type 1} → statement M
 release-name-spec =
     tie.close
     (tie.spec
-    Inv-loop
-    μ-loop
-    word16-requires
     reach-of-requires
-    privates-requires
-    value-count-requires
-    loop-holds
-    value-at-requires
-    release-requires
-    add-i
-    loop-less
-    loop-again
+    row-start-requires
+    publics-of-requires
+    release-publics-requires
+    has-privates-requires
     same-length
-    returns)
+    returns
+    add-first
+    given-back-requires
+    privates-requires
+    release-privates-requires
+    same-length-2
+    returns-2)

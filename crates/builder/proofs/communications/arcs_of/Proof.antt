@@ -1,58 +1,63 @@
 -- `builder::communications::arcs_of` meets its contract: the numbers of the places that the pair names are put in one after the other, and those that
 -- the net has not are left out. No loop.
-use mathlib.Core.Logic.{⊎-elim}
-use mathlib.Core.Path.{_≡_, refl, sym, ap, _∙_}
+use mathlib.Core.Path.{sym, _∙_}
 use mathlib.Core.List.{List, [], _∷_}
 use Prim.Native.Nat.{ℕ, _≤_}
 use native.Mathlib.Omega.{arith}
 use lib.ListN.{length}
-use Rattle.scheme.specs.Words.{publics, next}
+use Rattle.scheme.specs.Words.{next}
 use Rattle.scheme.specs.Owners.{home}
 use Rattle.places.specs.Places.{Place, equals, differs, control}
-use Rattle.builder.specs.Inner.Parts.{Rising}
-use Rattle.builder.proofs.Pairs.{Filled, Speaks, fill-none, fill-rising, speaks, takesOf, givesOf, put-in}
-use Rattle.builder.proofs.Pairs.{joined, take-private, take-public, move-at, home-inside, send-next, receive-next, tells}
-use borrow.Author.Needs.{needs}
+use Rattle.builder.specs.Inner.Parts.{Rising, Spotted}
+use Rattle.builder.proofs.Pairs.{Filled, fill-none, fill-copy, fill-rising, fill-spot, takesOf, givesOf}
+use Rattle.builder.proofs.Pairs.{move-at, home-inside, send-next, receive-next, tells}
 use Rattle.builder.proofs.communications.arcs_of.Statement.{statement}
 use Rattle.builder.proofs.communications.arcs_of.Tie as tie
 
 -- ---- the function's entry from each place where a list has grown
 
-abbrev start1 : tie.After-insert-equals → tie.Start
-start1 c = c .before .before .before .before .before
+abbrev start0 : tie.After-spots-of → tie.Start
+start0 c = c .before .before .before .before .before
 
-abbrev start2 : tie.After-insert-equals2 → tie.Start
-start2 c = start1 (c .before .before .before)
+abbrev start1 : tie.After-insert-spot → tie.Start
+start1 c = start0 (c .before .before)
 
-abbrev start3 : tie.After-insert-equals3 → tie.Start
-start3 c = start2 (c .before .before .before)
+abbrev start2 : tie.After-insert-spot2 → tie.Start
+start2 c = start1 (c .before .before .before .before)
 
-abbrev start4 : tie.After-insert-equals4 → tie.Start
-start4 c = start3 (c .before .before .before)
+abbrev start3 : tie.After-insert-spot3 → tie.Start
+start3 c = start2 (c .before .before .before .before)
+
+abbrev started : tie.After-words → tie.Start
+started c = start3 (c .before .before .before .before .before)
+
+abbrev start4 : tie.After-insert-spot4 → tie.Start
+start4 c = started (c .before .before .before .before)
 
 abbrev start5 : tie.After-insert → tie.Start
-start5 c = start4 (c .before .before .before)
+start5 c = start4 (c .before .before .before .before)
 
 abbrev start6 : tie.After-insert2 → tie.Start
-start6 c = start5 (c .before .before .before)
+start6 c = start5 (c .before .before .before .before)
 
-abbrev start7 : tie.Joined1 → tie.Start
-start7 c = start6 (c .before .before)
+abbrev start7 : tie.After-insert-spot5 → tie.Start
+start7 c = start6 (c .before .before .before .before)
 
-abbrev start8 : tie.After-insert4 → tie.Start
-start8 c = start7 (c .before .before)
+abbrev start8 : tie.After-insert3 → tie.Start
+start8 c = start7 (c .before .before .before .before)
 
-abbrev start9 : tie.After-insert5 → tie.Start
-start9 c = start8 (c .before .before .before)
+abbrev start9 : tie.After-insert4 → tie.Start
+start9 c = start8 (c .before .before .before .before)
 
 abbrev table : tie.Start → List ℕ
 table s = s .args .table .now
 
-known : (s : tie.Start) → Speaks (table s) (s .args .p) (s .args .i) (s .args .j)
-known s = speaks (table s) (s .pre .0 .accepted) (s .args .p) (s .pre .1) (s .args .i) (s .args .j) (s .pre .2) (s .pre .3) (s .pre .4)
-
 rising : (s : tie.Start) (list : List ℕ) (count : ℕ) (ps : List Place) → Filled (table s) list count ps → length ps ≤ 7 → Rising list count
 rising s = fill-rising (table s) (s .pre .0 .accepted)
+
+-- the places of names
+spots : (c : tie.After-spots-of) → Spotted (table (start0 c)) (start0 c .args .p) (start0 c .args .i) (start0 c .args .j) (c .spots-of .result)
+spots c = c .spots-of .ensures
 
 -- ---- what the lists hold there
 
@@ -77,40 +82,61 @@ places7 s = differs (s .args .p .bound) (s .args .j) ∷ places3 s
 abbrev places8 : tie.Start → List Place
 places8 s = control (home (table s) (s .args .p .send)) 0 ∷ places7 s
 
-filled1 : (c : tie.After-insert-equals) → Filled (table (start1 c)) (c .insert-equals .last .1 .1 .0) (c .insert-equals .result) (places1 (start1 c))
+filled1 : (c : tie.After-insert-spot) → Filled (table (start1 c)) (c .insert-spot .last .0) (c .insert-spot .result) (places1 (start1 c))
 filled1 c =
-    let l = c .insert-equals in
-    put-in (table (start1 c)) _ (l .last .1 .1 .0) 0 (l .result) [] (fill-none (table (start1 c)) _ refl) _ (l .ensures) (l .kept .1 .1 .0)
+    let l = c .insert-spot in
+    let s = start1 c in
+    fill-spot (table s) (s .pre .0 .accepted) (s .args .ins .now) (l .last .0) 0 (l .result) _ _ [] (fill-none (table s) (s .args .ins .now) (s .pre .3))
+    (spots (c .before .before) .channel-is) (l .ensures) (l .kept .0)
 
-filled2 : (c : tie.After-insert-equals2) → Filled (table (start2 c)) (c .insert-equals2 .last .1 .1 .0) (c .insert-equals2 .result) (places2 (start2 c))
+filled2 : (c : tie.After-insert-spot2) → Filled (table (start2 c)) (c .insert-spot2 .last .0) (c .insert-spot2 .result) (places2 (start2 c))
 filled2 c =
-    let b = c .before .before .before .insert-equals in
-    let l = c .insert-equals2 in
-    put-in (table (start2 c)) (b .last .1 .1 .0) (l .last .1 .1 .0) (b .result) (l .result) (places1 (start2 c)) (filled1 (c .before .before .before)) _
-    (l .ensures) (l .kept .1 .1 .0)
+    let d = c .before .before .before .before in
+    let b = d .insert-spot in
+    let l = c .insert-spot2 in
+    let s = start2 c in
+    fill-spot (table s) (s .pre .0 .accepted) (b .last .0) (l .last .0) (b .result) (l .result) _ _ (places1 s) (filled1 d)
+    (spots (d .before .before) .heard-is) (l .ensures) (l .kept .0)
 
-filled3 : (c : tie.After-insert-equals3) → Filled (table (start3 c)) (c .insert-equals3 .last .1 .1 .0) (c .insert-equals3 .result) (places3 (start3 c))
+filled3 : (c : tie.After-insert-spot3) → Filled (table (start3 c)) (c .insert-spot3 .last .0) (c .insert-spot3 .result) (places3 (start3 c))
 filled3 c =
-    let b = c .before .before .before .insert-equals2 in
-    let l = c .insert-equals3 in
-    put-in (table (start3 c)) (b .last .1 .1 .0) (l .last .1 .1 .0) (b .result) (l .result) (places2 (start3 c)) (filled2 (c .before .before .before)) _
-    (l .ensures) (l .kept .1 .1 .0)
+    let d = c .before .before .before .before in
+    let b = d .insert-spot2 in
+    let l = c .insert-spot3 in
+    let s = start3 c in
+    fill-spot (table s) (s .pre .0 .accepted) (b .last .0) (l .last .0) (b .result) (l .result) _ _ (places2 s) (filled2 d)
+    (spots (d .before .before .before .before .before .before) .sent-is) (l .ensures) (l .kept .0)
+
+-- the places of names, from there
+abbrev first : tie.After-insert-spot3 → tie.After-spots-of
+first c = c .before .before .before .before .before .before .before .before .before .before
 
 -- ---- the outputs
 
-gives4 : (c : tie.After-insert-equals4) → Filled (table (start4 c)) (c .insert-equals4 .last .1 .1 .0) (c .insert-equals4 .result) (places4 (start4 c))
+copied : (c : tie.After-words) → Filled (table (started c)) (c .words .last .0) (c .words .result) (places3 (started c))
+copied c =
+    let s = started c in
+    let b = c .before .before .before .before .before in
+    let l = b .insert-spot3 in
+    fill-copy (table s) (l .last .0) (l .result) (places3 s) (filled3 b) (s .args .outs .now) (s .pre .4) (c .words .last .0) (c .words .result)
+    (c .words .ensures .0) (c .words .ensures .1)
+    (omega (arith, filled3 b .eight, rising s (l .last .0) (l .result) (places3 s) (filled3 b) (omega arith) .room))
+
+gives4 : (c : tie.After-insert-spot4) → Filled (table (start4 c)) (c .insert-spot4 .last .0) (c .insert-spot4 .result) (places4 (start4 c))
 gives4 c =
-    let b = c .before .before .before .insert-equals3 in
-    let l = c .insert-equals4 in
-    put-in (table (start4 c)) (b .last .1 .1 .0) (l .last .1 .1 .0) (b .result) (l .result) (places3 (start4 c)) (filled3 (c .before .before .before)) _
-    (l .ensures) (l .kept .1 .1 .0)
+    let d = c .before .before .before .before in
+    let b = d .words in
+    let l = c .insert-spot4 in
+    let s = start4 c in
+    fill-spot (table s) (s .pre .0 .accepted) (b .last .0) (l .last .0) (b .result) (l .result) _ _ (places3 s) (copied d)
+    (spots (first (d .before .before .before .before .before)) .bound-is) (l .ensures) (l .kept .0)
 
 gives5 : (c : tie.After-insert) → Filled (table (start5 c)) (c .insert .last .0) (c .insert .result) (places5 (start5 c))
 gives5 c =
     let s = start5 c in
-    let b = c .before .before .before in
+    let b = c .before .before .before .before in
     let k = s .pre .1 in
-    move-at (table s) (b .insert-equals4 .last .1 .1 .0) (c .insert .last .0) (b .insert-equals4 .result) (c .insert .result) (places4 s) (gives4 b)
+    move-at (table s) (b .insert-spot4 .last .0) (c .insert .last .0) (b .insert-spot4 .result) (c .insert .result) (places4 s) (gives4 b)
     (next (table s) (s .args .p .send)) (s .args .p .onsend) (send-next (table s) (s .pre .0 .accepted) (s .args .p) k) (k .onsend-is)
     (c .insert .ensures) (c .insert .kept .0)
 
@@ -118,180 +144,150 @@ gives6 : (c : tie.After-insert2) → Filled (table (start6 c)) (c .insert2 .last
     (givesOf (table (start6 c)) (start6 c .args .p) (start6 c .args .i) (start6 c .args .j))
 gives6 c =
     let s = start6 c in
-    let l = c .before .before .before .insert in
+    let l = c .before .before .before .before .insert in
     let k = s .pre .1 in
-    move-at (table s) (l .last .0) (c .insert2 .last .0) (l .result) (c .insert2 .result) (places5 s) (gives5 (c .before .before .before))
+    move-at (table s) (l .last .0) (c .insert2 .last .0) (l .result) (c .insert2 .result) (places5 s) (gives5 (c .before .before .before .before))
     (next (table s) (s .args .p .receive)) (s .args .p .onreceive) (receive-next (table s) (s .pre .0 .accepted) (s .args .p) k) (k .onreceive-is)
     (c .insert2 .ensures) (c .insert2 .kept .0)
 
 -- ---- the inputs
 
-abbrev reads : tie.After-insert2 → tie.After-insert-equals3
-reads c = c .before .before .before .before .before .before .before .before .before
+abbrev reads : tie.After-insert2 → tie.After-insert-spot3
+reads c = c .before .before .before .before .before .before .before .before .before .before .before .before .before .before .before .before .before
 
--- how many public names there are, as it is read
-read : (c : tie.After-insert2) → (reads c .before .before .before .before .before .before .before .before .word16 .result)
-    ≡ publics (table (start6 c))
-read c = reads c .before .before .before .before .before .before .before .before .word16 .ensures .is
-
-takes7 : (c : tie.Joined1) → Filled (table (start7 c)) (c .if1 .ins) (c .if1 .c) (places7 (start7 c))
+takes7 : (c : tie.After-insert-spot5) → Filled (table (start7 c)) (c .insert-spot5 .last .0) (c .insert-spot5 .result) (places7 (start7 c))
 takes7 c =
     let s = start7 c in
-    let w = table s in
-    let b = reads (c .before .before) in
-    let l = b .insert-equals3 in
-    let r = read (c .before .before) in
-    ⊎-elim
-    (λ v. take-private w (l .last .1 .1 .0) (c .if1 .ins) (l .result) (c .if1 .c) (places3 s) (filled3 b) (s .args .p .bound) (s .args .j) (v .2 .result)
-    (known s .differs (omega (arith, r, v .0 .taken))) (v .2 .ensures) (joined (v .3 .ensures) (v .6) (v .5)) (ap length (v .5) ∙ v .3 .kept .0))
-    (λ v. take-public w (l .last .1 .1 .0) (c .if1 .ins) (l .result) (c .if1 .c) (places3 s) (filled3 b) (s .args .p .bound) (s .args .j)
-    (omega (arith, r, v .0 .left)) (v .2) (v .1))
-    (c .if1 .came)
+    let b = reads (c .before .before .before .before) in
+    let l = b .insert-spot3 in
+    let n = c .insert-spot5 in
+    fill-spot (table s) (s .pre .0 .accepted) (l .last .0) (n .last .0) (l .result) (n .result) _ _ (places3 s) (filled3 b)
+    (spots (first b) .free-is) (n .ensures) (n .kept .0)
 
-takes8 : (c : tie.After-insert4) → Filled (table (start8 c)) (c .insert4 .last .0) (c .insert4 .result) (places8 (start8 c))
+takes8 : (c : tie.After-insert3) → Filled (table (start8 c)) (c .insert3 .last .0) (c .insert3 .result) (places8 (start8 c))
 takes8 c =
     let s = start8 c in
-    let l = c .before .before .if1 in
+    let b = c .before .before .before .before in
+    let l = b .insert-spot5 in
     let k = s .pre .1 in
-    move-at (table s) (l .ins) (c .insert4 .last .0) (l .c) (c .insert4 .result) (places7 s) (takes7 (c .before .before))
+    move-at (table s) (l .last .0) (c .insert3 .last .0) (l .result) (c .insert3 .result) (places7 s) (takes7 b)
     (home (table s) (s .args .p .send)) (s .args .p .sender) (home-inside (table s) (s .pre .0 .accepted) (s .args .p) k (s .args .p .send)) (k .sender-is)
-    (c .insert4 .ensures) (c .insert4 .kept .0)
+    (c .insert3 .ensures) (c .insert3 .kept .0)
 
-takes9 : (c : tie.After-insert5) → Filled (table (start9 c)) (c .insert5 .last .0) (c .insert5 .result)
+takes9 : (c : tie.After-insert4) → Filled (table (start9 c)) (c .insert4 .last .0) (c .insert4 .result)
     (takesOf (table (start9 c)) (start9 c .args .p) (start9 c .args .i) (start9 c .args .j))
 takes9 c =
     let s = start9 c in
-    let l = c .before .before .before .insert4 in
+    let l = c .before .before .before .before .insert3 in
     let k = s .pre .1 in
-    move-at (table s) (l .last .0) (c .insert5 .last .0) (l .result) (c .insert5 .result) (places8 s) (takes8 (c .before .before .before))
+    move-at (table s) (l .last .0) (c .insert4 .last .0) (l .result) (c .insert4 .result) (places8 s) (takes8 (c .before .before .before .before))
     (home (table s) (s .args .p .receive)) (s .args .p .receiver) (home-inside (table s) (s .pre .0 .accepted) (s .args .p) k (s .args .p .receive))
-    (k .receiver-is) (c .insert5 .ensures) (c .insert5 .kept .0)
+    (k .receiver-is) (c .insert4 .ensures) (c .insert4 .kept .0)
 
 -- ---- what the calls ask
 
-word16-requires : tie.Need-word16-requires
-word16-requires c κs = search needs
+spots-of-requires : tie.Need-spots-of-requires
+spots-of-requires c κs = let p = c .before .before .before .before .pre in (p .0, p .1, p .2)
 
-slice-aggregate-insert-equals : tie.Need-slice-aggregate-insert-equals
-slice-aggregate-insert-equals c = search needs
+insert-spot-requires : tie.Need-insert-spot-requires
+insert-spot-requires c κs =
+    let s = start0 (c .before) in
+    rising s (s .args .ins .now) 0 [] (fill-none (table s) (s .args .ins .now) (s .pre .3)) (omega arith)
 
-insert-equals-requires : tie.Need-insert-equals-requires
-insert-equals-requires c κs =
-    let s = c .before .before .before .before in
-    (s .pre .0, known s .channel, rising s _ 0 [] (fill-none (table s) _ refl) (omega arith))
-
-slice-aggregate-insert-equals-2 : tie.Need-slice-aggregate-insert-equals-2
-slice-aggregate-insert-equals-2 c = search needs
-
-insert-equals-requires-2 : tie.Need-insert-equals-requires-2
-insert-equals-requires-2 c κs =
-    let b = c .before .before in
+insert-spot-requires-2 : tie.Need-insert-spot-requires-2
+insert-spot-requires-2 c κs =
+    let b = c .before .before .before in
     let s = start1 b in
-    (s .pre .0, known s .heard, rising s (b .insert-equals .last .1 .1 .0) (b .insert-equals .result) (places1 s) (filled1 b) (omega arith))
+    rising s (b .insert-spot .last .0) (b .insert-spot .result) (places1 s) (filled1 b) (omega arith)
 
-slice-aggregate-insert-equals-3 : tie.Need-slice-aggregate-insert-equals-3
-slice-aggregate-insert-equals-3 c = search needs
-
-insert-equals-requires-3 : tie.Need-insert-equals-requires-3
-insert-equals-requires-3 c κs =
-    let b = c .before .before in
+insert-spot-requires-3 : tie.Need-insert-spot-requires-3
+insert-spot-requires-3 c κs =
+    let b = c .before .before .before in
     let s = start2 b in
-    (s .pre .0, known s .sent, rising s (b .insert-equals2 .last .1 .1 .0) (b .insert-equals2 .result) (places2 s) (filled2 b) (omega arith))
+    rising s (b .insert-spot2 .last .0) (b .insert-spot2 .result) (places2 s) (filled2 b) (omega arith)
 
-slice-aggregate-insert-equals-4 : tie.Need-slice-aggregate-insert-equals-4
-slice-aggregate-insert-equals-4 c = search needs
-
-insert-equals-requires-4 : tie.Need-insert-equals-requires-4
-insert-equals-requires-4 c κs =
-    let b = c .before .before in
+words-requires : tie.Need-words-requires
+words-requires c κs =
+    let b = c .before .before .before .before in
     let s = start3 b in
-    let h = known s .gives in (
-      s .pre .0,
-      record { high = h .high; value = h .value },
-      rising s (b .insert-equals3 .last .1 .1 .0) (b .insert-equals3 .result) (places3 s) (filled3 b) (omega arith),
-    )
+    (omega (arith, rising s (b .insert-spot3 .last .0) (b .insert-spot3 .result) (places3 s) (filled3 b) (omega arith) .room), omega arith)
 
-slice-aggregate-insert : tie.Need-slice-aggregate-insert
-slice-aggregate-insert c = search needs
+insert-spot-requires-4 : tie.Need-insert-spot-requires-4
+insert-spot-requires-4 c κs =
+    let b = c .before .before .before in
+    let s = started b in
+    rising s (b .words .last .0) (b .words .result) (places3 s) (copied b) (omega arith)
 
 insert-requires : tie.Need-insert-requires
 insert-requires c κs =
-    let b = c .before .before in
+    let b = c .before .before .before in
     let s = start4 b in
-    rising s (b .insert-equals4 .last .1 .1 .0) (b .insert-equals4 .result) (places4 s) (gives4 b) (omega arith)
-
-slice-aggregate-insert-2 : tie.Need-slice-aggregate-insert-2
-slice-aggregate-insert-2 c = search needs
+    rising s (b .insert-spot4 .last .0) (b .insert-spot4 .result) (places4 s) (gives4 b) (omega arith)
 
 insert-requires-2 : tie.Need-insert-requires-2
 insert-requires-2 c κs =
-    let b = c .before .before in
+    let b = c .before .before .before in
     let s = start5 b in
     rising s (b .insert .last .0) (b .insert .result) (places5 s) (gives5 b) (omega arith)
 
-slice-aggregate-insert-3 : tie.Need-slice-aggregate-insert-3
-slice-aggregate-insert-3 c = search needs
-
-differs-requires : tie.Need-differs-requires
-differs-requires c κs =
-    let s = start6 (c .before .before .before) in
-    (s .pre .0, known s .differs (omega (arith, read (c .before .before .before), c .before .if1 .taken)))
+insert-spot-requires-5 : tie.Need-insert-spot-requires-5
+insert-spot-requires-5 c κs =
+    let b = reads (c .before .before .before) in
+    let s = start3 b in
+    rising s (b .insert-spot3 .last .0) (b .insert-spot3 .result) (places3 s) (filled3 b) (omega arith)
 
 insert-requires-3 : tie.Need-insert-requires-3
 insert-requires-3 c κs =
-    let b = reads (c .before .before .before .before) in
-    let s = start3 b in
-    rising s (b .insert-equals3 .last .1 .1 .0) (b .insert-equals3 .result) (places3 s) (filled3 b) (omega arith)
-
-slice-aggregate-insert-4 : tie.Need-slice-aggregate-insert-4
-slice-aggregate-insert-4 c = sym (takes7 (c .before) .eight)
+    let b = c .before .before .before in
+    let s = start7 b in
+    rising s (b .insert-spot5 .last .0) (b .insert-spot5 .result) (places7 s) (takes7 b) (omega arith)
 
 insert-requires-4 : tie.Need-insert-requires-4
 insert-requires-4 c κs =
-    let j = c .before in
-    let s = start7 j in
-    rising s (j .if1 .ins) (j .if1 .c) (places7 s) (takes7 j) (omega arith)
-
-slice-aggregate-insert-5 : tie.Need-slice-aggregate-insert-5
-slice-aggregate-insert-5 c = search needs
-
-insert-requires-5 : tie.Need-insert-requires-5
-insert-requires-5 c κs =
-    let b = c .before .before in
+    let b = c .before .before .before in
     let s = start8 b in
-    rising s (b .insert4 .last .0) (b .insert4 .result) (places8 s) (takes8 b) (omega arith)
+    rising s (b .insert3 .last .0) (b .insert3 .result) (places8 s) (takes8 b) (omega arith)
+
+same-length : tie.Need-same-length
+same-length c = takes9 (c .before .before) .eight ∙ sym (start9 (c .before .before) .pre .3)
+
+same-length-2 : tie.Need-same-length-2
+same-length-2 c = gives6 (c .before .before .before .before .before .before .before .before .before .before .before .before .before .before) .eight
+    ∙ sym (start9 (c .before .before) .pre .4)
 
 returns : tie.Need-returns
 returns c =
-    let t = c .before in
-    let g = t .before .before .before .before .before .before .before in
+    let t = c .before .before in
+    let g = t .before .before .before .before .before .before .before .before .before .before .before .before in
     let s = start9 t in
     let a = s .args in
-    tells (table s) (s .pre .0 .accepted) (a .p) (s .pre .1) (a .i) (a .j) (t .insert5 .last .0) (g .insert2 .last .0) (t .insert5 .result)
-    (g .insert2 .result) (takes9 t) (gives6 g)
+    let k = spots (first (reads g)) in (
+      tells (table s) (s .pre .0 .accepted) (a .p) (s .pre .1) (a .i) (a .j) (t .insert4 .last .0) (g .insert2 .last .0) (t .insert4 .result)
+          (g .insert2 .result) (takes9 t) (gives6 g),
+      record {
+        channel-is = k .channel-is;
+        heard-is = k .heard-is;
+        sent-is = k .sent-is;
+        bound-is = k .bound-is;
+        free-is = k .free-is;
+      },
+    )
 
 pub arcs-of-spec : {M : Type 1} → statement M
 arcs-of-spec =
     tie.close
     (tie.spec
-    word16-requires
-    slice-aggregate-insert-equals
-    insert-equals-requires
-    slice-aggregate-insert-equals-2
-    insert-equals-requires-2
-    slice-aggregate-insert-equals-3
-    insert-equals-requires-3
-    slice-aggregate-insert-equals-4
-    insert-equals-requires-4
-    slice-aggregate-insert
+    spots-of-requires
+    insert-spot-requires
+    insert-spot-requires-2
+    insert-spot-requires-3
+    words-requires
+    insert-spot-requires-4
     insert-requires
-    slice-aggregate-insert-2
     insert-requires-2
-    slice-aggregate-insert-3
-    differs-requires
+    insert-spot-requires-5
     insert-requires-3
-    slice-aggregate-insert-4
     insert-requires-4
-    slice-aggregate-insert-5
-    insert-requires-5
+    same-length
+    same-length-2
     returns)

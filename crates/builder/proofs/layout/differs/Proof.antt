@@ -1,72 +1,133 @@
 -- `builder::layout::differs` meets its contract.
+use mathlib.Core.Path.{ap, _∙_}
+use Prim.Native.Nat.{ℕ, _+_, _-_}
 use native.Mathlib.Omega.{arith}
+use lib.ListN.{length}
+use Rattle.lists.specs.Lists.{range, keep}
+use Rattle.scheme.specs.Words.{publics}
+use Rattle.places.specs.Sets.{bitAt}
+use Rattle.places.specs.declared.reach.Reach.{Reach}
 use Rattle.places.proofs.Controls.{few-publics, few-privates}
-use Rattle.places.proofs.Plans.{row-few, few-counted}
+use Rattle.places.proofs.Plans.{row-is, row-few, reach-is, few-counted, privates-are}
 use Rattle.places.proofs.Names.{differs-of}
 use borrow.Author.Needs.{needs}
 use Rattle.builder.proofs.layout.differs.Statement.{statement}
 use Rattle.builder.proofs.layout.differs.Tie as tie
 
+reach-of-requires : tie.Need-reach-of-requires
+reach-of-requires c κs = search needs
+
 row-start-requires : tie.Need-row-start-requires
 row-start-requires c κs = search needs
+
+publics-of-requires : tie.Need-publics-of-requires
+publics-of-requires c κs = search needs
+
+add-first : tie.Need-add-first
+add-first c =
+    let c1 = c .before in
+    omega (arith, c1 .row-start .ensures .small, c .publics-of .ensures .1)
 
 privates-requires : tie.Need-privates-requires
 privates-requires c κs = search needs
 
-add-result : tie.Need-add-result
-add-result c =
-    let a = c .before .before .before .before .args in
-    let p = c .before .before .before .before .pre in
-    let w = a .table .now in
+add-first-2 : tie.Need-add-first-2
+add-first-2 c =
+    let c1 = c .before in
+    let c2 = c1 .before in
+    let c6 = c2 .before .before .before .before in
     omega (
       arith,
-      p .1 .value,
-      few-publics w (p .0 .accepted),
-      few-privates w (p .0 .accepted),
+      c2 .row-start .ensures .small,
+      c1 .publics-of .ensures .1,
       c .privates .ensures .is,
-      few-counted w (a .index .now) (p .0),
-      c .before .row-start .ensures .is,
-      row-few w (a .index .now) (p .0) (a .name) (p .1 .low) (p .1 .high),
+      few-counted (c6 .args .table .now)
+          (c6 .args .index .now) (c6 .pre .0),
     )
 
-add-result-2 : tie.Need-add-result-2
-add-result-2 c =
-    let a = c .before .before .before .before .args in
-    let p = c .before .before .before .before .pre in
+word16-requires : tie.Need-word16-requires
+word16-requires c κs = search needs
+
+sub-result : tie.Need-sub-result
+sub-result c =
+    let c7 = c .before .before .before .before .before .before .before in
+    omega (arith, c7 .pre .1 .private, c .word16 .ensures .is)
+
+add-result : tie.Need-add-result
+add-result c =
+    let c1 = c .before in
+    let c2 = c1 .before in
+    let c3 = c2 .before in
+    let c7 = c3 .before .before .before .before in
+    let a = c7 .args in
+    let p = c7 .pre in
     let w = a .table .now in
+    let x = a .index .now in
     omega (
       arith,
       p .1 .value,
       few-publics w (p .0 .accepted),
       few-privates w (p .0 .accepted),
-      c .privates .ensures .is,
-      few-counted w (a .index .now) (p .0),
-      c .before .row-start .ensures .is,
-      row-few w (a .index .now) (p .0) (a .name) (p .1 .low) (p .1 .high),
+      c3 .row-start .ensures .small,
+      c2 .publics-of .ensures .1,
+      c1 .privates .ensures .is,
+      few-counted w x (p .0),
     )
 
 cast-result : tie.Need-cast-result
 cast-result c =
-    let a = c .before .before .before .before .args in
-    let p = c .before .before .before .before .pre in
+    let c1 = c .before in
+    let c2 = c1 .before in
+    let c3 = c2 .before in
+    let c7 = c3 .before .before .before .before in
+    let a = c7 .args in
+    let p = c7 .pre in
     let w = a .table .now in
+    let x = a .index .now in
     omega (
       arith,
       p .1 .value,
       few-publics w (p .0 .accepted),
       few-privates w (p .0 .accepted),
-      c .privates .ensures .is,
-      few-counted w (a .index .now) (p .0),
-      c .before .row-start .ensures .is,
-      row-few w (a .index .now) (p .0) (a .name) (p .1 .low) (p .1 .high),
+      row-few w x (p .0) (a .name) (p .1 .low) (p .1 .high),
+      c3 .row-start .ensures .is,
+      c2 .publics-of .ensures .1,
+      c1 .privates .ensures .is,
+      few-counted w x (p .0),
     )
 
 returns : tie.Need-returns
 returns c =
-    let a = c .before .before .before .before .args in
-    let p = c .before .before .before .before .pre in
-    differs-of (a .table .now) (a .index .now) (p .0) (a .name) (a .v) (c .before .row-start .result) (c .privates .result) (c .before .row-start .ensures .is)
-    (c .privates .ensures .is) (p .1)
+    let c1 = c .before in
+    let c2 = c1 .before in
+    let c3 = c2 .before in
+    let c4 = c3 .before in
+    let c7 = c4 .before .before .before in
+    let a = c7 .args in
+    let p = c7 .pre in
+    let w = a .table .now in
+    let x = a .index .now in
+    let row = c3 .row-start in
+    let k = c2 .publics-of in
+    let n = c1 .privates in
+    ap (λ (q : ℕ). row .result + k .result + n .result + (a .v - q)) (c .word16 .ensures .is)
+    ∙ differs-of w (p .0 .accepted) (a .name) (a .v) (row .result) (k .result) (n .result)
+    (row .ensures .is ∙ row-is w x (p .0) (a .name) (p .1 .low) (p .1 .high))
+    (k .ensures .0 ∙ ap (λ (z : Reach). length (keep (bitAt (z .publics)) (range (publics w)))) (c4 .reach-of .ensures ∙ reach-is w x (p .0) (a .name)))
+    (n .ensures .is ∙ privates-are w x (p .0)) (p .1)
 
 pub differs-spec : {M : Type 1} → statement M
-differs-spec = tie.close (tie.spec row-start-requires privates-requires add-result add-result-2 cast-result returns)
+differs-spec =
+    tie.close
+    (tie.spec
+    reach-of-requires
+    row-start-requires
+    publics-of-requires
+    add-first
+    privates-requires
+    add-first-2
+    word16-requires
+    sub-result
+    add-result
+    cast-result
+    returns)

@@ -1,11 +1,15 @@
--- `builder::layout::equals` meets its contract.
-use mathlib.Core.Path.{_≡_}
-use mathlib.Core.Bool.{true, false}
+-- `builder::layout::equals` meets its contract: a public value stands behind those below it in the reach, a private one behind all public ones.
+use mathlib.Core.Path.{ap, _∙_}
+use Prim.Native.Nat.{ℕ, _+_, _-_}
 use native.Mathlib.Omega.{arith}
+use lib.ListN.{length}
+use Rattle.lists.specs.Lists.{range, keep}
+use Rattle.scheme.specs.Words.{publics}
+use Rattle.places.specs.Sets.{bitAt}
+use Rattle.places.specs.declared.reach.Reach.{Reach}
 use Rattle.places.proofs.Controls.{few-publics, few-privates}
-use Rattle.places.proofs.Plans.{row-few}
-use Rattle.scheme.specs.Scheme.{scheme}
-use Rattle.places.proofs.Names.{kind-restricted, kind-free, restricted-private, free-value, equals-of-restricted, equals-of-free}
+use Rattle.places.proofs.Plans.{row-is, row-few, reach-is}
+use Rattle.places.proofs.Names.{held-value, equals-of-public, equals-of-private}
 use borrow.Author.Needs.{needs}
 use Rattle.builder.proofs.layout.equals.Statement.{statement}
 use Rattle.builder.proofs.layout.equals.Tie as tie
@@ -13,115 +17,125 @@ use Rattle.builder.proofs.layout.equals.Tie as tie
 row-start-requires : tie.Need-row-start-requires
 row-start-requires c κs = search needs
 
-name-kind-requires : tie.Need-name-kind-requires
-name-kind-requires c κs = search needs
-
--- what the kind tells
-restricted : (c : tie.Then1) → let c5 = c .before .before .before .before .before in scheme (c5 .args .table .now) .restricted (c5 .args .name) ≡ true
-restricted c =
-    let s = c .before .before .before .before .before in
-    kind-restricted (s .args .table .now) (s .args .name) (c .before .name-kind .result) (s .pre .1 .low) (s .pre .1 .high) (c .before .name-kind .ensures .is)
-    (c .if1 .taken)
-
-unrestricted : (c : tie.Else1) → let c5 = c .before .before .before .before .before in scheme (c5 .args .table .now) .restricted (c5 .args .name) ≡ false
-unrestricted c =
-    let s = c .before .before .before .before .before in
-    kind-free (s .args .table .now) (s .args .name) (c .before .name-kind .result) (s .pre .1 .low) (s .pre .1 .high) (c .before .name-kind .ensures .is)
-    (c .if1 .left)
+reach-of-requires : tie.Need-reach-of-requires
+reach-of-requires c κs = search needs
 
 word16-requires : tie.Need-word16-requires
 word16-requires c κs = search needs
 
-sub-result : tie.Need-sub-result
-sub-result c =
-    let a = c .before .before .before .before .before .before .args in
-    let r = restricted (c .before) in
-    omega (arith, restricted-private (a .table .now) (a .name) (a .v) (c .before .before .before .before .before .before .pre .1) r, c .word16 .ensures .is)
+rank-requires : tie.Need-rank-requires
+rank-requires c κs = search needs
 
 add-result : tie.Need-add-result
 add-result c =
-    let a = c .before .before .before .before .before .before .args in
-    let p = c .before .before .before .before .before .before .pre in
-    let w = a .table .now in
-    let r = restricted (c .before) in
-    omega (
-      arith,
-      restricted-private w (a .name) (a .v) (p .1) r,
-      few-publics w (p .0 .accepted),
-      few-privates w (p .0 .accepted),
-      c .before .before .before .row-start .ensures .is,
-      row-few w (a .index .now) (p .0) (a .name) (p .1 .low) (p .1 .high),
-    )
+    let c4 = c .before .before .before .before in
+    omega (arith, c4 .row-start .ensures .small, c .rank .ensures .1)
 
 cast-result : tie.Need-cast-result
 cast-result c =
-    let a = c .before .before .before .before .before .before .args in
-    let p = c .before .before .before .before .before .before .pre in
+    let c4 = c .before .before .before .before in
+    let c7 = c4 .before .before .before in
+    let a = c7 .args in
+    let p = c7 .pre in
     let w = a .table .now in
-    let r = restricted (c .before) in
-    omega (
-      arith,
-      restricted-private w (a .name) (a .v) (p .1) r,
-      few-publics w (p .0 .accepted),
-      few-privates w (p .0 .accepted),
-      c .before .before .before .row-start .ensures .is,
-      row-few w (a .index .now) (p .0) (a .name) (p .1 .low) (p .1 .high),
-    )
+    let x = a .index .now in
+    omega (arith, row-few w x (p .0) (a .name) (p .1 .low) (p .1 .high), c4 .row-start .ensures .is, c .rank .ensures .1)
 
 returns : tie.Need-returns
 returns c =
-    let a = c .before .before .before .before .before .before .args in
-    let p = c .before .before .before .before .before .before .pre in
-    equals-of-restricted (a .table .now) (a .index .now) (p .0) (a .name) (a .v) (c .before .before .before .row-start .result) (c .word16 .result)
-    (c .before .before .before .row-start .ensures .is) (c .word16 .ensures .is) (p .1) (restricted (c .before))
+    let c1 = c .before in
+    let c2 = c1 .before in
+    let c3 = c2 .before in
+    let c4 = c3 .before in
+    let c7 = c4 .before .before .before in
+    let a = c7 .args in
+    let p = c7 .pre in
+    let w = a .table .now in
+    let x = a .index .now in
+    let r = c3 .reach-of in
+    equals-of-public w (p .0 .accepted) (a .name) (a .v) (c4 .row-start .result) (c .rank .result)
+    (c4 .row-start .ensures .is ∙ row-is w x (p .0) (a .name) (p .1 .low) (p .1 .high))
+    (c .rank .ensures .0 ∙ ap (λ (z : Reach). length (keep (bitAt (z .publics)) (range (a .v)))) (r .ensures ∙ reach-is w x (p .0) (a .name)))
+    (omega (arith, c1 .if1 .taken, c2 .word16 .ensures .is))
+
+rank-requires-2 : tie.Need-rank-requires-2
+rank-requires-2 c κs = search needs
 
 add-result-2 : tie.Need-add-result-2
 add-result-2 c =
-    let a = c .before .before .before .before .before .args in
-    let p = c .before .before .before .before .before .pre in
+    let c4 = c .before .before .before .before in
+    omega (arith, c4 .row-start .ensures .small, c .rank2 .ensures .1)
+
+add-result-3 : tie.Need-add-result-3
+add-result-3 c =
+    let c4 = c .before .before .before .before in
+    let c7 = c4 .before .before .before in
+    let a = c7 .args in
+    let p = c7 .pre in
     let w = a .table .now in
+    let x = a .index .now in
     omega (
       arith,
-      free-value w (a .name) (a .v) (p .1) (unrestricted c),
+      held-value w (p .0 .accepted) (a .name) (a .v) (p .1),
       few-publics w (p .0 .accepted),
       few-privates w (p .0 .accepted),
-      c .before .before .row-start .ensures .is,
-      row-few w (a .index .now) (p .0) (a .name) (p .1 .low) (p .1 .high),
+      c4 .row-start .ensures .small,
+      c .rank2 .ensures .1,
     )
 
 cast-result-2 : tie.Need-cast-result-2
 cast-result-2 c =
-    let a = c .before .before .before .before .before .args in
-    let p = c .before .before .before .before .before .pre in
+    let c4 = c .before .before .before .before in
+    let c7 = c4 .before .before .before in
+    let a = c7 .args in
+    let p = c7 .pre in
     let w = a .table .now in
+    let x = a .index .now in
     omega (
       arith,
-      free-value w (a .name) (a .v) (p .1) (unrestricted c),
+      held-value w (p .0 .accepted) (a .name) (a .v) (p .1),
       few-publics w (p .0 .accepted),
       few-privates w (p .0 .accepted),
-      c .before .before .row-start .ensures .is,
-      row-few w (a .index .now) (p .0) (a .name) (p .1 .low) (p .1 .high),
+      row-few w x (p .0) (a .name) (p .1 .low) (p .1 .high),
+      c4 .row-start .ensures .is,
+      c .rank2 .ensures .1,
     )
 
 returns-2 : tie.Need-returns-2
 returns-2 c =
-    let a = c .before .before .before .before .before .args in
-    let p = c .before .before .before .before .before .pre in
-    equals-of-free (a .table .now) (a .index .now) (p .0) (a .name) (a .v) (c .before .before .row-start .result)
-    (c .before .before .row-start .ensures .is) (p .1)
-    (unrestricted c)
+    let c1 = c .before in
+    let c2 = c1 .before in
+    let c3 = c2 .before in
+    let c4 = c3 .before in
+    let c7 = c4 .before .before .before in
+    let a = c7 .args in
+    let p = c7 .pre in
+    let w = a .table .now in
+    let x = a .index .now in
+    let r = c3 .reach-of in
+    let q = c2 .word16 .ensures .is in
+    let k = c .rank2 in
+    let row = c4 .row-start .result in
+    ap (λ (q : ℕ). row + k .result + (a .v - q)) q
+    ∙ equals-of-private w (p .0 .accepted) (a .name) (a .v) row (k .result)
+    (c4 .row-start .ensures .is ∙ row-is w x (p .0) (a .name) (p .1 .low) (p .1 .high))
+    (k .ensures .0 ∙ ap (λ (n : ℕ). length (keep (bitAt (r .result .publics)) (range n))) q
+    ∙ ap (λ (z : Reach). length (keep (bitAt (z .publics)) (range (publics w)))) (r .ensures ∙ reach-is w x (p .0) (a .name)))
+    (omega (arith, c1 .if1 .left, q)) (p .1)
 
 pub equals-spec : {M : Type 1} → statement M
 equals-spec =
     tie.close
     (tie.spec
     row-start-requires
-    name-kind-requires
+    reach-of-requires
     word16-requires
-    sub-result
+    rank-requires
     add-result
     cast-result
     returns
+    rank-requires-2
     add-result-2
+    add-result-3
     cast-result-2
     returns-2)

@@ -64,9 +64,9 @@ cast-result c =
 returns : tie.Need-returns
 returns c =
     let a = c .before .before .before .before .args in
-    free-of (a .table .now) (a .index .now) (c .before .before .before .before .pre .0) (a .v) (c .before .free-start .result) (c .word16 .result)
-    (c .before .free-start .ensures .is)
-    (c .word16 .ensures .is) (c .before .before .before .before .pre .1)
+    let l = c .before .before .before .before .pre .0 in
+    free-of (a .table .now) (l .accepted) (a .index .now) l (a .v) (c .before .free-start .result) (c .word16 .result)
+    (c .before .free-start .ensures .is) (c .word16 .ensures .is)
 
 pub free-place-spec : {M : Type 1} → statement M
 free-place-spec = tie.close (tie.spec free-start-requires word16-requires sub-result add-result cast-result returns)

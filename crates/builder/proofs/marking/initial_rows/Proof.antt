@@ -1,22 +1,27 @@
 -- `builder::marking::initial_rows` meets its contract. Loop: the marks of the names left are still to be written. Measure: names left.
 use mathlib.Core.Logic.{⊎-elim}
-use mathlib.Core.Path.{_∙_}
-use Prim.Native.Nat.{_+_, _-_, _≤_, _<_}
+use mathlib.Core.Path.{sym, ap, _∙_}
+use Prim.Native.Nat.{_+_, _-_, _≤_}
 use native.Mathlib.Omega.{arith}
 use borrow.Author.Needs.{needs}
-use Rattle.scheme.specs.Words.{names}
+use lib.ListN.{length}
+use Rattle.lists.specs.Lists.{range, keep}
+use Rattle.scheme.specs.Words.{publics}
+use Rattle.places.specs.Sets.{bitAt}
+use Rattle.places.specs.declared.reach.Reach.{Reach}
 use Rattle.places.proofs.Controls.{few-publics, few-bounds}
-use Rattle.places.proofs.Names.{kind-restricted, kind-free}
+use Rattle.places.proofs.Names.{read-tells}
+use Rattle.places.proofs.Plans.{few-counted, laid-reached}
 use Rattle.builder.proofs.Counted.{Counted, counted}
 use Rattle.builder.proofs.Marked.{RowsTurn, rows-begin, rows-skip, rows-put, rows-room, rows-close}
 use Rattle.builder.proofs.marking.initial_rows.Statement.{statement}
 use Rattle.builder.proofs.marking.initial_rows.Tie as tie
 
 abbrev Inv-loop : tie.InvT-loop
-Inv-loop table index out₀ publics privates end at₀ x₀ out at x = RowsTurn table out₀ end out at x
+Inv-loop table index out₀ publics₁ privates end at₀ x₀ out at x = RowsTurn table out₀ end out at x
 
 abbrev μ-loop : tie.MeasureT-loop
-μ-loop table index out₀ publics privates end at₀ x₀ out at x = end - x
+μ-loop table index out₀ publics₁ privates end at₀ x₀ out at x = end - x
 
 -- the counts, as they are read
 told : (c : tie.After-word162 Inv-loop μ-loop) → Counted (c .before .before .before .before .before .before .args .table .now)
@@ -42,28 +47,46 @@ loop-holds c =
     let s = c .before .before .before .before .before .before in
     rows-begin (s .args .table .now) (s .args .index .now) (s .pre) _ _ (c .word162 .result) (told c) (c .word162 .ensures .is) (s .args .out .now)
 
-name-kind-requires : tie.Need-name-kind-requires Inv-loop μ-loop
-name-kind-requires c κs = search needs
+is-read-requires : tie.Need-is-read-requires Inv-loop μ-loop
+is-read-requires c κs = search needs
+
+reach-of-requires : tie.Need-reach-of-requires Inv-loop μ-loop
+reach-of-requires c κs = search needs
+
+publics-of-requires : tie.Need-publics-of-requires Inv-loop μ-loop
+publics-of-requires c κs = search needs
+
+add-held : tie.Need-add-held Inv-loop μ-loop
+add-held c =
+    let c7 = c .before .before .before .before .before .before .before in
+    omega (
+      arith,
+      c .publics-of .ensures .1,
+      c7 .privates .ensures .is,
+      few-counted (c7 .before .before .before .before .before .args .table .now)
+          (c7 .before .before .before .before .before .args .index .now) (c7 .before .before .before .before .before .pre),
+    )
 
 row-start-requires : tie.Need-row-start-requires Inv-loop μ-loop
 row-start-requires c κs = search needs
 
+-- the sums that are formed are small
 room : (c : tie.After-row-start Inv-loop μ-loop)
-    → (c .row-start .result + c .before .before .before .before .before .before .before .before .word16 .result + c .before .before .before .before .before
-    .before .before .privates .result + c .before .before .before .before .before .before .before .privates .result ≤ 4096) ×
-    (c .before .before .before .before .before .loop .at ≤ 4096)
+    → let c9 = c .before .before .before .before .before .before .before .before .before in
+    (c .row-start .result + (c .before .before .publics-of .result + c9 .privates .result) + c9 .privates .result ≤ 4096)
+    × (c .before .before .before .before .before .before .before .loop .at ≤ 4096)
 room c =
-    let s = c .before .before .before .before .before .before .before .before .before .before .before .before in
-    let l = c .before .before .before .before .before .loop in
-    rows-room (s .args .table .now) (s .args .index .now) (s .pre) _ _ (c .before .before .before .before .before .before .word162 .result) (told
-    (c .before .before .before .before .before .before)) (c .before .before .before .before .before .before .word162 .ensures .is) (s .args .out .now)
-    (l .out) (l .at) (l .x) (c .row-start .result) (l .inv) (c .before .before .before .before .loop-test .taken) (c .row-start .ensures .is)
+    let c7 = c .before .before .before .before .before .before .before in
+    let c8 = c7 .before in
+    let s = c8 .before .before .before .before .before .before in
+    let l = c7 .loop in
+    let r = rows-room (s .args .table .now) (s .args .index .now) (s .pre) _ _ (c8 .word162 .result) (told c8) (c8 .word162 .ensures .is) (s .args .out .now)
+    (l .out) (l .at) (l .x) (c .row-start .result) (l .inv) (c .before .before .before .before .before .before .loop-test .taken)
+    (c .row-start .ensures .is) in
+    (omega (arith, r .0, c .before .before .publics-of .ensures .1), r .1)
 
 add-count-up : tie.Need-add-count-up Inv-loop μ-loop
 add-count-up c = omega (arith, room c)
-
-add-count-up-2 : tie.Need-add-count-up-2 Inv-loop μ-loop
-add-count-up-2 c = omega (arith, room c)
 
 count-up-requires : tie.Need-count-up-requires Inv-loop μ-loop
 count-up-requires c κs = let r = room c in (omega (arith, r .0), omega (arith, r .1))
@@ -84,16 +107,21 @@ loop-again c =
     let w = a .table .now in
     let y = a .index .now in
     let l = c .before .before .before .loop in
-    let k = c .before .name-kind in
     let b = c .before .before .before .before .word162 in
     let d = told (c .before .before .before .before) in
     let t = c .before .before .loop-test .taken in
-    let u : l .x < names w = omega (arith, d .publics-are, b .ensures .is) in
+    let k = read-tells w (p .accepted) y (laid-reached w y p) (l .x) (c .before .is-read .result) (c .before .is-read .ensures) in
     ⊎-elim
-    (λ v. rows-put w y p _ _ (b .result) d (b .ensures .is) (a .out .now) (l .out) (c .if1 .out) (l .at) (c .if1 .at) (l .x) (v .2 .result) (l .inv) t
-    (v .2 .ensures .is) (kind-free w (l .x) (k .result) (l .inv .low) u (k .ensures .is) (v .0 .taken)) (v .7 ∙ v .3 .ensures .0) (v .6 ∙ v .3 .ensures .1))
+    (λ v. rows-put w y p _ _ (b .result) d (b .ensures .is) (a .out .now) (l .out) (c .if1 .out) (l .at) (c .if1 .at) (l .x) (v .4 .result) (v .2 .result)
+    (l .inv) t
+    (record {
+      reads = sym k ∙ v .0 .taken;
+      row-is = v .4 .ensures .is;
+      count-is = v .2 .ensures .0 ∙ ap (λ (z : Reach). length (keep (bitAt (z .publics)) (range (publics w)))) (v .1 .ensures);
+    })
+    (v .9 ∙ v .5 .ensures .0) (v .8 ∙ v .5 .ensures .1))
     (λ v. rows-skip w y p _ _ (b .result) d (b .ensures .is) (a .out .now) (l .out) (c .if1 .out) (l .at) (c .if1 .at) (l .x) (l .inv) t
-    (kind-restricted w (l .x) (k .result) (l .inv .low) u (k .ensures .is) (v .0 .left)) (v .2) (v .1))
+    (sym k ∙ v .0 .left) (v .2) (v .1))
     (c .if1 .came)
 
 same-length : tie.Need-same-length Inv-loop μ-loop
@@ -118,10 +146,12 @@ initial-rows-spec =
     word16-requires-2
     add-end
     loop-holds
-    name-kind-requires
+    is-read-requires
+    reach-of-requires
+    publics-of-requires
+    add-held
     row-start-requires
     add-count-up
-    add-count-up-2
     count-up-requires
     add-x
     loop-less

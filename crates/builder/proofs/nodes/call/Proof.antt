@@ -17,7 +17,7 @@ use Rattle.places.proofs.Controls.{few-nodes}
 use Rattle.builder.proofs.Chains.{chain-few, put-as, inside-as}
 use Rattle.builder.proofs.ChainLoops.{part-inside, part-more}
 use Rattle.builder.proofs.NodeArrows.{calling-arrow}
-use Rattle.builder.proofs.HeldChains.{starts-rise, Called, call-frees, call-named, call-list, call-few, call-room, call-chained}
+use Rattle.builder.proofs.HeldChains.{starts-rise, Called, call-frees, call-named, call-takes, call-list, call-few, call-room, call-chained}
 use borrow.Author.Needs.{needs}
 use Rattle.builder.proofs.nodes.call.Statement.{statement}
 use Rattle.builder.proofs.nodes.call.Tie as tie
@@ -182,6 +182,7 @@ copy-all-requires c κs =
       c .before .field32 .ensures .small,
       call-frees w (p .0 .accepted) (a .n) (p .1) (p .2) _ _ _ _ _ e,
       call-named w (p .0 .accepted) (a .n) (p .1) (p .2) _ _ _ _ _ e,
+      call-takes w (p .0 .accepted) (a .n) (p .1) (p .2) _ _ _ _ _ e,
       part-inside (ofTable w) _ (state (c .before .before .before .before .before .go .last .0)
           (c .before .before .before .before .before .go .result)) _ _ (after-go (c .before)) (p .3),
     )

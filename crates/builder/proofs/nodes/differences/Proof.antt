@@ -1,5 +1,5 @@
 -- `builder::nodes::differences` meets its contract. Loop: [y≠v] of the bound names below x are in the list. Measure: names left.
-use mathlib.Core.Path.{_≡_, refl, ap, _∙_}
+use mathlib.Core.Path.{_≡_, refl, sym, ap, _∙_}
 use mathlib.Core.Logic.{⊎-elim}
 use Prim.Native.Nat.{_+_, _-_, _≤_, _<_}
 use native.Mathlib.Omega.{arith}
@@ -10,15 +10,16 @@ use Rattle.places.specs.Inner.Arcs.{numbersOf}
 use Rattle.places.specs.Inner.Plan.{today, Differs}
 use Rattle.builder.specs.Inner.Parts.{Filled}
 use Rattle.places.proofs.Controls.{few-bounds}
-use Rattle.places.proofs.Names.{kind-free, kind-restricted}
+use Rattle.places.proofs.Names.{read-tells}
+use Rattle.places.proofs.Plans.{laid-reached}
 use Rattle.builder.proofs.Filling.{fill-same, fill-rising}
-use Rattle.builder.proofs.Making.{differsBelow, below-length, below-all, below-start, below-with, below-without}
+use Rattle.builder.proofs.Making.{differsBelow, below-length, below-all, below-start, below-with, below-without, read-free, read-private}
 use borrow.Author.Needs.{needs}
 use Rattle.builder.proofs.nodes.differences.Statement.{statement}
 use Rattle.builder.proofs.nodes.differences.Tie as tie
 use Rattle.builder.proofs.insertion.insert.Reads as insert-reads
 use Rattle.builder.proofs.layout.differs.Reads as differs-reads
-use Rattle.scheme.proofs.fields.name_kind.Reads as name-kind-reads
+use Rattle.places.proofs.layout.is_read.Reads as is-read-reads
 
 abbrev Inv-loop : tie.InvT-loop
 Inv-loop table index list₀ v publics₁ end count₀ x₀ list count x =
@@ -35,7 +36,10 @@ differs-here c =
     let w = c .before .before .before .before .before .before .before .before .before .args .table .now in
     let p = c .before .before .before .before .before .before .before .before .before .pre in
     let x = c .before .before .before .loop .x in
-    let k = c .before .name-kind in
+    let k = c .before .is-read in
+    let i = c .before .before .before .before .before .before .before .before .before .args .index .now in
+    let v = c .before .before .before .before .before .before .before .before .before .args .v in
+    let r = sym (read-tells w (p .0 .accepted) i (laid-reached w i (p .0)) x (k .result) (k .ensures)) ∙ c .if1 .taken in
     let l = c .before .before .before .loop .inv .2 in
     let u : x < names w = omega (
       arith,
@@ -44,7 +48,7 @@ differs-here c =
       c .before
           .before .before .before .word162 .ensures .is,
     ) in
-    record { low = l; high = u; free = kind-free w x (k .result) l u (k .ensures .is) (c .if1 .taken); private = p .1; value = p .2 }
+    record { low = l; high = u; free = read-free w v x r; reads = read-private w v x r; private = p .1; value = p .2 }
 
 -- what a turn puts in
 turn : (c : tie.Joined1 Inv-loop μ-loop)
@@ -56,14 +60,9 @@ turn c =
     let p = c .before .before .before .before .before .before .before .before .before .pre in
     let w = a .table .now in
     let l = c .before .before .before .loop in
-    let k = c .before .name-kind in
-    let u : l .x < names w = omega (
-      arith,
-      c .before .before .loop-test .taken,
-      c .before .before .before .before .before .word16 .ensures .is,
-      c .before
-          .before .before .before .word162 .ensures .is,
-    ) in
+    let k = c .before .is-read in
+    let i = a .index .now in
+    let r = read-tells w (p .0 .accepted) i (laid-reached w i (p .0)) (l .x) (k .result) (k .ensures) in
     ⊎-elim
     (λ y. rw (y .6, y .7) (
       below-with w (a .v) (l .list) _ (l .count) _ (y .2 .result) (l .x) (differs-here (record { before = c .before; if1 = y .0 })) (y .2 .ensures)
@@ -71,8 +70,7 @@ turn c =
       y .3 .kept .0 ∙ l .inv .1,
     ))
     (λ y. rw (y .1, y .2) (
-      below-without w (a .v) (l .list) (l .count) (l .x) (l .inv .2) (kind-restricted w (l .x) (k .result) (l .inv .2) u (k .ensures .is) (y .0 .left))
-          (l .inv .0),
+      below-without w (a .v) (l .list) (l .count) (l .x) (p .1) (l .inv .2) (sym r ∙ y .0 .left) (l .inv .0),
       l .inv .1,
     ))
     (c .if1 .came)
@@ -92,8 +90,8 @@ loop-holds c =
     let e = c .before .word16 .ensures .is in
     (below-start (a .table .now) (a .v) (a .list .now) (c .before .word16 .result) e, refl, omega (arith, e), omega arith)
 
-name-kind-requires : tie.Need-name-kind-requires Inv-loop μ-loop
-name-kind-requires c κs = search needs
+is-read-requires : tie.Need-is-read-requires Inv-loop μ-loop
+is-read-requires c κs = search needs
 
 differs-requires : tie.Need-differs-requires Inv-loop μ-loop
 differs-requires c κs = (c .before .before .before .before .before .before .before .before .before .before .pre .0, differs-here (c .before))
@@ -160,7 +158,7 @@ differences-spec =
     word16-requires-2
     add-end
     loop-holds
-    name-kind-requires
+    is-read-requires
     differs-requires
     insert-requires
     add-x

@@ -21,8 +21,8 @@ use Rattle.builder.proofs.nodes.make.Tie as tie
 
 -- ---- the function's entry from the places that follow
 
-abbrev start1 : tie.After-differences → tie.Start
-start1 c = c .before .before .before .before .before .before
+abbrev start1 : tie.After-risen → tie.Start
+start1 c = c .before .before .before .before .before .before .before
 
 abbrev start2 : tie.After-insert-equals → tie.Start
 start2 c = start1 (c .before .before .before)
@@ -50,8 +50,8 @@ given s = equals (nodeFirst (table s) (s .args .m .node)) (s .args .v) ∷ read 
 abbrev taken : tie.Start → List Place
 taken s = free (s .args .v) ∷ read s
 
-first : (c : tie.After-differences) → Filled (table (start1 c)) (c .differences .last .1 .1 .0) (c .differences .result) (read (start1 c))
-first c = record { holds = c .differences .ensures .0; size = c .differences .ensures .1 }
+first : (c : tie.After-risen) → Filled (table (start1 c)) (c .risen .last .1 .1 .1 .1 .0) (c .risen .result) (read (start1 c))
+first c = record { holds = c .risen .ensures .0; size = c .risen .ensures .1 }
 
 -- the new name may hold the value
 holds : (s : tie.Start) → Holds (table s) (nodeFirst (table s) (s .args .m .node)) (s .args .v)
@@ -85,7 +85,7 @@ ins-1 c =
     let s = start4 c in
     let a = s .args in
     let b = c .before .before .before .before .before .before .before .before .before .before in
-    fill-with (table s) (b .differences .last .1 .1 .0) (c .insert2 .last .0) (b .differences .result) (c .insert2 .result) (c .before .free-place .result)
+    fill-with (table s) (b .risen .last .1 .1 .1 .1 .0) (c .insert2 .last .0) (b .risen .result) (c .insert2 .result) (c .before .free-place .result)
     (free (a .v)) (read s) (has-free-value (table s) (a .v) (s .pre .5) (s .pre .6)) (c .before .free-place .ensures) (c .insert2 .ensures) (first b)
 
 ins-2 : (c : tie.After-insert3) → Filled (table (start5 c)) (c .insert3 .last .0) (c .insert3 .result) (control (start5 c .args .m .node) 0 ∷ taken (start5 c))
@@ -119,11 +119,11 @@ arrow-is c =
 field3-requires : tie.Need-field3-requires
 field3-requires c κs = search needs
 
-slice-aggregate-differences : tie.Need-slice-aggregate-differences
-slice-aggregate-differences c = search needs
+slice-aggregate-risen : tie.Need-slice-aggregate-risen
+slice-aggregate-risen c = search needs
 
-differences-requires : tie.Need-differences-requires
-differences-requires c κs = search needs
+risen-requires : tie.Need-risen-requires
+risen-requires c κs = search needs
 
 slice-aggregate-insert-equals : tie.Need-slice-aggregate-insert-equals
 slice-aggregate-insert-equals c = search needs
@@ -136,7 +136,7 @@ insert-equals-requires c κs =
       s .pre .0,
       rw (b .before .before .field3 .ensures .is) (record { high = h .high; value = h .value }),
       fill-rising (table s) (s .pre .0 .accepted) _ _ (read s)
-          (omega (arith, b .differences .kept .1 .1 .0, all-length (table s) (s .args .v), few-bounds (table s) (s .pre .0 .accepted))) (first b),
+          (omega (arith, b .risen .kept .1 .1 .1 .1 .0, all-length (table s) (s .args .v), few-bounds (table s) (s .pre .0 .accepted))) (first b),
     )
 
 slice-aggregate-insert : tie.Need-slice-aggregate-insert
@@ -150,7 +150,7 @@ insert-requires c κs =
     (omega (
       arith,
       b .insert-equals .kept .1 .1 .0,
-      b .before .before .before .differences .kept .1 .1 .0,
+      b .before .before .before .risen .kept .1 .1 .1 .1 .0,
       all-length (table s) (s .args .v),
       few-bounds (table s) (s .pre .0 .accepted),
     )) (outs-1 b)
@@ -166,7 +166,7 @@ insert-requires-2 c κs =
     let b = c .before .before .before .before .before .before .before .before .before in
     let s = start1 b in
     fill-rising (table s) (s .pre .0 .accepted) _ _ (read s)
-    (omega (arith, b .differences .kept .1 .1 .0, all-length (table s) (s .args .v), few-bounds (table s) (s .pre .0 .accepted))) (first b)
+    (omega (arith, b .risen .kept .1 .1 .1 .1 .0, all-length (table s) (s .args .v), few-bounds (table s) (s .pre .0 .accepted))) (first b)
 
 slice-aggregate-insert-3 : tie.Need-slice-aggregate-insert-3
 slice-aggregate-insert-3 c = search needs
@@ -175,9 +175,9 @@ insert-requires-3 : tie.Need-insert-requires-3
 insert-requires-3 c κs =
     let b = c .before .before in
     let s = start4 b in
-    let d = b .before .before .before .before .before .before .before .before .before .before .differences in
+    let d = b .before .before .before .before .before .before .before .before .before .before .risen in
     fill-rising (table s) (s .pre .0 .accepted) _ _ (taken s)
-    (omega (arith, b .insert2 .kept .0, d .kept .1 .1 .0, all-length (table s) (s .args .v), few-bounds (table s) (s .pre .0 .accepted))) (ins-1 b)
+    (omega (arith, b .insert2 .kept .0, d .kept .1 .1 .1 .1 .0, all-length (table s) (s .args .v), few-bounds (table s) (s .pre .0 .accepted))) (ins-1 b)
 
 slice-aggregate-transition : tie.Need-slice-aggregate-transition
 slice-aggregate-transition c = search needs
@@ -194,7 +194,7 @@ transition-requires c κs =
     let a = s .args in
     let p = s .pre in
     let w = table s in
-    let d = q .before .before .before .differences .kept .1 .1 .0 in (
+    let d = q .before .before .before .risen .kept .1 .1 .1 .1 .0 in (
       omega (arith, few-nodes w (p .0 .accepted), p .1),
       named b .field3 .ensures .small,
       omega (
@@ -225,8 +225,8 @@ make-spec =
     tie.close
     (tie.spec
     field3-requires
-    slice-aggregate-differences
-    differences-requires
+    slice-aggregate-risen
+    risen-requires
     slice-aggregate-insert-equals
     insert-equals-requires
     slice-aggregate-insert

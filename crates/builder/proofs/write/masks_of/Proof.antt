@@ -11,11 +11,11 @@ use Rattle.builder.proofs.write.masks_of.Statement.{statement}
 use Rattle.builder.proofs.write.masks_of.Tie as tie
 
 abbrev Inv-loop : tie.InvT-loop
-Inv-loop list a b c masks₀ k₀ masks k =
-    (k ≤ 16) × (length masks ≡ 16) × (take k masks ≡ map (maskOf (a ∷ b ∷ c ∷ [])) (take k list))
+Inv-loop list a b c d e masks₀ k₀ masks k =
+    (k ≤ 16) × (length masks ≡ 16) × (take k masks ≡ map (maskOf (a ∷ b ∷ c ∷ d ∷ e ∷ [])) (take k list))
 
 abbrev μ-loop : tie.MeasureT-loop
-μ-loop list a b c masks₀ k₀ masks k = 16 - k
+μ-loop list a b c d e masks₀ k₀ masks k = 16 - k
 
 loop-holds : tie.Need-loop-holds Inv-loop μ-loop
 loop-holds c = (omega arith, refl, refl)
@@ -48,7 +48,7 @@ loop-again c =
     let h : l .k < 16 = c .before .before .loop-test .taken in (
       omega arith,
       simp length-set (l .inv .1),
-      masks-more (maskOf (a .a ∷ a .b ∷ a .c ∷ [])) (a .list .now) (l .masks) (l .k) (c .mask .result) (omega (arith, l .inv .1))
+      masks-more (maskOf (a .a ∷ a .b ∷ a .c ∷ a .d ∷ a .e ∷ [])) (a .list .now) (l .masks) (l .k) (c .mask .result) (omega (arith, l .inv .1))
           (omega (arith, c .before .before .before .before .pre)) (c .mask .ensures) (l .inv .2),
     )
 
@@ -57,8 +57,8 @@ returns c =
     let a = c .before .before .args in
     let l = c .before .loop in
     let e : l .k ≡ 16 = omega (arith, l .inv .0, c .loop-test .left) in
-    masks-done (maskOf (a .a ∷ a .b ∷ a .c ∷ [])) (a .list .now) (l .masks) (l .k) (omega (arith, l .inv .1)) (omega (arith, c .before .before .pre))
-    (l .inv .2)
+    masks-done (maskOf (a .a ∷ a .b ∷ a .c ∷ a .d ∷ a .e ∷ [])) (a .list .now) (l .masks) (l .k) (omega (arith, l .inv .1))
+    (omega (arith, c .before .before .pre)) (l .inv .2)
 
 pub masks-of-spec : {M : Type 1} → statement M
 masks-of-spec =

@@ -10,19 +10,19 @@ use Rattle.lists.proofs.Ranges.{from-whole}
 use Rattle.net.specs.Net.{Transition}
 use Rattle.builder.specs.Inner.Writing
 use Rattle.builder.specs.Inner.Writing.{heads, putOne, putAll, Inside}
-use Rattle.builder.specs.Inner.Parts.{state, risen}
+use Rattle.builder.specs.Inner.Parts.{state, risen, risersIn}
 use Rattle.builder.proofs.Series.{Merged, merge, steady, series-done, series-inside, series-room, series-more}
 use Rattle.builder.proofs.write.series.Statement.{statement}
 use Rattle.builder.proofs.write.series.Tie as tie
 
 abbrev Inv-loop : tie.InvT-loop
-Inv-loop out₀ label arcs count list middle size a b c masks place₀ arc₀ t₀ out place arc t =
-    (putAll (risen (label .kind) (label .a) (label .b) arcs (a ∷ b ∷ c ∷ [])) (heads out₀ place₀ arc₀) (range count)
-    ≡ putAll (risen (label .kind) (label .a) (label .b) arcs (a ∷ b ∷ c ∷ [])) (heads out place arc) (from t (count - t)))
+Inv-loop out₀ label arcs count list middle size a b c d e masks place₀ arc₀ t₀ out place arc t =
+    (putAll (risen (label .kind) (label .a) (label .b) arcs (a ∷ b ∷ c ∷ d ∷ e ∷ [])) (heads out₀ place₀ arc₀) (range count)
+    ≡ putAll (risen (label .kind) (label .a) (label .b) arcs (a ∷ b ∷ c ∷ d ∷ e ∷ [])) (heads out place arc) (from t (count - t)))
     × (length out ≡ length out₀)
 
 abbrev μ-loop : tie.MeasureT-loop
-μ-loop out₀ label arcs count list middle size a b c masks place₀ arc₀ t₀ out place arc t = count - t
+μ-loop out₀ label arcs count list middle size a b c d e masks place₀ arc₀ t₀ out place arc t = count - t
 
 -- ---- what is known where the loop starts, and in a turn
 
@@ -39,7 +39,7 @@ abbrev zeros : List ℕ
 zeros = 0 ∷ 0 ∷ 0 ∷ 0 ∷ 0 ∷ 0 ∷ 0 ∷ 0 ∷ 0 ∷ 0 ∷ 0 ∷ 0 ∷ 0 ∷ 0 ∷ 0 ∷ 0 ∷ []
 
 abbrev moving : Begun → List ℕ
-moving c = start c .args .rise .a ∷ start c .args .rise .b ∷ start c .args .rise .c ∷ []
+moving c = risersIn (start c .args .rise)
 
 abbrev list : Begun → List ℕ
 list c = c .before .before .before .words2 .last .0

@@ -11,7 +11,7 @@ use Rattle.scheme.specs.Owners.{held}
 use Rattle.places.specs.Answers.{Sums, sumsOf}
 use Rattle.places.specs.Inner.Counting.{Few, addTimes, over, releaseSums, copySums, silentSums, nodeSums}
 use Rattle.places.proofs.Controls.{few-nodes, few-bounds}
-use Rattle.places.proofs.Tokens.{free-few}
+use Rattle.places.proofs.Tokens.{read-few}
 use Rattle.places.proofs.Plans.{known, privates-are}
 use Rattle.places.proofs.NodeCounts.{names-asks, names-gives, stopped, chosen, made, other-kind, call-sums, copied-few, called-few}
 use Rattle.places.proofs.NodeCounts.{arguments-are}
@@ -48,11 +48,11 @@ of-choice c =
 
 of-new : (c : tie.After-privates)
     → let s = start (c .before .before .before) in
-    all s ≡ addTimes (sums s) (c .privates .result) (s .args .free + 2) (s .args .free + 2)
+    all s ≡ addTimes (sums s) (c .privates .result) (s .args .read + 2) (s .args .read + 2)
 of-new c =
     let s = start (c .before .before .before) in
     let k = c .before .before .before .before .before .field3 in
-    made (table s) (s .pre .0 .accepted) (s .args .n) (s .pre .2) (sums s) (k .result) (k .ensures .is) (c .privates .result) (s .args .free)
+    made (table s) (s .pre .0 .accepted) (s .args .n) (s .pre .2) (sums s) (k .result) (k .ensures .is) (c .privates .result) (s .args .read)
     (c .privates .ensures .is ∙ privates-are (table s) (s .args .index .now) (s .pre .0)) (s .pre .1) (c .before .if2 .taken)
 
 abbrev start2 : tie.After-held-names → tie.Start
@@ -117,10 +117,10 @@ returns c = c .silents .ensures ∙ sym (of-choice (c .before))
 privates-requires : tie.Need-privates-requires
 privates-requires c κs = search needs
 
-few : (c : tie.After-field33) → start c .args .free + 2 ≤ 34
+few : (c : tie.After-field33) → start c .args .read + 2 ≤ 34
 few c =
     let s = start c in
-    omega (arith, s .pre .1, free-few (table s) (s .pre .0 .accepted), few-bounds (table s) (s .pre .0 .accepted))
+    omega (arith, s .pre .1, read-few (table s) (s .pre .0 .accepted), few-bounds (table s) (s .pre .0 .accepted))
 
 add-more : tie.Need-add-more
 add-more c = omega (arith, few (c .before .before .before))

@@ -7,6 +7,7 @@ use Rattle.lists.specs.Lists.{from, range}
 use Rattle.scheme.specs.Words.{nodes}
 use Rattle.places.specs.Answers.{sumsOf}
 use Rattle.places.specs.Inner.Counting.{over, nodeSums}
+use Rattle.places.proofs.Plans.{laid-reached}
 use Rattle.places.proofs.Adding.{node-grows, range-whole, range-few, range-on, range-done}
 use Rattle.places.proofs.count.of_nodes.Statement.{statement}
 use Rattle.places.proofs.count.of_nodes.Tie as tie
@@ -21,8 +22,10 @@ abbrev μ-loop : tie.MeasureT-loop
 word16-requires : tie.Need-word16-requires Inv-loop μ-loop
 word16-requires c κs = search needs
 
-free-names-requires : tie.Need-free-names-requires Inv-loop μ-loop
-free-names-requires c κs = search needs
+reading-names-requires : tie.Need-reading-names-requires Inv-loop μ-loop
+reading-names-requires c κs =
+    let s = c .before .before .before in
+    laid-reached (s .args .table .now) (s .args .index .now) (s .pre .0)
 
 loop-holds : tie.Need-loop-holds Inv-loop μ-loop
 loop-holds c = let a = c .before .before .before .before .args in range-whole (nodeSums (a .table .now)) (sumsOf (a .t)) (nodes (a .table .now))
@@ -35,7 +38,7 @@ node-requires c κs =
     let l = c .before .loop in
     let u : l .n < nodes w = omega (arith, c .before .before .before .word16 .ensures .is, c .loop-test .taken) in (
       s .pre .0,
-      c .before .before .free-names .ensures .0,
+      c .before .before .reading-names .ensures .0,
       u,
       range-few (nodeSums w) (node-grows w) (over (nodeSums w) (sumsOf (a .t)) (range (nodes w))) (sumsOf (l .q)) (l .n) (nodes w) (l .inv) u (s .pre .1),
     )
@@ -69,7 +72,7 @@ of-nodes-spec =
     Inv-loop
     μ-loop
     word16-requires
-    free-names-requires
+    reading-names-requires
     loop-holds
     node-requires
     add-n

@@ -1,290 +1,222 @@
--- `places::count::pair` meets its contract.
-use mathlib.Core.Path.{_≡_, sym, ap}
+-- `places::count::pair` meets its contract: by what it has read of both branches, the sum is one of two.
+use mathlib.Core.Path.{_≡_, refl, sym, ap, _∙_}
 use mathlib.Core.List.{List}
-use Prim.Native.Nat.{ℕ, _+_, _-_, _*_, _≤_}
+use Prim.Native.Nat.{ℕ, _+_, _*_, _≤_}
+use native.Mathlib.Nat.{mul-le-mul}
 use native.Mathlib.Omega.{arith}
-use borrow.Author.Needs.{needs}
-use Rattle.lists.specs.Lists.{pick, word}
-use Rattle.scheme.specs.Words.{publics}
-use Rattle.places.specs.Plan.{privatesAt}
-use Rattle.places.specs.Inner.Plan.{privatesOf}
+use Rattle.scheme.specs.Words.{publics, channel, branchName}
 use Rattle.places.specs.Answers.{Sums, sumsOf}
-use Rattle.places.specs.Inner.Counting.{Few, pairSums}
-use Rattle.places.specs.declared.layout.Reach.{Reach}
-use Rattle.places.proofs.NodeCounts.{Twice, Read, reads, publics-few, privates-few, self-sums, other-sums, bound-few}
-use Rattle.places.proofs.Names.{reach-lists}
-use Rattle.places.proofs.Reaches.{common-lists}
-use Rattle.places.proofs.Plans.{privates-are}
+use Rattle.places.specs.Plan.{reachIn}
+use Rattle.places.specs.Inner.Counting.{boundBit, pairSums}
+use Rattle.places.proofs.NodeCounts.{Twice, Read, reads, privates-few, self-sums, other-sums, bound-few}
 use Rattle.places.proofs.NodeCounts.{first-few, second-few, both-added}
+use borrow.Author.Needs.{needs}
 use Rattle.places.proofs.count.pair.Statement.{statement}
 use Rattle.places.proofs.count.pair.Tie as tie
+use Rattle.places.proofs.count.bound.Reads as bound-reads
+use Rattle.places.proofs.count.privates_of.Reads as privates-of-reads
+use Rattle.places.proofs.count.publics_of.Reads as publics-of-reads
 
 -- ---- what is read of the send and the receive
 
 abbrev Place : Type 0
-Place = tie.After-private-count
+Place = tie.After-privates-of
+
+abbrev start : (c : Place) → tie.Start
+start c = c .before .before .before .before .before .before .before
 
 abbrev table : Place → List ℕ
-table c = c .before .before .before .before .before .before .before .before .before .before .before .before .args .table .now
+table c = start c .args .table .now
 
--- N, as a word of the plan
-abbrev private-word : Place → ℕ
-private-word c = word (c .before .before .before .before .before .before .before .before .before .before .before .before .args .index .now) privatesAt
-
-found : (c : Place) → private-word c ≡ privatesOf (table c)
-found c =
-    let c12 = c .before .before .before .before .before .before .before .before .before .before .before .before in
-    privates-are (table c) (c12 .args .index .now) (c12 .pre .0)
+abbrev index : Place → List ℕ
+index c = start c .args .index .now
 
 abbrev send : Place → ℕ
-send c = c .before .before .before .before .before .before .before .before .before .before .before .before .args .send
+send c = start c .args .s .branch
 
 abbrev receive : Place → ℕ
-receive c = c .before .before .before .before .before .before .before .before .before .before .before .before .args .receive
+receive c = start c .args .r .branch
 
 abbrev so-far : Place → Sums
-so-far c = sumsOf (c .before .before .before .before .before .before .before .before .before .before .before .before .args .t)
+so-far c = sumsOf (start c .args .t)
 
 abbrev whole : Place → Sums
 whole c = pairSums (table c) (send c) (so-far c) (receive c)
 
-fits : (c : Place) → Few (whole c)
-fits c = c .before .before .before .before .before .before .before .before .before .before .before .before .pre .1
-
 -- the send's channel and name, the receive's channel
 abbrev a : Place → ℕ
-a c = c .before .before .before .before .before .before .before .before .before .field4 .result
+a c = channel (table c) (send c)
 
 abbrev z : Place → ℕ
-z c = c .before .before .before .before .before .before .before .before .field42 .result
+z c = branchName (table c) (send c)
 
 abbrev e : Place → ℕ
-e c = c .before .before .before .before .before .before .before .field43 .result
+e c = channel (table c) (receive c)
 
 -- the common values: public and private ones
-abbrev shared : Place → Reach
-shared c = c .before .before .before .before .common .result
-
 abbrev public : Place → ℕ
-public c = shared c .high - shared c .low
+public c = c .before .publics-of .result
 
 abbrev private : Place → ℕ
-private c = c .private-count .result
+private c = c .privates-of .result
 
--- 1 for each channel that is bound
+-- 1 for each channel that is bound, and for a bound name that is sent
 abbrev ba : Place → ℕ
-ba c = c .before .before .before .bound .result
+ba c = start c .args .s .channels
 
 abbrev be : Place → ℕ
-be c = c .before .before .bound2 .result
+be c = c .before .before .before .bound .result
 
-read : (c : Place) → Read (table c) (send c) (receive c) (a c) (z c) (e c) (shared c) (ba c) (be c) (private c)
+abbrev bz : Place → ℕ
+bz c = start c .args .s .names
+
+read : (c : Place) → Read (table c) (send c) (receive c) (a c) (z c) (e c) (start c .args .i) (ba c) (be c) (public c) (private c)
 read c =
-    let c6 = c .before .before .before .before .before .before in
-    let c7 = c6 .before in
-    let c8 = c7 .before in
-    let c9 = c8 .before in
-    let c5 = c .before .before .before .before .before in
-    reads (table c) (private-word c) (send c) (receive c) (a c) (z c) (e c) (c6 .reach-of .result) (c5 .reach-of2 .result) (shared c) (ba c) (be c) (private c)
-    (c .before .before .before .before .before .before .before .before .before .before .before .before .pre .0 .accepted) (found c)
-    (c9 .field4 .ensures .is) (c8 .field42 .ensures .is) (c7 .field43 .ensures .is) (c6 .reach-of .ensures) (c5 .reach-of2 .ensures)
-    (c .before .before .before .before .common .ensures) (c .before .before .before .bound .ensures) (c .before .before .bound2 .ensures)
-    (c .private-count .ensures)
+    let p = start c .pre in
+    reads (table c) (index c) (p .0) (send c) (receive c) (a c) (z c) (e c) (reachIn (index c) (a c)) (reachIn (index c) (e c)) (start c .args .i)
+    (ba c) (be c) (public c) (private c) refl refl refl refl refl (p .3) (p .1 .channels-are)
+    (c .before .before .before .bound .ensures ∙ ap (boundBit (table c)) (p .2)) (c .before .publics-of .ensures .0) (c .privates-of .ensures)
 
-channels-few : (c : tie.After-bound2) → c .before .bound .result + c .bound2 .result ≤ 2
-channels-few c =
-    let c1 = c .before in
-    let c5 = c1 .before .before .before .before in
-    let c7 = c5 .before .before in
-    let p = publics (c7 .before .before .before .args .table .now) in
-    omega (
-      arith,
-      bound-few (c1 .bound .result) (c7 .field4 .result) p (c1 .bound .ensures),
-      bound-few (c .bound2 .result) (c5 .field43 .result) p (c .bound2 .ensures),
-    )
+channel-few : (c : tie.After-struct-known2) → c .before .before .before .before .before .args .s .channels ≤ 1
+channel-few c =
+    let s = c .before .before .before .before .before in
+    bound-few (s .args .s .channels) (channel (s .args .table .now) (s .args .s .branch)) (publics (s .args .table .now)) (s .pre .1 .channels-are)
+
+heard-few : (c : tie.After-struct-known2) → c .before .bound .result ≤ 1
+heard-few c =
+    let s = c .before .before .before .before .before in
+    bound-few (c .before .bound .result) (s .args .r .channel) (publics (s .args .table .now)) (c .before .bound .ensures)
 
 few : (c : Place) → ba c + be c ≤ 2
-few c = channels-few (c .before .before)
+few c = omega (arith, channel-few (c .before .before), heard-few (c .before .before))
 
-all-few : (c : Place) → public c + private c ≤ 64
+three-few : (c : Place) → ba c + be c + bz c ≤ 3
+three-few c = omega (arith, few c, bound-few (bz c) (z c) (publics (table c)) (start c .pre .1 .names-are))
+
+all-few : (c : Place) → public c + private c ≤ 96
 all-few c =
     omega (
       arith,
-      publics-few (table c) (send c) (receive c) (a c) (z c) (e c) (shared c) (ba c) (be c) (private c) (read c),
-      privates-few (table c) (send c) (receive c) (a c) (z c) (e c) (shared c) (ba c) (be c) (private c) (read c),
+      c .before .publics-of .ensures .1,
+      privates-few (table c) (send c) (receive c) (a c) (z c) (e c) (start c .args .i) (ba c) (be c) (public c) (private c) (read c),
     )
+
+named : (c : Place) → start c .args .s .name ≡ z c
+named c = start c .pre .1 .name-is
+
+channelled : (c : Place) → start c .args .s .channel ≡ a c
+channelled c = start c .pre .1 .channel-is
 
 -- ---- the sum, where both names are one
 
 abbrev Self : Place → Type 0
 Self c = Twice (so-far c) (whole c) (public c) (ba c + be c + 2) (ba c + be c + 3) (private c) (ba c + be c + 3) (ba c + be c + 3)
 
-self : (c : tie.Then1) → Self (c .before)
+self : (c : tie.Then1) → Self (c .before .before)
 self c =
-    let q = c .before in
-    self-sums (table q) (send q) (receive q) (a q) (z q) (e q) (shared q) (ba q) (be q) (private q) (read q) (so-far q) (c .if1 .taken)
-
--- ---- and where they differ: bz is 1 for a bound name, y its values
-
-three-few : (c : tie.After-bound3) → ba (c .before .before) + be (c .before .before) + c .bound3 .result ≤ 3
-three-few c =
     let q = c .before .before in
-    omega (arith, few q, bound-few (c .bound3 .result) (z q) (publics (table q)) (c .bound3 .ensures))
+    self-sums (table q) (send q) (receive q) (a q) (z q) (e q) (start q .args .i) (ba q) (be q) (public q) (private q) (read q) (so-far q)
+    (sym (named q) ∙ c .if1 .taken ∙ channelled q)
 
-abbrev Other : Place → ℕ → Reach → Type 0
-Other c bz y =
-    Twice (so-far c) (whole c) ((public c + private c) * (y .high - y .low)) (ba c + be c + bz + 2) (ba c + be c + bz + 3)
-    ((public c + private c) * pick (y .privates) (private-word c) 0) (ba c + be c + bz + 3) (ba c + be c + bz + 3)
+-- ---- and where they differ
 
-other : (c : tie.After-reach-of3) → Other (c .before .before .before) (c .before .bound3 .result) (c .reach-of3 .result)
+abbrev Other : Place → Type 0
+Other c =
+    let s = start c .args .s in
+    Twice (so-far c) (whole c) ((public c + private c) * s .publics) (ba c + be c + bz c + 2) (ba c + be c + bz c + 3)
+    ((public c + private c) * s .privates) (ba c + be c + bz c + 3) (ba c + be c + bz c + 3)
+
+other : (c : tie.Else1) → Other (c .before .before)
 other c =
-    let q = c .before .before .before in
-    let y = c .reach-of3 in
-    let b = c .before .bound3 in
-    other-sums (table q) (send q) (receive q) (a q) (z q) (e q) (shared q) (ba q) (be q) (private q) (read q) (so-far q) (y .result) (b .result)
-    (pick (y .result .privates) (private-word q) 0) (c .before .before .if1 .left) (rw (y .ensures) (reach-lists (table q) (z q))) (b .ensures)
-    (ap (λ (n : ℕ). pick (y .result .privates) n 0) (found q))
+    let q = c .before .before in
+    let s = start q .args .s in
+    let p = start q .pre .1 in
+    other-sums (table q) (send q) (receive q) (a q) (z q) (e q) (start q .args .i) (ba q) (be q) (public q) (private q) (read q) (so-far q)
+    (bz q) (s .publics) (s .privates) (λ k. c .if1 .left (named q ∙ k ∙ sym (channelled q))) (p .names-are) (p .publics-are) (p .privates-are)
 
--- ---- the needs
-
-field4-requires : tie.Need-field4-requires
-field4-requires c κs = search needs
-
-field4-requires-2 : tie.Need-field4-requires-2
-field4-requires-2 c κs = search needs
-
-field4-requires-3 : tie.Need-field4-requires-3
-field4-requires-3 c κs = search needs
-
-reach-of-requires : tie.Need-reach-of-requires
-reach-of-requires c κs = search needs
-
-reach-of-requires-2 : tie.Need-reach-of-requires-2
-reach-of-requires-2 c κs = search needs
-
-common-requires : tie.Need-common-requires
-common-requires c κs = search needs
+cast-bound : tie.Need-cast-bound
+cast-bound c = search needs
 
 bound-requires : tie.Need-bound-requires
 bound-requires c κs = search needs
 
-bound-requires-2 : tie.Need-bound-requires-2
-bound-requires-2 c κs = search needs
-
 add-channels : tie.Need-add-channels
-add-channels c = omega (arith, channels-few c)
+add-channels c = omega (arith, channel-few c, heard-few c)
 
-sub-publics : tie.Need-sub-publics
-sub-publics c =
-    let c3 = c .before .before .before in
-    let c4 = c3 .before in
-    let c5 = c4 .before in
-    let c6 = c5 .before in
-    let c8 = c6 .before .before in
-    let c11 = c8 .before .before .before in
-    let w = c11 .args .table .now in
-    rw (c3 .common .ensures, c4 .reach-of2 .ensures, c5 .reach-of .ensures) (common-lists w (c8 .field4 .result) (c6 .field43 .result) .order)
+publics-of-requires : tie.Need-publics-of-requires
+publics-of-requires c κs = search needs
 
-private-count-requires : tie.Need-private-count-requires
-private-count-requires c κs = search needs
+privates-of-requires : tie.Need-privates-of-requires
+privates-of-requires c κs = search needs
 
 add-more : tie.Need-add-more
-add-more c = omega (arith, few (c .before))
+add-more c = omega (arith, few (c .before .before))
 
 add-more-2 : tie.Need-add-more-2
-add-more-2 c = omega (arith, few (c .before))
+add-more-2 c = omega (arith, few (c .before .before))
 
 more-requires : tie.Need-more-requires
-more-requires c κs = first-few (self c) (fits (c .before))
+more-requires c κs = first-few (self c) (start (c .before .before) .pre .4)
 
 add-more-3 : tie.Need-add-more-3
-add-more-3 c = omega (arith, few (c .before .before))
+add-more-3 c = omega (arith, few (c .before .before .before))
 
 add-more-4 : tie.Need-add-more-4
-add-more-4 c = omega (arith, few (c .before .before))
+add-more-4 c = omega (arith, few (c .before .before .before))
 
 more-requires-2 : tie.Need-more-requires-2
-more-requires-2 c κs = second-few (self (c .before)) (sumsOf (c .more .result)) (c .more .ensures) (fits (c .before .before))
+more-requires-2 c κs = second-few (self (c .before)) _ (c .more .ensures) (start (c .before .before .before) .pre .4)
 
 returns : tie.Need-returns
-returns c =
-    let m = c .before .more in
-    both-added (self (c .before .before)) (sumsOf (m .result)) (sumsOf (c .more2 .result)) (m .ensures) (c .more2 .ensures)
-
-bound-requires-3 : tie.Need-bound-requires-3
-bound-requires-3 c κs = search needs
+returns c = both-added (self (c .before .before)) _ _ (c .before .more .ensures) (c .more2 .ensures)
 
 add-arcs : tie.Need-add-arcs
-add-arcs c = omega (arith, three-few c)
-
-reach-of-requires-3 : tie.Need-reach-of-requires-3
-reach-of-requires-3 c κs = search needs
+add-arcs c = omega (arith, three-few (c .before .before .before))
 
 add-all : tie.Need-add-all
 add-all c = omega (arith, all-few (c .before .before .before))
 
-sub-more : tie.Need-sub-more
-sub-more c =
-    let c12 = c .before .before .before .before .before .before .before .before .before .before .before .before in
-    let c16 = c12 .before .before .before .before in
-    rw (c .before .reach-of3 .ensures) (reach-lists (c16 .args .table .now) (c12 .field42 .result) .order)
-
 mul-more : tie.Need-mul-more
 mul-more c =
-    let f = first-few (other (c .before)) (fits (c .before .before .before .before)) in
-    omega (arith, f .few-transitions)
+    let q = c .before .before .before .before in
+    omega (arith, mul-le-mul (all-few q) (start q .pre .1 .few-publics))
 
 add-more-5 : tie.Need-add-more-5
-add-more-5 c = omega (arith, three-few (c .before .before))
+add-more-5 c = omega (arith, three-few (c .before .before .before .before))
 
 add-more-6 : tie.Need-add-more-6
-add-more-6 c = omega (arith, three-few (c .before .before))
+add-more-6 c = omega (arith, three-few (c .before .before .before .before))
 
 more-requires-3 : tie.Need-more-requires-3
-more-requires-3 c κs = first-few (other (c .before)) (fits (c .before .before .before .before))
-
-private-count-requires-2 : tie.Need-private-count-requires-2
-private-count-requires-2 c κs = search needs
+more-requires-3 c κs = first-few (other (c .before .before)) (start (c .before .before .before .before) .pre .4)
 
 mul-more-2 : tie.Need-mul-more-2
 mul-more-2 c =
-    let m = c .before .more3 in
-    let f = second-few (other (c .before .before .before)) (sumsOf (m .result)) (m .ensures) (fits (c .before .before .before .before .before .before)) in
-    rw (c .private-count2 .ensures) (omega (arith, f .few-transitions))
+    let q = c .before .before .before .before .before .before in
+    omega (arith, mul-le-mul (all-few q) (start q .pre .1 .few-privates))
 
 add-more-7 : tie.Need-add-more-7
-add-more-7 c = omega (arith, three-few (c .before .before .before .before))
+add-more-7 c = omega (arith, three-few (c .before .before .before .before .before .before))
 
 add-more-8 : tie.Need-add-more-8
-add-more-8 c = omega (arith, three-few (c .before .before .before .before))
+add-more-8 c = omega (arith, three-few (c .before .before .before .before .before .before))
 
 more-requires-4 : tie.Need-more-requires-4
 more-requires-4 c κs =
-    let m = c .before .more3 in
-    let q = c .before .before .before in
-    rw (c .private-count2 .ensures) (second-few (other q) (sumsOf (m .result)) (m .ensures) (fits (q .before .before .before)))
+    second-few (other (c .before .before .before .before)) _ (c .before .more3 .ensures) (start (c .before .before .before .before .before .before) .pre .4)
 
 returns-2 : tie.Need-returns-2
-returns-2 c =
-    let m = c .before .before .more3 in
-    both-added (other (c .before .before .before .before)) (sumsOf (m .result)) (sumsOf (c .more4 .result)) (m .ensures)
-    (rw (sym (c .before .private-count2 .ensures)) (c .more4 .ensures))
+returns-2 c = both-added (other (c .before .before .before .before .before)) _ _ (c .before .before .more3 .ensures) (c .more4 .ensures)
 
 pub pair-spec : {M : Type 1} → statement M
 pair-spec =
     tie.close
     (tie.spec
-    field4-requires
-    field4-requires-2
-    field4-requires-3
-    reach-of-requires
-    reach-of-requires-2
-    common-requires
+    cast-bound
     bound-requires
-    bound-requires-2
     add-channels
-    sub-publics
-    private-count-requires
+    publics-of-requires
+    privates-of-requires
     add-more
     add-more-2
     more-requires
@@ -292,16 +224,12 @@ pair-spec =
     add-more-4
     more-requires-2
     returns
-    bound-requires-3
     add-arcs
-    reach-of-requires-3
     add-all
-    sub-more
     mul-more
     add-more-5
     add-more-6
     more-requires-3
-    private-count-requires-2
     mul-more-2
     add-more-7
     add-more-8

@@ -1,108 +1,125 @@
--- `places::count::partners` meets its contract. Loop: the branches left are still to be counted. Measure: branches left.
-use mathlib.Core.Logic.{⊎-elim}
-use mathlib.Core.Path.{_≡_, sym, ap, subst, _∙_}
-use Prim.Native.Nat.{_-_, _<_}
+-- `places::count::partners` meets its contract. Loop: the receives left are still to be counted. Measure: the set left.
+use mathlib.Core.Path.{_≡_, refl, sym, ap, _∙_}
 use native.Mathlib.Omega.{arith}
 use borrow.Author.Needs.{needs}
-use Rattle.lists.specs.Lists.{from, range}
-use Rattle.scheme.specs.Words.{branches}
-use Rattle.scheme.specs.Owners.{branchThread}
-use Rattle.places.specs.Answers.{sumsOf}
-use Rattle.places.specs.Inner.Counting.{Few, over, partnerSums}
-use Rattle.places.proofs.Adding.{partner-grows, range-whole, range-few, range-on, range-done}
-use Rattle.places.proofs.NodeCounts.{partner-yes, partner-own, partner-no}
-use Rattle.places.proofs.Plans.{branch-thread-is}
+use lib.Bits.{bitAnd}
+use lib.Count.{trailingZeros}
+use lib.ListN.{length}
+use Prim.Native.Nat.{_-_, _<_}
+use Rattle.places.specs.Answers.{Sums, sumsOf}
+use Rattle.places.specs.Sides.{receivesOf}
+use Rattle.places.specs.Inner.Counting.{setSums}
+use Rattle.places.specs.declared.count.Side.{Side}
+use Rattle.places.specs.declared.reach.Reach.{Reach}
+use Rattle.places.proofs.Bits.{bit-below}
+use Rattle.places.proofs.Hearing.{set-done, set-next, set-first}
+use Rattle.places.proofs.Scanning.{Left, left-start, left-next, left-in, lower, lowest-small}
 use Rattle.places.proofs.count.partners.Statement.{statement}
 use Rattle.places.proofs.count.partners.Tie as tie
 
 abbrev Inv-loop : tie.InvT-loop
-Inv-loop table index send count own q₀ r₀ q r =
-    over (partnerSums table send) (sumsOf q₀) (range (branches table)) ≡ over (partnerSums table send) (sumsOf q) (from r (branches table - r))
+Inv-loop table index send set pairs s q₀ left₀ q left =
+    (setSums table send (sumsOf q₀) set ≡ setSums table send (sumsOf q) left) × Left set left
 
 abbrev μ-loop : tie.MeasureT-loop
-μ-loop table index send count own q₀ r₀ q r = count - r
+μ-loop table index send set pairs s q₀ left₀ q left = left
 
--- the send's thread
-own-is : (c : tie.After-branch-thread Inv-loop μ-loop)
-    → let c4 = c .before .before .before .before in
-    c .branch-thread .result ≡ branchThread (c4 .args .table .now) (c4 .args .send)
-own-is c =
-    let c4 = c .before .before .before .before in
-    c .branch-thread .ensures .is ∙ branch-thread-is (c4 .args .table .now) (c4 .args .index .now) (c4 .pre .0) (c4 .args .send)
-
-word16-requires : tie.Need-word16-requires Inv-loop μ-loop
-word16-requires c κs = search needs
-
-branch-thread-requires : tie.Need-branch-thread-requires Inv-loop μ-loop
-branch-thread-requires c κs = search needs
+sender-requires : tie.Need-sender-requires Inv-loop μ-loop
+sender-requires c κs = c .before .before .before .pre .0
 
 loop-holds : tie.Need-loop-holds Inv-loop μ-loop
-loop-holds c = let a = c .before .before .before .before .args in range-whole (partnerSums (a .table .now) (a .send)) (sumsOf (a .t)) (branches (a .table .now))
+loop-holds c =
+    let s = c .before .before .before .before in
+    (refl, left-start (s .args .set) (omega (arith, s .fits)))
 
-field4-requires : tie.Need-field4-requires Inv-loop μ-loop
-field4-requires c κs = search needs
+cast-receive-at : tie.Need-cast-receive-at Inv-loop μ-loop
+cast-receive-at c = let l = c .before .loop in omega (arith, lowest-small (l .left) (c .loop-test .taken) (l .inv .1 .1))
 
-branch-thread-requires-2 : tie.Need-branch-thread-requires-2 Inv-loop μ-loop
-branch-thread-requires-2 c κs = search needs
+receive-at-requires : tie.Need-receive-at-requires Inv-loop μ-loop
+receive-at-requires c κs = search needs
+
+cast-reach-of : tie.Need-cast-reach-of Inv-loop μ-loop
+cast-reach-of c = search needs
+
+reach-of-requires : tie.Need-reach-of-requires Inv-loop μ-loop
+reach-of-requires c κs = search needs
+
+common-requires : tie.Need-common-requires Inv-loop μ-loop
+common-requires c κs = search needs
 
 pair-requires : tie.Need-pair-requires Inv-loop μ-loop
 pair-requires c κs =
-    let c2 = c .before .before in
-    let c3 = c2 .before in
+    let c1 = c .before in
+    let c3 = c1 .before .before in
     let c4 = c3 .before in
     let c5 = c4 .before in
     let c6 = c5 .before in
-    let c7 = c6 .before in
-    let c10 = c7 .before .before .before in
-    let s = c10 in
+    let s = c6 .before .before .before .before in
     let a = s .args in
     let w = a .table .now in
     let l = c5 .loop in
-    let u : l .r < branches w = omega (arith, c7 .word16 .ensures .is, c4 .loop-test .taken) in
-    let e = sym (c3 .field4 .ensures .is) ∙ c2 .if1 .taken in
-    let t = c .before .branch-thread2 .ensures .is ∙ branch-thread-is w (a .index .now) (s .pre .0) (l .r) in
-    let d : branchThread w (l .r) ≡ branchThread w (a .send) → ⊥ = λ q. c .if2 .taken (t ∙ q ∙ sym (own-is c6)) in (
+    let d = c4 .loop-test .taken in
+    let i = trailingZeros 64 (l .left) in
+    let h : i < length (receivesOf w) = bit-below (length (receivesOf w)) (a .set) i (s .pre .2) (left-in (a .set) (l .left) d (l .inv .1)) in
+    let k = c6 .sender .ensures in
+    let b : c6 .sender .result .branch ≡ a .send = k .branch-is in
+    let t = c3 .receive-at .ensures ∙ s .pre .1 .sides-are i h in
+    let y = ap (λ (v : Side). v .branch) t in
+    let e = ap (λ (v : Side). v .channel) t in
+    let v = k .values-are in
+    rw (b, y) (
       s .pre .0,
-      subst Few (partner-yes w (a .send) (sumsOf (l .q)) (l .r) e d)
-          (range-few (partnerSums w (a .send)) (partner-grows w (a .send)) (over (partnerSums w (a .send)) (sumsOf (a .t)) (range (branches w)))
-          (sumsOf (l .q)) (l .r) (branches w) (l .inv) u (s .pre .1)),
+      record {
+        branch-is = refl;
+        thread-is = k .thread-is;
+        channel-is = k .channel-is;
+        name-is = k .name-is;
+        values-are = rw (ap (λ (r : Reach). r .publics) v, ap (λ (r : Reach). r .restricted) v);
+        channels-are = k .channels-are;
+        names-are = k .names-are;
+        publics-are = k .publics-are;
+        privates-are = k .privates-are;
+        few-publics = k .few-publics;
+        few-privates = k .few-privates;
+      },
+      e,
+      c .common .ensures ∙ rw (k .values-are, c1 .reach-of .ensures, e),
+      set-first w (a .send) (sumsOf (a .t)) (sumsOf (l .q)) (a .set) (l .left) d (l .inv .1 .1) (l .inv .0) (s .pre .3),
     )
 
-add-r : tie.Need-add-r Inv-loop μ-loop
-add-r c = omega (arith, c .before .before .before .before .before .word16 .ensures .small)
+sub-left : tie.Need-sub-left Inv-loop μ-loop
+sub-left c = omega (arith, c .before .before .before .before .before .loop-test .taken)
 
 loop-less : tie.Need-loop-less Inv-loop μ-loop
-loop-less c = omega arith
+loop-less c =
+    let c5 = c .before .before .before .before .before in
+    lower (c5 .before .loop .left) (c5 .loop-test .taken)
 
 loop-again : tie.Need-loop-again Inv-loop μ-loop
 loop-again c =
-    let s = c .before .before .before .before .before .before .before .before in
+    let c4 = c .before .before .before .before in
+    let c5 = c4 .before in
+    let c6 = c5 .before in
+    let c7 = c6 .before in
+    let s = c7 .before .before .before .before in
     let a = s .args in
     let w = a .table .now in
-    let l = c .before .before .before .loop in
-    let u : l .r < branches w = omega (arith, c .before .before .before .before .before .word16 .ensures .is, c .before .before .loop-test .taken) in
-    let f = c .before .field4 .ensures .is in
-    let own = own-is (c .before .before .before .before) in
-    let told = branch-thread-is w (a .index .now) (s .pre .0) (l .r) in
-    range-on (partnerSums w (a .send)) (over (partnerSums w (a .send)) (sumsOf (a .t)) (range (branches w))) (sumsOf (l .q)) (sumsOf (c .if1 .q)) (l .r)
-    (branches w) (l .inv) u
-    (⊎-elim
-    (λ v. ap sumsOf (v .4) ∙ v .3 .ensures
-    ∙ sym (partner-yes w (a .send) (sumsOf (l .q)) (l .r) (sym f ∙ v .0 .taken) (λ q. v .2 .taken (v .1 .ensures .is ∙ told ∙ q ∙ sym own))))
-    (λ v. ⊎-elim
-    (λ v. ap sumsOf (v .3) ∙ sym (partner-own w (a .send) (sumsOf (l .q)) (l .r) (sym f ∙ v .0 .taken) (sym (v .1 .ensures .is ∙ told) ∙ v .2 .left ∙ own)))
-    (λ v. ap sumsOf (v .1) ∙ sym (partner-no w (a .send) (sumsOf (l .q)) (l .r) (λ q. v .0 .left (f ∙ q))))
-    v)
-    (c .if1 .came))
+    let l = c6 .loop in
+    let d = c5 .loop-test .taken in
+    let i = trailingZeros 64 (l .left) in
+    let h : i < length (receivesOf w) = bit-below (length (receivesOf w)) (a .set) i (s .pre .2) (left-in (a .set) (l .left) d (l .inv .1)) in
+    let b : c7 .sender .result .branch ≡ a .send = c7 .sender .ensures .branch-is in
+    let y = ap (λ (v : Side). v .branch) (c4 .receive-at .ensures ∙ s .pre .1 .sides-are i h) in (
+      l .inv .0 ∙ set-next w (a .send) (sumsOf (l .q)) (l .left) d (l .inv .1 .1)
+          ∙ ap (λ (t : Sums). setSums w (a .send) t (bitAnd (l .left) (l .left - 1))) (sym (c .pair .ensures ∙ rw (b, y))),
+      left-next (a .set) (l .left) d (l .inv .1),
+    )
 
 returns : tie.Need-returns Inv-loop μ-loop
 returns c =
-    let c3 = c .before .before .before in
-    let c6 = c3 .before .before .before in
-    let a = c6 .args in
-    let w = a .table .now in
     let l = c .before .loop in
-    sym (l .inv ∙ range-done (partnerSums w (a .send)) (sumsOf (l .q)) (l .r) (branches w) (omega (arith, c3 .word16 .ensures .is, c .loop-test .left)))
+    let a = c .before .before .before .before .before .before .args in
+    sym (l .inv .0 ∙ set-done (a .table .now) (a .send) (sumsOf (l .q)) (l .left) (c .loop-test .left))
 
 pub partners-spec : {M : Type 1} → statement M
 partners-spec =
@@ -110,13 +127,15 @@ partners-spec =
     (tie.spec
     Inv-loop
     μ-loop
-    word16-requires
-    branch-thread-requires
+    sender-requires
     loop-holds
-    field4-requires
-    branch-thread-requires-2
+    cast-receive-at
+    receive-at-requires
+    cast-reach-of
+    reach-of-requires
+    common-requires
     pair-requires
-    add-r
+    sub-left
     loop-less
     loop-again
     returns)

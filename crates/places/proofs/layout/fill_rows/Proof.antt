@@ -10,7 +10,7 @@ use Rattle.lists.specs.Lists.{from, range}
 use Rattle.lists.proofs.Stores.{store-more}
 use Rattle.places.specs.Plan.{rowsAt, rowWord, rowWords}
 use Rattle.places.proofs.Controls.{few-privates}
-use Rattle.places.proofs.Plans.{rows-begin, rows-over, row-small, few-names, rest-same}
+use Rattle.places.proofs.Plans.{reached-kept, rows-begin, rows-over, row-small, few-names, rest-same}
 use Rattle.places.proofs.layout.fill_rows.Statement.{statement}
 use Rattle.places.proofs.layout.fill_rows.Tie as tie
 
@@ -54,19 +54,25 @@ store32-requires c κs = search needs
 
 row-length-requires : tie.Need-row-length-requires Inv-loop μ-loop
 row-length-requires c κs =
-    let c4 = c .before .before .before .before in
-    let s = c4 .before .before .before .before .before .before in (
+    let c3 = c .before .before .before in
+    let c5 = c3 .before .before in
+    let c6 = c5 .before in
+    let s = c6 .before .before .before .before .before in
+    let w = s .args .table .now in
+    let l = c6 .loop in (
+      reached-kept w (s .args .index .now) _ (s .pre .0) 960 (map (rowWord w) (range (l .x + 1))) (omega arith)
+          (c3 .store32 .ensures ∙ store-more (rowWord w) (s .args .index .now) 960 (l .x) (l .index) (l .inv .1) (l .at) (l .inv .0)),
       s .pre .1,
-      omega (arith, s .pre .1, few-privates (s .args .table .now) (s .pre .0 .accepted)),
-      omega (arith, c4 .loop-test .taken, names-few (c4 .before)),
+      omega (arith, s .pre .1, few-privates w (s .pre .0 .accepted)),
+      omega (arith, c5 .loop-test .taken, names-few c6),
     )
 
 add-at : tie.Need-add-at Inv-loop μ-loop
 add-at c =
-    let c6 = c .before .before .before .before .before .before in
-    let c11 = c6 .before .before .before .before .before in
-    let l = c6 .loop in
-    omega (arith, l .inv .0, c .row-length .ensures, row-small (c11 .args .table .now) (c11 .pre .0 .accepted) (l .x + 1))
+    let c7 = c .before .before .before .before .before .before .before in
+    let s = c7 .before .before .before .before .before in
+    let l = c7 .loop in
+    omega (arith, l .inv .0, c .row-length .ensures, row-small (s .args .table .now) (s .pre .0 .accepted) (l .x + 1))
 
 add-x : tie.Need-add-x Inv-loop μ-loop
 add-x c = search needs
@@ -76,16 +82,16 @@ loop-less c = omega arith
 
 loop-again : tie.Need-loop-again Inv-loop μ-loop
 loop-again c =
-    let c3 = c .before .before .before in
-    let c5 = c3 .before .before in
-    let c6 = c5 .before in
-    let c11 = c6 .before .before .before .before .before in
-    let w = c11 .args .table .now in
-    let l = c6 .loop in
-    let u = c3 .store32 .ensures in (
+    let c4 = c .before .before .before .before in
+    let c6 = c4 .before .before in
+    let c7 = c6 .before in
+    let s = c7 .before .before .before .before .before in
+    let w = s .args .table .now in
+    let l = c7 .loop in
+    let u = c4 .store32 .ensures in (
       omega (arith, l .inv .0, c .row-length .ensures),
-      u ∙ store-more (rowWord w) (c11 .args .index .now) 832 (l .x) (l .index) (l .inv .1) (l .at) (l .inv .0),
-      omega (arith, c5 .loop-test .taken),
+      u ∙ store-more (rowWord w) (s .args .index .now) 960 (l .x) (l .index) (l .inv .1) (l .at) (l .inv .0),
+      omega (arith, c6 .loop-test .taken),
       rw u (simp length-set (l .inv .3)),
     )
 
@@ -131,10 +137,10 @@ returns c =
     let j = c5 .before .word162 .ensures .is in
     let few = names-few c5 in
     let e : l .x ≡ n = omega (arith, l .inv .2, c .before .before .before .before .loop-test .left) in
-    let q : n + (896 - (832 + n)) ≡ 64 = omega (arith, few) in
+    let q : n + (1024 - (960 + n)) ≡ 64 = omega (arith, few) in
     let o = l .inv .0 ∙ rows-over w h (l .x) (omega (arith, i, j, e)) in (
       o,
-      rest-same (rowWord w) (s .args .index .now) 832 n (896 - (832 + n)) (l .at) (λ y u. rows-over w h y (omega (arith, i, j)) ∙ sym o)
+      rest-same (rowWord w) (s .args .index .now) 960 n (1024 - (960 + n)) (l .at) (λ y u. rows-over w h y (omega (arith, i, j)) ∙ sym o)
           (omega (arith, few, s .pre .2)) (l .index) _ (rw (← e) (l .inv .1)) (c .before .before .repeat .ensures) ∙ rw q,
     )
 

@@ -1,85 +1,134 @@
 -- `places::layout::lay_out` meets its contract: each part is put behind those that stand.
 use mathlib.Core.Path.{_≡_, ap, _∙_}
-use mathlib.Core.List.{List}
+use mathlib.Core.List.{List, _++_}
 use Prim.Native.Nat.{ℕ, _+_, _*_, _≤_}
 use native.Mathlib.Omega.{arith}
 use lib.ListN.{length, set}
 use lib.Seq.{length-sets}
 use Rattle.scheme.specs.Words.{nodes}
 use Rattle.scheme.specs.Scheme.{scheme}
-use Rattle.places.specs.Plan.{rowWords}
+use Rattle.places.specs.Plan.{rowWords, nodeWords, planWords}
 use Rattle.places.specs.Inner.Arcs.{initialNumbers}
-use Rattle.places.specs.Inner.Plan.{today, privatesOf, freeNames}
+use Rattle.places.specs.Inner.Plan.{today, privatesOf, readNames}
 use Rattle.places.proofs.Controls.{control-begins, control-few, free-few}
 use Rattle.places.proofs.Tokens.{tokens-are, tokens-few, product-few}
-use Rattle.places.proofs.Plans.{known-kept, laid-out}
+use Rattle.places.proofs.Plans.{reached-here, reached-size, reached-rest, reached-kept, laid-out}
 use borrow.Author.Needs.{needs}
 use Rattle.places.proofs.layout.lay_out.Statement.{statement}
 use Rattle.places.proofs.layout.lay_out.Tie as tie
 
 -- the product that the tokens are counted by
-product : (c : tie.After-free-names)
-    → let c9 = c .before .before .before .before .before .before .before .before .before in
-    c .free-names .result * c9 .private-values .result ≤ 1024
+product : (c : tie.After-reading-names)
+    → let c15 = c .before .before .before .before .before .before .before .before .before .before .before .before .before .before .before in
+    c .reading-names .result * c15 .private-values .result ≤ 1024
 product c =
-    let c9 = c .before .before .before .before .before .before .before .before .before in
-    let c13 = c9 .before .before .before .before in
-    let s = c13 in
-    product-few (s .args .table .now) (s .pre .0 .accepted) (c .free-names .result) (c9 .private-values .result) (c .free-names .ensures .1)
-    (c9 .private-values .ensures .1)
+    let c15 = c .before .before .before .before .before .before .before .before .before .before .before .before .before .before .before in
+    let s = c15 .before .before .before .before .before .before .before .before .before in
+    let n = c15 .private-values in
+    product-few (s .args .table .now) (s .pre .0 .accepted) (c .reading-names .result) (n .result) (c .reading-names .ensures .1) (n .ensures .1)
 
 counted : (c : tie.After-word16)
-    → let c10 = c .before .before .before .before .before .before .before .before .before .before in
-    let c14 = c10 .before .before .before .before in
-    c .before .free-names .result * c10 .private-values .result + c10 .private-values .result + c .word16 .result
-    ≡ length (initialNumbers (scheme (c14 .args .table .now)) (today (c14 .args .table .now)))
+    → let c16 = c .before .before .before .before .before .before .before .before .before .before .before .before .before .before .before .before in
+    let n = c16 .private-values .result in
+    let w = c16 .before .before .before .before .before .before .before .before .before .args .table .now in
+    c .before .reading-names .result * n + n + c .word16 .result ≡ length (initialNumbers (scheme w) (today w))
 counted c =
-    let s = c .before .before .before .before .before .before .before .before .before .before .before .before .before .before in
+    let c16 = c .before .before .before .before .before .before .before .before .before .before .before .before .before .before .before .before in
+    let s = c16 .before .before .before .before .before .before .before .before .before in
+    let f = c .before .reading-names in
+    let n = c16 .private-values in
     let w = s .args .table .now in
-    let f = c .before .free-names in
-    let n = c .before .before .before .before .before .before .before .before .before .before .private-values in
-    let t : f .result * n .result ≡ freeNames w * privatesOf w = rw (f .ensures .0, n .ensures .0) in
+    let t : f .result * n .result ≡ readNames w * privatesOf w = rw (f .ensures .0, n .ensures .0) in
     omega (arith, t, n .ensures .0, c .word16 .ensures .is, tokens-are w (s .pre .0 .accepted))
 
+slice-aggregate-hold-all : tie.Need-slice-aggregate-hold-all
+slice-aggregate-hold-all c = search needs
+
+hold-all-requires : tie.Need-hold-all-requires
+hold-all-requires c κs = search needs
+
+slice-aggregate-private-values : tie.Need-slice-aggregate-private-values
+slice-aggregate-private-values c = search needs
+
 private-values-requires : tie.Need-private-values-requires
-private-values-requires c κs = search needs
+private-values-requires c κs =
+    let c3 = c .before .before .before in
+    let c8 = c3 .before .before .before .before .before in
+    (c8 .pre .0, c3 .hold-all .ensures)
+
+fill-reaches-requires : tie.Need-fill-reaches-requires
+fill-reaches-requires c κs = search needs
 
 fill-rows-requires : tie.Need-fill-rows-requires
-fill-rows-requires c κs = search needs
+fill-rows-requires c κs =
+    let c3 = c .before .before .before in
+    let c5 = c3 .before .before in
+    let s = c5 .before .before .before .before .before .before .before .before .before in
+    let w = s .args .table .now in
+    let x = s .args .index .now in
+    let e = c3 .fill-reaches .ensures in (
+      reached-here w x (s .pre .0) (s .pre .1) _ e,
+      c5 .private-values .ensures .0,
+      omega (arith, reached-size w x (s .pre .0) (s .pre .1) _ e, s .pre .1),
+    )
+
+slice-aggregate-fill-nodes : tie.Need-slice-aggregate-fill-nodes
+slice-aggregate-fill-nodes c = search needs
 
 add-fill-nodes : tie.Need-add-fill-nodes
 add-fill-nodes c =
-    let c2 = c .before .before in
-    let c4 = c2 .before .before in
-    let c8 = c4 .before .before .before .before in
-    let s = c8 in omega (arith, c2 .fill-rows .ensures .0, free-few (s .args .table .now) (s .pre .0 .accepted), c4 .private-values .ensures .1)
+    let c3 = c .before .before .before in
+    let c9 = c3 .before .before .before .before .before .before in
+    let s = c9 .before .before .before .before .before .before .before .before .before in
+    omega (arith, c3 .fill-rows .ensures .0, free-few (s .args .table .now) (s .pre .0 .accepted), c9 .private-values .ensures .1)
 
 fill-nodes-requires : tie.Need-fill-nodes-requires
 fill-nodes-requires c κs =
-    let s = c .before .before .before .before .before .before .before .before .before in
+    let c4 = c .before .before .before .before in
+    let c8 = c4 .before .before .before .before in
+    let c10 = c8 .before .before in
+    let c14 = c10 .before .before .before .before in
+    let s = c14 .before .before .before .before .before in
     let w = s .args .table .now in
-    let r = c .before .before .before .fill-rows .ensures in (
-      known-kept w (s .args .index .now) _ (s .pre .0) 832 (rowWords w) (omega arith) (r .1),
-      omega (arith, r .0, c .before .before .before .before .before .private-values .ensures .0, control-begins w),
-      rw (r .1) (omega (arith, length-sets (s .args .index .now) 832 (rowWords w), s .pre .1)),
+    let r = c4 .fill-rows .ensures in
+    let e = c8 .fill-reaches in (
+      s .pre .0 .accepted,
+      c14 .hold-all .ensures,
+      omega (arith, r .0, c10 .private-values .ensures .0, control-begins w),
+      rw (r .1) (omega (
+        arith,
+        length-sets (e .last .1 .0) 960 (rowWords w),
+        reached-size w (s .args .index .now) (s .pre .0) (s .pre .1) _ (e .ensures),
+        s .pre .1,
+      )),
     )
 
-free-names-requires : tie.Need-free-names-requires
-free-names-requires c κs = search needs
+reading-names-requires : tie.Need-reading-names-requires
+reading-names-requires c κs =
+    let c3 = c .before .before .before in
+    let c8 = c3 .before .before .before .before .before in
+    let c12 = c8 .before .before .before .before in
+    let s = c12 .before .before .before .before .before .before .before .before .before .before .before in
+    let w = s .args .table .now in
+    let K = reached-here w (s .args .index .now) (s .pre .0) (s .pre .1) _ (c12 .fill-reaches .ensures) in
+    reached-kept w _ _ (reached-kept w _ _ K 960 (rowWords w) (omega arith) (c8 .fill-rows .ensures .1)) 1024 (nodeWords w) (omega arith)
+    (c3 .fill-nodes .ensures .1)
 
 mul-tokens : tie.Need-mul-tokens
 mul-tokens c = omega (arith, product c)
 
 add-tokens : tie.Need-add-tokens
-add-tokens c = omega (arith, product c, c .before .before .before .before .before .before .before .before .before .private-values .ensures .1)
+add-tokens c =
+    let c15 = c .before .before .before .before .before .before .before .before .before .before .before .before .before .before .before in
+    omega (arith, product c, c15 .private-values .ensures .1)
 
 word16-requires : tie.Need-word16-requires
 word16-requires c κs = search needs
 
 add-tokens-2 : tie.Need-add-tokens-2
 add-tokens-2 c =
-    let c10 = c .before .before .before .before .before .before .before .before .before .before in
-    omega (arith, product (c .before), c10 .private-values .ensures .1, c .word16 .ensures .small)
+    let c16 = c .before .before .before .before .before .before .before .before .before .before .before .before .before .before .before .before in
+    omega (arith, product (c .before), c16 .private-values .ensures .1, c .word16 .ensures .small)
 
 cast-store32 : tie.Need-cast-store32
 cast-store32 c = search needs
@@ -89,20 +138,19 @@ store32-requires c κs = search needs
 
 cast-store32-2 : tie.Need-cast-store32-2
 cast-store32-2 c =
-    let c13 = c .before .before .before .before .before .before .before .before .before .before .before .before .before in
-    let c19 = c13 .before .before .before .before .before .before in
-    let s = c19 in omega (arith, c13 .fill-rows .ensures .0, free-few (s .args .table .now) (s .pre .0 .accepted))
+    let c15 = c .before .before .before .before .before .before .before .before .before .before .before .before .before .before .before in
+    let s = c15 .before .before .before .before .before .before .before .before .before .before .before .before .before .before .before in
+    omega (arith, c15 .fill-rows .ensures .0, free-few (s .args .table .now) (s .pre .0 .accepted))
 
 store32-requires-2 : tie.Need-store32-requires-2
 store32-requires-2 c κs = search needs
 
 cast-store32-3 : tie.Need-cast-store32-3
 cast-store32-3 c =
-    let c13 = c .before .before .before .before .before .before .before .before .before .before .before .before .before in
-    let c23 = c13 .before .before .before .before .before .before .before .before .before .before in
-    let s = c23 in
-    let w = s .args .table .now in
-    omega (arith, c13 .fill-nodes .ensures .0, control-few w (s .pre .0 .accepted) (nodes w) (omega arith))
+    let c14 = c .before .before .before .before .before .before .before .before .before .before .before .before .before .before in
+    let c25 = c14 .before .before .before .before .before .before .before .before .before .before .before in
+    let s = c25 .before .before .before .before .before .before .before .before .before in
+    let w = s .args .table .now in omega (arith, c14 .fill-nodes .ensures .0, control-few w (s .pre .0 .accepted) (nodes w) (omega arith))
 
 store32-requires-3 : tie.Need-store32-requires-3
 store32-requires-3 c κs = search needs
@@ -110,8 +158,9 @@ store32-requires-3 c κs = search needs
 cast-store32-4 : tie.Need-cast-store32-4
 cast-store32-4 c =
     let c13 = c .before .before .before .before .before .before .before .before .before .before .before .before .before in
-    let c27 = c13 .before .before .before .before .before .before .before .before .before .before .before .before .before .before in
-    let s = c27 in omega (arith, counted c13, tokens-few (s .args .table .now) (s .pre .0 .accepted))
+    let c29 = c13 .before .before .before .before .before .before .before .before .before .before .before .before .before .before .before .before in
+    let s = c29 .before .before .before .before .before .before .before .before .before in
+    omega (arith, counted c13, tokens-few (s .args .table .now) (s .pre .0 .accepted))
 
 store32-requires-4 : tie.Need-store32-requires-4
 store32-requires-4 c κs = search needs
@@ -121,37 +170,46 @@ same-length c = search needs
 
 returns : tie.Need-returns
 returns c =
-    let c2 = c .before .before in
-    let c6 = c2 .before .before .before .before in
+    let c6 = c .before .before .before .before .before .before in
     let c10 = c6 .before .before .before .before in
     let c14 = c10 .before .before .before .before in
     let c16 = c14 .before .before in
     let c17 = c16 .before in
-    let c20 = c17 .before .before .before in
-    let c24 = c20 .before .before .before .before in
-    let c26 = c24 .before .before in
+    let c21 = c17 .before .before .before .before in
+    let c26 = c21 .before .before .before .before .before in
     let c30 = c26 .before .before .before .before in
-    let s = c30 in
-    let n = c26 .private-values in
-    let f = c24 .fill-rows in
-    let p = c20 .fill-nodes in
-    let t = c17 .free-names .result * n .result + n .result + c16 .word16 .result in
-    c2 .store324 .ensures
-    ∙ ap (λ (l : List ℕ). set l 1156 t)
-    (c6 .store323 .ensures ∙ ap (λ (l : List ℕ). set l 1155 (p .result))
-    (c10 .store322 .ensures ∙ ap (λ (l : List ℕ). set l 1154 (f .result)) (c14 .store32 .ensures)))
-    ∙ laid-out (s .args .table .now) (s .args .index .now) (s .pre .0) (s .pre .1) _ _ (f .ensures .1) (p .ensures .1) (n .result) (f .result) (p .result) t
-    (n .ensures .0) (f .ensures .0) (p .ensures .0) (counted c16)
+    let c32 = c30 .before .before in
+    let s = c32 .before .before .before .before .before .before .before .before .before in
+    let w = s .args .table .now in
+    let x = s .args .index .now in
+    let e = c30 .fill-reaches .ensures in
+    let K = reached-here w x (s .pre .0) (s .pre .1) _ e in
+    let n = c32 .private-values in
+    let f = c26 .fill-rows in
+    let p = c21 .fill-nodes in
+    let t = c17 .reading-names .result * n .result + n .result + c16 .word16 .result in
+    c .before .before .store324 .ensures
+    ∙ ap (λ (l : List ℕ). set l 1284 t)
+    (c6 .store323 .ensures ∙ ap (λ (l : List ℕ). set l 1283 (p .result))
+    (c10 .store322 .ensures ∙ ap (λ (l : List ℕ). set l 1282 (f .result)) (c14 .store32 .ensures)))
+    ∙ laid-out w _ K (omega (arith, reached-size w x (s .pre .0) (s .pre .1) _ e, s .pre .1)) _ _ (f .ensures .1) (p .ensures .1) (n .result) (f .result)
+    (p .result) t (n .ensures .0) (f .ensures .0) (p .ensures .0) (counted c16)
+    ∙ ap (λ (l : List ℕ). planWords w ++ l) (reached-rest w x (s .pre .0) (s .pre .1) _ e)
 
 pub lay-out-spec : {M : Type 1} → statement M
 lay-out-spec =
     tie.close
     (tie.spec
+    slice-aggregate-hold-all
+    hold-all-requires
+    slice-aggregate-private-values
     private-values-requires
+    fill-reaches-requires
     fill-rows-requires
+    slice-aggregate-fill-nodes
     add-fill-nodes
     fill-nodes-requires
-    free-names-requires
+    reading-names-requires
     mul-tokens
     add-tokens
     word16-requires

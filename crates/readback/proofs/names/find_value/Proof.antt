@@ -1,60 +1,50 @@
 -- `readback::names::find_value` meets its contract.
-use native.Mathlib.Omega.{arith}
 use mathlib.Core.Bool.{false≢true}
-use Rattle.readback.proofs.Valuing.{low-few, values-few, not-right, is-right, fill-none, fill-some, value-small}
+use native.Mathlib.Omega.{arith}
+use Rattle.places.proofs.Controls.{few-publics}
+use Rattle.readback.proofs.Valuing.{privates-few, not-right, is-right, fill-none, fill-some, first-small, value-small}
 use borrow.Author.Needs.{needs}
 use Rattle.readback.proofs.names.find_value.Statement.{statement}
 use Rattle.readback.proofs.names.find_value.Tie as tie
 
-low-value-requires : tie.Need-low-value-requires
-low-value-requires c κs =
-    let s = c .before .before .before .before .before in
-    s .pre .1
+reach-of-requires : tie.Need-reach-of-requires
+reach-of-requires c κs = search needs
+
+publics-of-requires : tie.Need-publics-of-requires
+publics-of-requires c κs = search needs
+
+privates-of-requires : tie.Need-privates-of-requires
+privates-of-requires c κs = search needs
+
+add-count : tie.Need-add-count
+add-count c =
+    let c1 = c .before in
+    let c2 = c1 .before in
+    let c8 = c2 .before .before .before .before .before .before in
+    omega (
+      arith,
+      c1 .publics-of .ensures .1,
+      privates-few (c8 .args .table .now) (c8 .args .index .now) (c8 .args .marking .now) (c8 .args .held .now) (c8 .pre .0) (c8 .args .name) (c8 .pre .1)
+          (c2 .reach-of .result) (c2 .reach-of .ensures) (c1 .publics-of .result) (c .privates-of .result) (c1 .publics-of .ensures .0)
+          (c .privates-of .ensures),
+    )
 
 row-start-requires : tie.Need-row-start-requires
 row-start-requires c κs = search needs
 
-word16-requires : tie.Need-word16-requires
-word16-requires c κs = search needs
-
-privates-requires : tie.Need-privates-requires
-privates-requires c κs = search needs
-
-add-find : tie.Need-add-find
-add-find c =
-    let at-word16 = c .before in
-    let at-low-value = at-word16 .before .before in
-    let s = at-low-value .before .before .before .before .before .before in
-    omega (
-      arith,
-      values-few (s .args .table .now) (s .args .index .now) (s .args .marking .now) (s .args .held .now) (s .pre .0) (s .args .name) (s .pre .1)
-          (at-low-value .low-value .result) (at-low-value .low-value .ensures) (at-word16 .word16 .result)
-          (c .privates .result) (at-word16 .word16 .ensures .is) (c .privates .ensures .is),
-    )
-
-sub-find : tie.Need-sub-find
-sub-find c =
-    let at-word16 = c .before in
-    let at-low-value = at-word16 .before .before in
-    let s = at-low-value .before .before .before .before .before .before in
-    omega (
-      arith,
-      low-few (s .args .table .now) (s .args .index .now) (s .args .marking .now) (s .args .held .now) (s .pre .0)
-          (s .args .name) (s .pre .1) (at-low-value .low-value .result) (at-low-value .low-value .ensures) (at-word16 .word16 .result)
-          (c .privates .result) (at-word16 .word16 .ensures .is) (c .privates .ensures .is),
-    )
-
 find-requires : tie.Need-find-requires
 find-requires c κs =
-    let at-word16 = c .before in
-    let at-low-value = at-word16 .before .before in
-    let s = at-low-value .before .before .before .before .before .before in (
-      c .before .before .row-start .ensures .small,
+    let c1 = c .before in
+    let c2 = c1 .before in
+    let c3 = c2 .before in
+    let c9 = c3 .before .before .before .before .before .before in (
+      c .row-start .ensures .small,
       omega (
         arith,
-        values-few (s .args .table .now) (s .args .index .now) (s .args .marking .now) (s .args .held .now) (s .pre .0) (s .args .name) (s .pre .1)
-            (at-low-value .low-value .result) (at-low-value .low-value .ensures) (at-word16 .word16 .result)
-            (c .privates .result) (at-word16 .word16 .ensures .is) (c .privates .ensures .is),
+        c2 .publics-of .ensures .1,
+        privates-few (c9 .args .table .now) (c9 .args .index .now) (c9 .args .marking .now) (c9 .args .held .now) (c9 .pre .0) (c9 .args .name) (c9 .pre .1)
+            (c3 .reach-of .result) (c3 .reach-of .ensures) (c2 .publics-of .result) (c1 .privates-of .result) (c2 .publics-of .ensures .0)
+            (c1 .privates-of .ensures),
       ),
     )
 
@@ -63,18 +53,17 @@ word8-requires c κs = search needs
 
 returns : tie.Need-returns
 returns c =
-    let at-word8 = c .before .before in
-    let at-find = at-word8 .before in
-    let at-privates = at-find .before in
-    let at-word16 = at-privates .before in
-    let at-row-start = at-word16 .before in
-    let at-low-value = at-row-start .before in
-    let s = at-low-value .before .before .before .before .before .before in (
-      not-right (s .args .table .now) (s .args .index .now) (s .args .marking .now) (s .args .held .now) (s .pre .0) (s .args .name)
-          (s .pre .1) (at-low-value .low-value .result) (at-low-value .low-value .ensures) (at-word16 .word16 .result)
-          (at-privates .privates .result) (at-word16 .word16 .ensures .is) (at-privates .privates .ensures .is)
-          (at-row-start .row-start .result) (at-row-start .row-start .ensures .is) (at-find .find .result) (at-find .find .ensures) (at-word8 .word8 .result)
-          (at-word8 .word8 .ensures .is) (c .if1 .taken),
+    let c2 = c .before .before in
+    let c3 = c2 .before in
+    let c4 = c3 .before in
+    let c5 = c4 .before in
+    let c6 = c5 .before in
+    let c7 = c6 .before in
+    let c13 = c7 .before .before .before .before .before .before in (
+      not-right (c13 .args .table .now) (c13 .args .index .now) (c13 .args .marking .now) (c13 .args .held .now) (c13 .pre .0) (c13 .args .name) (c13 .pre .1)
+          (c7 .reach-of .result) (c7 .reach-of .ensures) (c6 .publics-of .result) (c5 .privates-of .result) (c6 .publics-of .ensures .0)
+          (c5 .privates-of .ensures) (c4 .row-start .result) (c4 .row-start .ensures .is) (c3 .find .result) (c3 .find .ensures) (c2 .word8 .result)
+          (c2 .word8 .ensures .is) (c .if1 .taken),
       λ e. absurd (false≢true e),
     )
 
@@ -86,59 +75,56 @@ same-length c = search needs
 
 returns-2 : tie.Need-returns-2
 returns-2 c =
-    let at-if2 = c .before .before .before .before in
-    let at-if1 = at-if2 .before .before in
-    let at-word8 = at-if1 .before .before in
-    let at-find = at-word8 .before in
-    let at-privates = at-find .before in
-    let at-word16 = at-privates .before in
-    let at-row-start = at-word16 .before in
-    let at-low-value = at-row-start .before in
-    let s = at-low-value .before .before .before .before .before .before in (
-      is-right (s .args .table .now) (s .args .index .now) (s .args .marking .now) (s .args .held .now) (s .pre .0) (s .args .name)
-          (s .pre .1) (at-low-value .low-value .result) (at-low-value .low-value .ensures) (at-word16 .word16 .result)
-          (at-privates .privates .result) (at-word16 .word16 .ensures .is) (at-privates .privates .ensures .is)
-          (at-row-start .row-start .result) (at-row-start .row-start .ensures .is) (at-find .find .result) (at-find .find .ensures) (at-word8 .word8 .result)
-          (at-word8 .word8 .ensures .is) (at-if1 .if1 .left),
-      λ e. fill-none (s .args .table .now) (s .args .index .now) (s .args .marking .now) (s .args .held .now) (s .pre .0)
-          (s .args .name) (s .pre .1) (at-low-value .low-value .result) (at-low-value .low-value .ensures) (at-word16 .word16 .result)
-          (at-privates .privates .result) (at-word16 .word16 .ensures .is) (at-privates .privates .ensures .is)
-          (at-row-start .row-start .result) (at-row-start .row-start .ensures .is) (at-find .find .result) (at-find .find .ensures) _ _ (at-if2 .if2 .taken)
-          (c .before .before .store16 .ensures),
+    let c2 = c .before .before in
+    let c4 = c2 .before .before in
+    let c6 = c4 .before .before in
+    let c8 = c6 .before .before in
+    let c9 = c8 .before in
+    let c10 = c9 .before in
+    let c11 = c10 .before in
+    let c12 = c11 .before in
+    let c13 = c12 .before in
+    let c19 = c13 .before .before .before .before .before .before in (
+      is-right (c19 .args .table .now) (c19 .args .index .now) (c19 .args .marking .now) (c19 .args .held .now) (c19 .pre .0) (c19 .args .name) (c19 .pre .1)
+          (c13 .reach-of .result) (c13 .reach-of .ensures) (c12 .publics-of .result) (c11 .privates-of .result) (c12 .publics-of .ensures .0)
+          (c11 .privates-of .ensures) (c10 .row-start .result) (c10 .row-start .ensures .is) (c9 .find .result) (c9 .find .ensures) (c8 .word8 .result)
+          (c8 .word8 .ensures .is) (c6 .if1 .left),
+      λ e. fill-none (c19 .args .table .now) (c19 .args .index .now) (c19 .args .marking .now) (c19 .args .held .now) (c19 .pre .0) (c19 .args .name)
+          (c19 .pre .1)
+          (c13 .reach-of .result) (c13 .reach-of .ensures) (c12 .publics-of .result) (c11 .privates-of .result) (c12 .publics-of .ensures .0)
+          (c11 .privates-of .ensures) (c10 .row-start .result) (c10 .row-start .ensures .is) (c9 .find .result) (c9 .find .ensures) _ _ (c4 .if2 .taken)
+          (c2 .store16 .ensures),
     )
 
-add-store16 : tie.Need-add-store16
-add-store16 c =
-    let at-find = c .before .before .before .before .before .before .before in
-    let at-privates = at-find .before in
-    let at-word16 = at-privates .before in
-    let at-row-start = at-word16 .before in
-    let at-low-value = at-row-start .before in
-    let s = at-low-value .before .before .before .before .before .before in
-    omega (
-      arith,
-      value-small (s .args .table .now) (s .args .index .now) (s .args .marking .now) (s .args .held .now) (s .pre .0) (s .args .name)
-          (s .pre .1) (at-low-value .low-value .result) (at-low-value .low-value .ensures) (at-word16 .word16 .result)
-          (at-privates .privates .result) (at-word16 .word16 .ensures .is) (at-privates .privates .ensures .is)
-          (at-row-start .row-start .result) (at-row-start .row-start .ensures .is) (at-find .find .result) (at-find .find .ensures)
-          (c .before .before .if2 .left),
+value-at-requires : tie.Need-value-at-requires
+value-at-requires c κs =
+    let c6 = c .before .before .before .before .before .before in
+    let c7 = c6 .before in
+    let c8 = c7 .before in
+    let c9 = c8 .before in
+    let c10 = c9 .before in
+    let c16 = c10 .before .before .before .before .before .before in (
+      omega (arith, few-publics (c16 .args .table .now) (c16 .pre .0 .accepted)),
+      first-small (c16 .args .table .now) (c16 .args .index .now) (c16 .args .marking .now) (c16 .args .held .now) (c16 .pre .0) (c16 .args .name) (c16 .pre .1)
+          (c10 .reach-of .result) (c10 .reach-of .ensures) (c9 .publics-of .result) (c8 .privates-of .result) (c9 .publics-of .ensures .0)
+          (c8 .privates-of .ensures) (c7 .row-start .result) (c7 .row-start .ensures .is) (c6 .find .result) (c6 .find .ensures),
     )
 
 cast-store16 : tie.Need-cast-store16
 cast-store16 c =
-    let at-find = c .before .before .before .before .before .before .before in
-    let at-privates = at-find .before in
-    let at-word16 = at-privates .before in
-    let at-row-start = at-word16 .before in
-    let at-low-value = at-row-start .before in
-    let s = at-low-value .before .before .before .before .before .before in
+    let c2 = c .before .before in
+    let c7 = c2 .before .before .before .before .before in
+    let c8 = c7 .before in
+    let c9 = c8 .before in
+    let c10 = c9 .before in
+    let c11 = c10 .before in
+    let c17 = c11 .before .before .before .before .before .before in
     omega (
       arith,
-      value-small (s .args .table .now) (s .args .index .now) (s .args .marking .now) (s .args .held .now) (s .pre .0) (s .args .name)
-          (s .pre .1) (at-low-value .low-value .result) (at-low-value .low-value .ensures) (at-word16 .word16 .result)
-          (at-privates .privates .result) (at-word16 .word16 .ensures .is) (at-privates .privates .ensures .is)
-          (at-row-start .row-start .result) (at-row-start .row-start .ensures .is) (at-find .find .result) (at-find .find .ensures)
-          (c .before .before .if2 .left),
+      value-small (c17 .args .table .now) (c17 .args .index .now) (c17 .args .marking .now) (c17 .args .held .now) (c17 .pre .0) (c17 .args .name) (c17 .pre .1)
+          (c11 .reach-of .result) (c11 .reach-of .ensures) (c10 .publics-of .result) (c9 .privates-of .result) (c10 .publics-of .ensures .0)
+          (c9 .privates-of .ensures) (c8 .row-start .result) (c8 .row-start .ensures .is) (c7 .find .result) (c7 .find .ensures) (c .value-at .result)
+          (c .value-at .ensures) (c2 .if2 .left),
     )
 
 store16-requires-2 : tie.Need-store16-requires-2
@@ -149,44 +135,44 @@ same-length-2 c = search needs
 
 returns-3 : tie.Need-returns-3
 returns-3 c =
-    let at-if2 = c .before .before .before .before .before in
-    let at-if1 = at-if2 .before .before in
-    let at-word8 = at-if1 .before .before in
-    let at-find = at-word8 .before in
-    let at-privates = at-find .before in
-    let at-word16 = at-privates .before in
-    let at-row-start = at-word16 .before in
-    let at-low-value = at-row-start .before in
-    let s = at-low-value .before .before .before .before .before .before in (
-      is-right (s .args .table .now) (s .args .index .now) (s .args .marking .now) (s .args .held .now) (s .pre .0) (s .args .name)
-          (s .pre .1) (at-low-value .low-value .result) (at-low-value .low-value .ensures) (at-word16 .word16 .result)
-          (at-privates .privates .result) (at-word16 .word16 .ensures .is) (at-privates .privates .ensures .is)
-          (at-row-start .row-start .result) (at-row-start .row-start .ensures .is) (at-find .find .result) (at-find .find .ensures) (at-word8 .word8 .result)
-          (at-word8 .word8 .ensures .is) (at-if1 .if1 .left),
-      λ e. fill-some (s .args .table .now) (s .args .index .now) (s .args .marking .now) (s .args .held .now) (s .pre .0)
-          (s .args .name) (s .pre .1) (at-low-value .low-value .result) (at-low-value .low-value .ensures) (at-word16 .word16 .result)
-          (at-privates .privates .result) (at-word16 .word16 .ensures .is) (at-privates .privates .ensures .is)
-          (at-row-start .row-start .result) (at-row-start .row-start .ensures .is) (at-find .find .result) (at-find .find .ensures) _ _ (at-if2 .if2 .left)
-          (c .before .before .store162 .ensures),
+    let c2 = c .before .before in
+    let c3 = c2 .before in
+    let c5 = c3 .before .before in
+    let c7 = c5 .before .before in
+    let c9 = c7 .before .before in
+    let c10 = c9 .before in
+    let c11 = c10 .before in
+    let c12 = c11 .before in
+    let c13 = c12 .before in
+    let c14 = c13 .before in
+    let c20 = c14 .before .before .before .before .before .before in (
+      is-right (c20 .args .table .now) (c20 .args .index .now) (c20 .args .marking .now) (c20 .args .held .now) (c20 .pre .0) (c20 .args .name) (c20 .pre .1)
+          (c14 .reach-of .result) (c14 .reach-of .ensures) (c13 .publics-of .result) (c12 .privates-of .result) (c13 .publics-of .ensures .0)
+          (c12 .privates-of .ensures) (c11 .row-start .result) (c11 .row-start .ensures .is) (c10 .find .result) (c10 .find .ensures) (c9 .word8 .result)
+          (c9 .word8 .ensures .is) (c7 .if1 .left),
+      λ e. fill-some (c20 .args .table .now) (c20 .args .index .now) (c20 .args .marking .now) (c20 .args .held .now) (c20 .pre .0) (c20 .args .name)
+          (c20 .pre .1)
+          (c14 .reach-of .result) (c14 .reach-of .ensures) (c13 .publics-of .result) (c12 .privates-of .result) (c13 .publics-of .ensures .0)
+          (c12 .privates-of .ensures) (c11 .row-start .result) (c11 .row-start .ensures .is) (c10 .find .result) (c10 .find .ensures) (c3 .value-at .result)
+          (c3 .value-at .ensures) _ _ (c5 .if2 .left) (c2 .store162 .ensures),
     )
 
 pub find-value-spec : {M : Type 1} → statement M
 find-value-spec =
     tie.close
     (tie.spec
-    low-value-requires
+    reach-of-requires
+    publics-of-requires
+    privates-of-requires
+    add-count
     row-start-requires
-    word16-requires
-    privates-requires
-    add-find
-    sub-find
     find-requires
     word8-requires
     returns
     store16-requires
     same-length
     returns-2
-    add-store16
+    value-at-requires
     cast-store16
     store16-requires-2
     same-length-2
