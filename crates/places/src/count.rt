@@ -270,8 +270,8 @@ pub fn receive_at(receives: &[u32], k: u16) -> Side
     }
 }
 
-// What the communications of a send share: the branch, its thread, its channel, the sent name, the reach of the channel,
-// 1 for a bound channel, 1 for a bound sent name, and how many public and private values are sent.
+// What the communications of a send share: the branch, its thread, its channel, the sent name, the reach of the
+// channel, 1 for a bound channel, 1 for a bound sent name, and how many public and private values are sent.
 pub struct Sending {
     pub branch: u32,
     pub thread: u32,

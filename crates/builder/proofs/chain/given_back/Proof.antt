@@ -1,5 +1,5 @@
 -- `builder::chain::given_back` meets its contract.
-use mathlib.Core.Path.{_≡_, _∙_}
+use mathlib.Core.Path.{_∙_}
 use native.Mathlib.Omega.{arith}
 use Rattle.places.proofs.Names.{kind-restricted, kind-free}
 use Rattle.places.proofs.Plans.{row-is, free-is, privates-are}

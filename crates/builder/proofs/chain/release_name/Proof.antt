@@ -1,5 +1,5 @@
 -- `builder::chain::release_name` meets its contract.
-use mathlib.Core.Path.{_≡_, sym, _∙_}
+use mathlib.Core.Path.{sym, _∙_}
 use borrow.Author.Tests.{not-true, not-false}
 use Rattle.places.proofs.Plans.{privates-are}
 use Rattle.builder.specs.Inner.Parts.{state}
