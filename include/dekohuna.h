@@ -13,10 +13,10 @@
  * other buffer of that call. Pointers are the caller's duty and no call checks them; every content of a buffer, and
  * every number, is allowed: what does not fit is refused.
  *
- * Where a call is refused by cause 1 to 11, 13, or 17 to 19, or a look by any cause, no buffer changes. Of other calls
- * causes 12, 14, 15 and 16 leave the marking, and a run's history, as after the firings made before the refusal; the
- * value says how many these are. Where the answer is shorter than the buffer lent for it, the rest of the buffer does
- * not change.
+ * Where a call is refused by cause 1 to 11, 13, or 17 to 20, or a look or a call on a summary by any cause, no buffer
+ * changes. Of other calls causes 12, 14, 15 and 16 leave the marking, and a run's history, as after the firings made
+ * before the refusal; the value says how many these are. Where the answer is shorter than the buffer lent for it, the
+ * rest of the buffer does not change.
  *
  * No call keeps anything for the next, allocates, or does input or output. Calls on buffers of their own may be made
  * at the same time.
@@ -31,6 +31,12 @@
  * the places, so it is the length of a marking. A replay of no numbers leaves the initial marking. A firing and a run
  * start at the marking that is lent, whatever it is; a run fires the lowest enabled transition each time. A look shows
  * what a firing would leave, and fires nothing. Read tells which state a marking stands for.
+ *
+ * Summaries. A summary beside a marking tells what can be done next without a search: for each transition a 32-bit
+ * count of its inputs that are not marked, and a set of 64-bit words in which transition k is bit k mod 64 of word
+ * k div 64, set where it is enabled; spare bits of the last word are 0. There are as many counts as transitions t, and
+ * (t + 63) div 64 words. Make a summary once, and fire with it: it is then the summary of the marking after the firing.
+ * A firing by another call leaves it as it was; a check finds out.
  *
  * Definitions that call themselves. Rewrite and the calls for originals take a table with such definitions, and every
  * other call refuses it by 9: rewrite it first, and lend the rewritten table to the others. There each such definition
@@ -94,8 +100,10 @@ enum dekohuna_code {
     DEKOHUNA_STATE_MALFORMED = 18,
     /* step not open */
     DEKOHUNA_NOT_OPEN = 19,
+    /* a summary of a wrong length, or not the marking's */
+    DEKOHUNA_SUMMARY_WRONG = 20,
 
-    /* why a run ended where no cause stopped it */
+    /* why a run ended where no cause stopped it; 202 also where a set has no transition */
     DEKOHUNA_LIMIT_REACHED = 200,
     DEKOHUNA_HISTORY_FULL = 201,
     DEKOHUNA_NOTHING_ENABLED = 202
@@ -138,6 +146,32 @@ uint64_t dekohuna_replay(const uint32_t *image, size_t image_words, uint8_t *mar
  * transition has it. */
 uint64_t dekohuna_run(const uint32_t *image, size_t image_words, uint8_t *marking, size_t marking_bytes,
                       uint64_t limit, uint32_t *history, size_t history_words);
+
+/* Writes the summary of a marking to the start of both lists; the value is the number of transitions. The marking is
+ * only read. Causes 11, 13, 12 (for every record), then 10. */
+uint64_t dekohuna_summary_make(const uint32_t *image, size_t image_words, const uint8_t *marking, size_t marking_bytes,
+                               uint32_t *counts, size_t count_words, uint64_t *enabled, size_t enabled_words);
+
+/* Fires a transition by its number, as the marking decides, and works out again the counts and bits of the transitions
+ * that have a place in common with it; the others stay as they were lent. The value is 1 if it was made, else 0.
+ * Causes 11, 13, 20 (a length that is not exact), 14, 12 (for every record), 15 and 16; none of them changes a
+ * buffer. */
+uint64_t dekohuna_summary_fire(const uint32_t *image, size_t image_words, uint8_t *marking, size_t marking_bytes,
+                               uint32_t *counts, size_t count_words, uint64_t *enabled, size_t enabled_words,
+                               uint32_t transition);
+
+/* Checks that a summary is the marking's; the value is 0. Causes 11, 13, 20 (for the lengths), 12 (for every record),
+ * 20 (for the contents, spare bits too). */
+uint64_t dekohuna_summary_check(const uint32_t *image, size_t image_words, const uint8_t *marking, size_t marking_bytes,
+                                const uint32_t *counts, size_t count_words, const uint64_t *enabled,
+                                size_t enabled_words);
+
+/* Tells the lowest transition of a set as it is lent, spare bits and further words too; the value is its number. Code
+ * 202 where the set has none. */
+uint64_t dekohuna_summary_lowest(const uint64_t *enabled, size_t enabled_words);
+
+/* Tells how many transitions a set has as it is lent, spare bits and further words too; the value is that number. */
+uint64_t dekohuna_summary_number(const uint64_t *enabled, size_t enabled_words);
 
 /* Writes the words of the state that a marking of the table's net stands for; the value is the words written. Causes
  * 1 to 9, 13, 17, then 10. */

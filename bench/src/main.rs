@@ -9,6 +9,7 @@ mod library;
 mod measure;
 mod scheme;
 mod second;
+mod summary;
 
 use std::process::ExitCode;
 
@@ -29,7 +30,13 @@ fn main() -> ExitCode {
     for input in inputs::inputs() {
         let title = input.title;
         match both.prepare(input) {
-            Ok(case) => report(&both, &case),
+            Ok(case) => {
+                report(&both, &case);
+                if !summary::report(&case) {
+                    eprintln!("{title}: a summary does not tell what a search finds");
+                    return ExitCode::FAILURE;
+                }
+            }
             Err(message) => {
                 eprintln!("{title}: {message}");
                 return ExitCode::FAILURE;
@@ -46,7 +53,9 @@ fn print_method() {
          are written once before, and not cleared between calls. Before each run, and before each row of single\n\
          firings or of looks, the initial marking is copied; each look but the first is at the marking that the one\n\
          before it showed. A plain write puts a changing word in each of as many words as the image has: wide, in a\n\
-         loop that the compiler may turn into wide stores; single, with one store a word."
+         loop that the compiler may turn into wide stores; single, with one store a word. The last two lines compare\n\
+         two ways of the library: the lowest enabled transition of a summary, and by a run with limit 1 on a copy of\n\
+         the marking; and firings that keep a summary, and firings after each of which one is made."
     );
 }
 

@@ -2,10 +2,11 @@
  * firing of the run again after a look at what it would leave, and reads the state back. What is a copy is shown with
  * the number in the table that it is a copy of.
  *
- *     run [TABLE-FILE [LIMIT]]
+ *     run [TABLE-FILE [LIMIT [next]]]
  *
  * A table file has 16-bit words, low byte first. With no file it is table E, a new name sent from one thread to
- * another; the limit is 5 firings unless it is given. Ends with 1 where the library refuses, with 2 where the program
+ * another; the limit is 5 firings unless it is given. With `next` it prints before each firing, and at the end, how
+ * many transitions are enabled and the lowest of them. Ends with 1 where the library refuses, with 2 where the program
  * cannot do what it was asked. */
 #include "dekohuna.h"
 
@@ -132,18 +133,41 @@ static void print_firing(struct table table, struct image image, uint32_t number
     printf("\n");
 }
 
-/* Makes the firings of a history once more, each after a look at what it would leave, and prints them. */
-static void fire_again(struct table table, struct image image, const uint32_t *history, size_t firings) {
-    size_t places = image.words[0];
+/* How many transitions are enabled, and the lowest of them. */
+static void print_next(const uint64_t *enabled, size_t words) {
+    uint64_t lowest = dekohuna_summary_lowest(enabled, words);
+    printf("can be done next: %zu", accepted(dekohuna_summary_number(enabled, words)));
+    if (DEKOHUNA_CODE(lowest) == DEKOHUNA_DONE)
+        printf(", the lowest is %" PRIu64, DEKOHUNA_VALUE(lowest));
+    printf("\n");
+}
+
+/* Makes the firings of a history once more, each after a look at what it would leave, and prints them. A summary beside
+ * the marking tells what can be done next, which is printed if it is asked for. */
+static void fire_again(struct table table, struct image image, const uint32_t *history, size_t firings, int next_too) {
+    size_t places = image.words[0], transitions = image.words[1], words = (transitions + 63) / 64;
     uint8_t *marking = room(places, 1), *next = room(places, 1);
+    uint32_t *counts = room(transitions, sizeof(uint32_t));
+    uint64_t *enabled = room(words, sizeof(uint64_t));
     accepted(dekohuna_replay(image.words, image.count, marking, places, history, 0));
+    accepted(dekohuna_summary_make(image.words, image.count, marking, places, counts, transitions, enabled, words));
     for (size_t i = 0; i < firings; i++) {
+        if (next_too)
+            print_next(enabled, words);
+        if ((enabled[history[i] / 64] >> (history[i] % 64) & 1) == 0)
+            fail("the run fired a transition that the set has not");
         accepted(dekohuna_look(image.words, image.count, marking, places, history[i], next, places));
-        accepted(dekohuna_fire(image.words, image.count, marking, places, history[i]));
+        accepted(dekohuna_summary_fire(image.words, image.count, marking, places, counts, transitions, enabled, words,
+                                       history[i]));
         if (memcmp(marking, next, places) != 0)
             fail("a firing leaves another marking than the look showed");
         print_firing(table, image, history[i]);
     }
+    if (next_too)
+        print_next(enabled, words);
+    accepted(dekohuna_summary_check(image.words, image.count, marking, places, counts, transitions, enabled, words));
+    free(enabled);
+    free(counts);
     free(next);
     free(marking);
 }
@@ -174,7 +198,7 @@ static void print_state(struct table table, const uint16_t *state, size_t words)
     }
 }
 
-static void run(struct table own, uint64_t limit) {
+static void run(struct table own, uint64_t limit, int next_too) {
     struct table table = rewrite(own);
     struct image image = build(table);
     printf("table of %zu words: net of %" PRIu32 " places and %" PRIu32 " transitions in %zu words\n", table.count,
@@ -186,7 +210,7 @@ static void run(struct table own, uint64_t limit) {
     accepted(dekohuna_replay(image.words, image.count, marking, places, history, 0));
     uint64_t word = dekohuna_run(image.words, image.count, marking, places, limit, history, (size_t)limit);
     size_t firings = (size_t)DEKOHUNA_VALUE(word);
-    fire_again(own, image, history, firings);
+    fire_again(own, image, history, firings, next_too);
     printf("firings made: %zu, %s (%u)\n", firings, reason(DEKOHUNA_CODE(word)), DEKOHUNA_CODE(word));
 
     uint16_t state[40]; /* at most 8 threads and 32 bound names */
@@ -198,10 +222,11 @@ static void run(struct table own, uint64_t limit) {
 }
 
 int main(int argc, char **argv) {
-    if (argc > 3)
-        fail("usage: run [TABLE-FILE [LIMIT]]");
+    int next_too = argc == 4 && strcmp(argv[3], "next") == 0;
+    if (argc > 3 && !next_too)
+        fail("usage: run [TABLE-FILE [LIMIT [next]]]");
     uint64_t limit = 5;
-    if (argc == 3) {
+    if (argc > 2) {
         char *end;
         limit = strtoull(argv[2], &end, 10);
         if (*end != '\0' || argv[2][0] < '0' || argv[2][0] > '9' || limit > 10000000)
@@ -210,6 +235,6 @@ int main(int argc, char **argv) {
     struct table table = {table_e, 48};
     if (argc > 1)
         table = read_table(argv[1]);
-    run(table, limit);
+    run(table, limit, next_too);
     return 0;
 }

@@ -1,7 +1,7 @@
-//! A second reading of document 01 and of document 02's items 1 to 4: the table check, the
-//! rewriting of self-calls, the image builder and its size, firing, looking, replay, run, reading
-//! back, and the plain process, written from the documents and sharing no code with the project it
-//! is compared with.
+//! A second reading of document 01 and of document 02's items 1 to 5: the table check, the
+//! rewriting of self-calls, the image builder and its size, firing, looking, replay, run,
+//! summaries, reading back, and the plain process, written from the documents and sharing no code
+//! with the project it is compared with.
 //!
 //! The calls exported here are total. A refusal changes no lent buffer, except that a replay or run
 //! stopped on its way leaves exactly the firings made.
@@ -28,6 +28,7 @@ pub mod reach;
 pub mod readback;
 pub mod rewrite;
 pub mod size;
+pub mod summary;
 pub mod table;
 pub mod vectors;
 

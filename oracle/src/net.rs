@@ -12,14 +12,14 @@ pub struct Refusal {
 }
 
 impl Refusal {
-    fn alone(cause: u32) -> Refusal {
+    pub(crate) fn alone(cause: u32) -> Refusal {
         Refusal {
             cause,
             firings: None,
         }
     }
 
-    fn after(cause: u32, firings: u64) -> Refusal {
+    pub(crate) fn after(cause: u32, firings: u64) -> Refusal {
         Refusal {
             cause,
             firings: Some(firings),
@@ -172,7 +172,7 @@ impl<'a> Image<'a> {
     }
 
     /// Cause 13: "marking length not the place count, or a byte above 1".
-    fn has_marking(&self, marking: &[u8]) -> bool {
+    pub(crate) fn has_marking(&self, marking: &[u8]) -> bool {
         marking.len() == self.places && marking.iter().all(|&byte| byte <= 1)
     }
 
@@ -208,14 +208,14 @@ impl<'a> Image<'a> {
 
     /// Cause 12, "record or arcs of the transition wrong", is `None`: "A foreign record's arcs
     /// need only lie in the arc section, ascend strictly and name places."
-    fn transition(&self, number: u32) -> Option<Transition<'a>> {
+    pub(crate) fn transition(&self, number: u32) -> Option<Transition<'a>> {
         let transition = self.arcs(number)?;
         let right = self.are_places(transition.inputs) && self.are_places(transition.outputs);
         right.then_some(transition)
     }
 
     /// Causes 14, 12, 15 and 16, then the firing.
-    fn fire(&self, marking: &mut [u8], number: u32) -> Result<(), u32> {
+    pub(crate) fn fire(&self, marking: &mut [u8], number: u32) -> Result<(), u32> {
         if number >= self.transitions {
             return Err(14);
         }

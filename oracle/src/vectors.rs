@@ -12,6 +12,7 @@ mod requests;
 mod rewriting;
 mod self_calls;
 mod shapes;
+mod summaries;
 mod worked;
 
 pub use answers::answers;

@@ -112,6 +112,56 @@ fn looks_meet_every_cause_of_a_firing_and_a_room_too_short() {
 }
 
 #[test]
+fn a_summary_is_answered_with_the_words_kept() {
+    // Two places, the first marked; transition 0 moves the token, transition 1 leaves it there.
+    let image = "w 2 2 2 2 1 8 9 21 0 3 0 0 21 1 1 3 1 0 23 1 1 0 1 0 0";
+    let told = answer_to(&[
+        image, "l 2", "r", "K", "c 2 1", "K", "L", "F 0", "L", "d 1 9", "d 2 9", "K", "n 0 8", "L",
+        "F 1", "c 1 1", "K", "c 2 2", "F 0", "c 3 1", "n 1 1",
+    ]);
+    assert_eq!(
+        told[3..],
+        [
+            "K 20",
+            "c 0 2 2:0 0 1:3",
+            "K 0",
+            "L 1 0 2",
+            "F 0 2:0 1 2:1 1 1:0",
+            "L 0 0 0",
+            "d 2",
+            "d 2",
+            "K 20",
+            "n 1",
+            "L 1 3 1",
+            "F 15 2:0 1 2:1 9 1:8",
+            "c 10 0 1:2863311530 1:12297829382473034410",
+            "K 20",
+            "c 0 2 2:1 1 2:0 12297829382473034410",
+            "F 20 2:0 1 2:1 1 2:0 12297829382473034410",
+            "c 0 2 3:1 1 2863311530 1:0",
+            "n 1",
+        ]
+    );
+}
+
+#[test]
+fn summaries_meet_every_cause() {
+    let counts = counts(&requests()).unwrap();
+    for (letter, causes) in [
+        ("c", vec![0, 10, 11, 12, 13]),
+        ("F", vec![0, 11, 12, 13, 14, 15, 16, 20]),
+        ("K", vec![0, 11, 12, 13, 20]),
+    ] {
+        for cause in causes {
+            let found = format!("cause {letter} {cause:>2} ");
+            let count = counts.lines().find_map(|line| line.strip_prefix(&found));
+            let count: usize = count.map_or(0, |count| count.parse().unwrap());
+            assert!(count >= 5, "{found}: {count}");
+        }
+    }
+}
+
+#[test]
 fn a_rewriting_is_answered_with_the_words_lent() {
     let written = "0 0 2 1 2 0 0 13 13 21 22 28 28 0 0 0 0 0 1 0 0 0 3 1 0 3 0 0";
     let left = ["43690"; 27].join(" ");

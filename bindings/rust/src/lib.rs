@@ -50,6 +50,39 @@ extern "C" {
         next: *mut u8,
         next_bytes: usize,
     ) -> u64;
+    fn dekohuna_summary_make(
+        image: *const u32,
+        image_words: usize,
+        marking: *const u8,
+        marking_bytes: usize,
+        counts: *mut u32,
+        count_words: usize,
+        enabled: *mut u64,
+        enabled_words: usize,
+    ) -> u64;
+    fn dekohuna_summary_fire(
+        image: *const u32,
+        image_words: usize,
+        marking: *mut u8,
+        marking_bytes: usize,
+        counts: *mut u32,
+        count_words: usize,
+        enabled: *mut u64,
+        enabled_words: usize,
+        transition: u32,
+    ) -> u64;
+    fn dekohuna_summary_check(
+        image: *const u32,
+        image_words: usize,
+        marking: *const u8,
+        marking_bytes: usize,
+        counts: *const u32,
+        count_words: usize,
+        enabled: *const u64,
+        enabled_words: usize,
+    ) -> u64;
+    fn dekohuna_summary_lowest(enabled: *const u64, enabled_words: usize) -> u64;
+    fn dekohuna_summary_number(enabled: *const u64, enabled_words: usize) -> u64;
     fn dekohuna_replay(
         image: *const u32,
         image_words: usize,
@@ -150,6 +183,71 @@ pub fn look(image: &[u32], marking: &[u8], transition: u32, next: &mut [u8]) -> 
             next.len(),
         )
     })
+}
+
+pub fn summary_make(
+    image: &[u32],
+    marking: &[u8],
+    counts: &mut [u32],
+    enabled: &mut [u64],
+) -> Answer {
+    answer(unsafe {
+        dekohuna_summary_make(
+            image.as_ptr(),
+            image.len(),
+            marking.as_ptr(),
+            marking.len(),
+            counts.as_mut_ptr(),
+            counts.len(),
+            enabled.as_mut_ptr(),
+            enabled.len(),
+        )
+    })
+}
+
+pub fn summary_fire(
+    image: &[u32],
+    marking: &mut [u8],
+    counts: &mut [u32],
+    enabled: &mut [u64],
+    transition: u32,
+) -> Answer {
+    answer(unsafe {
+        dekohuna_summary_fire(
+            image.as_ptr(),
+            image.len(),
+            marking.as_mut_ptr(),
+            marking.len(),
+            counts.as_mut_ptr(),
+            counts.len(),
+            enabled.as_mut_ptr(),
+            enabled.len(),
+            transition,
+        )
+    })
+}
+
+pub fn summary_check(image: &[u32], marking: &[u8], counts: &[u32], enabled: &[u64]) -> Answer {
+    answer(unsafe {
+        dekohuna_summary_check(
+            image.as_ptr(),
+            image.len(),
+            marking.as_ptr(),
+            marking.len(),
+            counts.as_ptr(),
+            counts.len(),
+            enabled.as_ptr(),
+            enabled.len(),
+        )
+    })
+}
+
+pub fn summary_lowest(enabled: &[u64]) -> Answer {
+    answer(unsafe { dekohuna_summary_lowest(enabled.as_ptr(), enabled.len()) })
+}
+
+pub fn summary_number(enabled: &[u64]) -> Answer {
+    answer(unsafe { dekohuna_summary_number(enabled.as_ptr(), enabled.len()) })
 }
 
 pub fn replay(image: &[u32], marking: &mut [u8], numbers: &[u32]) -> Answer {

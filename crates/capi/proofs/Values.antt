@@ -1,7 +1,8 @@
--- A word has its whole value where the value fits 56 bits, and what `build`, `size`, `look`, `start`, `step`, `read`, `rewrite` and the calls for originals
--- tell always does: of a look since the words of an image have 32 bits. The other calls count no more than the elements of a buffer.
+-- A word has its whole value where the value fits 56 bits, and what `build`, `size`, `look`, `summary_make`, `start`, `step`, `read`, `rewrite` and the calls
+-- for originals tell always does: of a look and of a summary since the words of an image have 32 bits. The other calls count no more than the elements of a
+-- buffer, or the bits of a set.
 use mathlib.Core.Path.{_≡_, refl}
-use mathlib.Core.Bool.{Bool, true, false, not}
+use mathlib.Core.Bool.{Bool, true, false, not, _||_}
 use mathlib.Core.Logic.{_⊎_, inl, inr}
 use mathlib.Core.Option.{some}
 use mathlib.Core.List.{List, [], _++_}
@@ -23,7 +24,9 @@ use Rattle.table.proofs.Passed.{passed}
 use Rattle.table.proofs.Inside.{Counted, counted}
 use Rattle.net.specs.Firing.{isMarking, fire}
 use Rattle.net.specs.Firing as Net
-use Rattle.net.specs.Image.{placeCount}
+use Rattle.net.specs.Image.{placeCount, transitionCount, headerRight, recordsRight}
+use Rattle.summary.specs.Summary.{Summary, summary, setLength, summaryOf}
+use Rattle.summary.specs.Calls.{MakeOutcome, makes, makeSummary}
 use Rattle.net.specs.Looking.{looked, shown, look}
 use Rattle.places.specs.Reach.{valuesFor}
 use Rattle.places.specs.Places.{places}
@@ -84,6 +87,25 @@ look-fits w m t next h = go (not (same (o .cause) 0)) (ltb (length next) (placeC
     go true c = omega arith
     go false true = omega arith
     go false false = omega arith
+
+pub make-fits : (w m : List ℕ) (s : Summary) → transitionCount w < 2 ^ 32 → makeSummary w m s .transitions < 2 ^ 56
+unfolding makeSummary
+make-fits w m s h =
+    go (not (headerRight w)) (not (isMarking (placeCount w) m)) (not (recordsRight w))
+    (ltb (length (s .counts)) (transitionCount w) || ltb (length (s .enabled)) (setLength w))
+  where
+    whole : MakeOutcome
+    whole =
+        makes 0 (transitionCount w) (summary
+        (summaryOf w m .counts ++ drop (transitionCount w) (s .counts))
+        (summaryOf w m .enabled ++ drop (setLength w) (s .enabled)))
+
+    go : (a b c d : Bool) → pick a (makes 11 0 s) (pick b (makes 13 0 s) (pick c (makes 12 0 s) (pick d (makes 10 0 s) whole))) .transitions < 2 ^ 56
+    go true b c d = omega arith
+    go false true c d = omega arith
+    go false false true d = omega arith
+    go false false false true = omega arith
+    go false false false false = omega arith
 
 -- ---- calls on states
 

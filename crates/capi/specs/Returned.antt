@@ -9,6 +9,8 @@ use Rattle.net.specs.Firing.{Ending, limitReached, historyFull, nothingEnabled,
 use Rattle.net.specs.Firing as Net
 use Rattle.net.specs.Looking.{LookOutcome}
 use Rattle.process.specs.Outcomes.{Outcome}
+use Rattle.summary.specs.Summary.{Summary, summary}
+use Rattle.summary.specs.Calls.{MakeOutcome, KeepOutcome}
 
 -- value·256 + code. A value has 56 bits: no machine has room for a buffer of more elements than that.
 unfoldable pub packed : ℕ → ℕ → ℕ
@@ -37,6 +39,36 @@ ofFirings o = returned (packed (o .firings) (o .cause)) (o .marking)
 -- code 0 is success, 10 to 16 the cause; value is the bytes written
 abbrev pub ofLook : LookOutcome → Returned
 ofLook o = returned (packed (o .bytes) (o .cause)) (o .next)
+
+-- the word returned, and the counts and the set afterwards
+pub record SummaryReturned : Type 0 where
+  pub word : ℕ
+  pub left : Summary
+
+abbrev pub summaryReturned : ℕ → List ℕ → List ℕ → SummaryReturned
+summaryReturned word counts enabled = record { word = word; left = summary counts enabled }
+
+-- code 0 is success, 10 to 13 the cause; value is the transitions counted
+abbrev pub ofMake : MakeOutcome → SummaryReturned
+ofMake o = record { word = packed (o .transitions) (o .cause); left = o .left }
+
+-- the word returned, and the marking, the counts and the set afterwards
+pub record KeepReturned : Type 0 where
+  pub word : ℕ
+  pub marking : List ℕ
+  pub left : Summary
+
+abbrev pub keepReturned : ℕ → List ℕ → List ℕ → List ℕ → KeepReturned
+keepReturned word marking counts enabled = record { word = word; marking = marking; left = summary counts enabled }
+
+-- code 0 is success, 11 to 16 and 20 the cause; value is the firings made
+abbrev pub ofKeep : KeepOutcome → KeepReturned
+ofKeep o = record { word = packed (o .firings) (o .cause); marking = o .marking; left = o .left }
+
+-- value is the lowest of a set; code 202 where it has none
+abbrev pub ofLowest : Option ℕ → ℕ
+ofLowest none = packed 0 202
+ofLowest (some transition) = packed transition 0
 
 -- a refusal has no value
 abbrev pub valueOr0 : Option ℕ → ℕ

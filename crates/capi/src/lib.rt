@@ -16,7 +16,12 @@ ghost use Rattle.readback.specs.Answers.{readOutcome};
 ghost use Rattle.readback.specs.Answers as Read;
 ghost use Rattle.rewriting.specs.Answers as Rewriting;
 ghost use Rattle.rewriting.specs.Outcomes.{rewriteOutcome, originalNode, originalBranch, originalName};
+ghost use Rattle.summary.specs.Answers.{madeNumber, transitionsCounted, keptNumber, firingsKept, lowestFound};
+ghost use Rattle.summary.specs.Calls.{makeSummary, fireWith, checkCause};
+ghost use Rattle.summary.specs.Sets.{lowestIn, numberIn};
+ghost use Rattle.summary.specs.Summary.{summary};
 ghost use Rattle.capi.specs.Returned.{packed, valueOr0, endingCode, ofSize};
+ghost use Rattle.capi.specs.Returned.{summaryReturned, ofMake, keepReturned, ofKeep, ofLowest};
 ghost use Rattle.capi.specs.Returned.{returned, ofBuild, ofFirings, ofLook, ofOutcome, RunReturned};
 use builder::Built;
 use builder::Sized;
@@ -24,6 +29,9 @@ use net::Cause;
 use net::Firing;
 use net::Looked;
 use net::Reason;
+use summary::Found;
+use summary::Kept;
+use summary::Made;
 
 // value·256 + code.
 fn pack(value: usize, code: usize) -> u64
@@ -149,6 +157,49 @@ fn looked_word(looked: Looked) -> u64
     }
 }
 
+// The word of making a summary.
+fn made_word(made: Made) -> u64
+    ensures { λ r. ⌜ r ≡ packed (transitionsCounted made) (madeNumber made) ⌝ }
+{
+    match made {
+        Made::Done(transitions) => pack(transitions, 0),
+        Made::Refused(cause) => pack(0, cause_code(cause)),
+        Made::NoRoom => pack(0, 10),
+    }
+}
+
+// The number of the cause of a firing with a summary or of a check of one, 0 where there is none.
+fn kept_code(kept: Kept) -> usize
+    ensures { λ r. ⌜ (r ≡ keptNumber kept) × (r < 256) ⌝ }
+{
+    match kept {
+        Kept::Done => 0,
+        Kept::Refused(cause) => cause_code(cause),
+        Kept::SummaryWrong => 20,
+    }
+}
+
+// The word of a firing with a summary, which makes one or none.
+fn kept_word(kept: Kept) -> u64
+    ensures { λ r. ⌜ r ≡ packed (firingsKept kept) (keptNumber kept) ⌝ }
+{
+    match kept {
+        Kept::Done => pack(1, 0),
+        Kept::Refused(cause) => pack(0, cause_code(cause)),
+        Kept::SummaryWrong => pack(0, 20),
+    }
+}
+
+// The word of the lowest of a set. Of a value 56 bits are kept, so of a word's number 50.
+fn lowest_word(found: Found) -> u64
+    ensures { λ r. ⌜ r ≡ ofLowest (lowestFound found) ⌝ }
+{
+    match found {
+        Found::At(word, bit) => pack(word % 1125899906842624 * 64 + bit as usize, 0),
+        Found::Nothing => pack(0, 202),
+    }
+}
+
 // Checks a table.
 #[no_mangle]
 pub extern "C" fn dekohuna_check(table: &[u16]) -> u64
@@ -231,6 +282,71 @@ pub extern "C" fn dekohuna_read(table: &[u16], marking: &[u8], state: &mut [u16]
         ≡ ofOutcome (readOutcome (now (table .entry)) (now (marking .entry)) (now (state .entry))) ⌝ }
 {
     read_word(readback::read(table, marking, state))
+}
+
+// Writes the summary of a marking to the start of both lists.
+#[no_mangle]
+pub extern "C" fn dekohuna_summary_make(
+    image: &[u32],
+    marking: &[u8],
+    counts: &mut [u32],
+    enabled: &mut [u64],
+) -> u64
+    ensures { λ r. ⌜ summaryReturned r (now (counts .exit)) (now (enabled .exit))
+        ≡ ofMake (makeSummary (now (image .entry)) (now (marking .entry))
+        (summary (now (counts .entry)) (now (enabled .entry)))) ⌝ }
+{
+    made_word(summary::make(image, marking, counts, enabled))
+}
+
+// Fires a transition by its number, and keeps the summary.
+#[no_mangle]
+pub extern "C" fn dekohuna_summary_fire(
+    image: &[u32],
+    marking: &mut [u8],
+    counts: &mut [u32],
+    enabled: &mut [u64],
+    transition: u32,
+) -> u64
+    ensures { λ r. ⌜ keepReturned r (now (marking .exit)) (now (counts .exit)) (now (enabled .exit))
+        ≡ ofKeep (fireWith (now (image .entry)) (now (marking .entry))
+        (summary (now (counts .entry)) (now (enabled .entry))) transition) ⌝ }
+{
+    kept_word(summary::fire(image, marking, counts, enabled, transition))
+}
+
+// Checks that a summary is the marking's.
+#[no_mangle]
+pub extern "C" fn dekohuna_summary_check(
+    image: &[u32],
+    marking: &[u8],
+    counts: &[u32],
+    enabled: &[u64],
+) -> u64
+    ensures { λ r. ⌜ r
+        ≡ packed 0 (checkCause (now (image .entry)) (now (marking .entry))
+        (summary (now (counts .entry)) (now (enabled .entry)))) ⌝ }
+{
+    pack(
+        0,
+        kept_code(summary::check(image, marking, counts, enabled)),
+    )
+}
+
+// Tells the lowest transition of a set.
+#[no_mangle]
+pub extern "C" fn dekohuna_summary_lowest(enabled: &[u64]) -> u64
+    ensures { λ r. ⌜ r ≡ ofLowest (lowestIn (now (enabled .entry))) ⌝ }
+{
+    lowest_word(summary::lowest(enabled))
+}
+
+// Tells how many transitions a set has.
+#[no_mangle]
+pub extern "C" fn dekohuna_summary_number(enabled: &[u64]) -> u64
+    ensures { λ r. ⌜ r ≡ packed (numberIn (now (enabled .entry))) 0 ⌝ }
+{
+    pack(summary::number(enabled) as usize, 0)
 }
 
 // Writes the words of the starting state.

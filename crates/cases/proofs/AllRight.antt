@@ -1,18 +1,22 @@
 -- Every case of the table has its answer: one proof, by computing.
 use mathlib.Core.Path.{refl}
 use mathlib.Core.List.{_++_}
-use Rattle.cases.specs.Cases.{rewritingCases, privateCases, arrivingCases, cases, AllRight}
+use Rattle.cases.specs.Cases.{rewritingCases, privateCases, arrivingCases, summaryCases, cases, AllRight}
 use Rattle.cases.proofs.Computing.{everything}
 
-arriving-right : AllRight arrivingCases
+summaries-right : AllRight summaryCases
 unfolding everything
-arriving-right = (refl, (refl, (refl, (refl, (refl, (refl, tt))))))
+summaries-right = (refl, (refl, (refl, tt)))
 
-privates-right : AllRight (privateCases ++ arrivingCases)
+arriving-right : AllRight (arrivingCases ++ summaryCases)
+unfolding everything
+arriving-right = (refl, (refl, (refl, (refl, (refl, (refl, summaries-right))))))
+
+privates-right : AllRight (privateCases ++ (arrivingCases ++ summaryCases))
 unfolding everything
 privates-right = (refl, (refl, (refl, (refl, (refl, (refl, (refl, (refl, (refl, (refl, (refl, arriving-right)))))))))))
 
-rewriting-right : AllRight (rewritingCases ++ (privateCases ++ arrivingCases))
+rewriting-right : AllRight (rewritingCases ++ (privateCases ++ (arrivingCases ++ summaryCases)))
 unfolding everything
 rewriting-right = (refl, (refl, (refl, (refl, (refl, (refl, (refl, (refl, privates-right))))))))
 

@@ -9,10 +9,15 @@ use Rattle.table.specs.Causes.{formalsInside, definitionInside, entryInside, no
 use Rattle.table.specs.Causes.{rootNodes, newChildren, nextNodes, ownedOnce, childrenAbove, consecutive, shapeRight}
 use Rattle.table.specs.Causes.{newNames, receivedNames, formalNames, boundRight, bindingRight, usable, branchScoped, nodeScoped, scopeRight}
 use Rattle.table.specs.Causes.{entryRight, callRightIn, callRight, callsRight}
-use Rattle.net.specs.Image.{headerRight, recordRight}
+use Rattle.net.specs.Image.{headerRight, recordRight, recordsRight}
 use Rattle.net.specs.Net.{recordsFrom, encode, isAscending}
 use Rattle.net.specs.Firing as Firing
 use Rattle.net.specs.Firing.{isMarking, isEnabled, hasContact, step, inTurn, initialMarking, searchFrom, lowestEnabled, runFrom}
+use Rattle.summary.specs.Sets as Sets
+use Rattle.summary.specs.Sets.{hasBit, isIn, packed}
+use Rattle.summary.specs.Summary as Summaries
+use Rattle.summary.specs.Summary.{unmarked, summaryOf, workedOut}
+use Rattle.summary.specs.Calls.{makeSummary, fireWith}
 use Rattle.places.specs.Values.{valuesOf, privateValuesOf, shares}
 use Rattle.places.specs.Held.{largest, heldCounts, mostHeld, privateCount}
 use Rattle.places.specs.Reach.{overlaps, isSent, passes, isPassed, comes, tabled, look, isNew, rounds, reachTable, valuesFor}
@@ -67,6 +72,10 @@ unfolding recordsFrom encode isAscending headerRight recordRight isMarking isEna
     Firing.fire Firing.replay searchFrom lowestEnabled runFrom Firing.run
 firings = tt
 
+unfoldable pub summaries : Unit {0}
+unfolding recordsRight hasBit isIn packed Sets.wordsOf unmarked summaryOf workedOut Summaries.shares makeSummary fireWith
+summaries = tt
+
 unfoldable pub readings : Unit {0}
 unfolding States.put stateWords place noted valueWords answered marked has spots values configuration standsForState readBack stateShown readOutcome
 readings = tt
@@ -82,5 +91,5 @@ texts = tt
 
 -- all of them
 unfoldable pub everything : Unit {0}
-unfolding lists decoding kinds shapes scopes nets firings readings rewritings texts
+unfolding lists decoding kinds shapes scopes nets firings summaries readings rewritings texts
 everything = tt

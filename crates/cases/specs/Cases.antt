@@ -1,5 +1,5 @@
--- The starred cases of document 01 (Table E and its listing), a definition that calls itself, the number of private values and the values that can arrive
--- (document 02, Items 1, 3 and 4), as one table, and what is asked in each, by the definitions that the promises cite.
+-- The starred cases of document 01 (Table E and its listing), a definition that calls itself, the number of private values, the values that can arrive and
+-- summaries (document 02, Items 1, 3, 4 and 5), as one table, and what is asked in each, by the definitions that the promises cite.
 use mathlib.Core.Path.{_≡_}
 use mathlib.Core.Option.{Option, none, some}
 use mathlib.Core.List.{List, [], _∷_, _++_}
@@ -8,8 +8,11 @@ use lib.ListN.{take, replicate}
 use Rattle.lists.specs.Lists.{flat}
 use Rattle.scheme.specs.Scheme.{scheme}
 use Rattle.table.specs.Causes.{cause}
+use Rattle.net.specs.Image.{transitionCount}
 use Rattle.net.specs.Firing as Firing
 use Rattle.net.specs.Firing.{Ending, limitReached, nothingEnabled, initialMarking}
+use Rattle.summary.specs.Summary.{summary, setLength, summaryOf}
+use Rattle.summary.specs.Calls.{makeSummary, fireWith}
 use Rattle.places.specs.Reach.{valuesFor}
 use Rattle.places.specs.Places as Places
 use Rattle.places.specs.Places.{Place, equals, differs, free, control}
@@ -21,7 +24,7 @@ use Rattle.print.specs.Program.{programText}
 
 -- what is asked of a table: its cause; a build into so many words; a firing after others from the initial marking; reading back after firings, into four
 -- words; a run from the initial marking, with its limit and the words of its history; a rewriting into so many words; what a node or a branch of the
--- rewritten table was; what the listing program prints; its N; the places of its net
+-- rewritten table was; what the listing program prints; its N; the places of its net; the summary of the initial marking; a firing with that summary
 pub data Question : Type 0 where
   checks : Question
   builds : ℕ → Question
@@ -34,9 +37,11 @@ pub data Question : Type 0 where
   lists : Question
   privates : Question
   places : Question
+  summarises : Question
+  keeps : ℕ → Question
 
 -- a cause, 0 for none, or another number; a cause with the words of the lent buffer afterwards; a run's reason, count and history; a cause and the number read
--- back, if any; a text; places in order
+-- back, if any; a text; places in order; a cause with the counts and the set of a summary afterwards, and with the marking too
 pub data Reply : Type 0 where
   number : ℕ → Reply
   buffer : ℕ → List ℕ → Reply
@@ -44,6 +49,8 @@ pub data Reply : Type 0 where
   was : ℕ → Option ℕ → Reply
   text : List ℕ → Reply
   listed : List Place → Reply
+  summed : ℕ → List ℕ → List ℕ → Reply
+  kept : ℕ → List ℕ → List ℕ → List ℕ → Reply
 
 -- the bytes of a table file, the low byte of each word first
 abbrev pub bytesOf : List ℕ → List ℕ
@@ -65,6 +72,14 @@ module _ (w : List ℕ) where
   reply lists = text (programText (bytesOf w))
   reply privates = number (valuesFor (scheme w) .privates)
   reply places = listed (Places.places (scheme w) (valuesFor (scheme w)))
+  reply summarises =
+      let n = transitionCount (imageOf w) in
+      let o = makeSummary (imageOf w) (initialMarking (imageOf w)) (summary (replicate n 0) (replicate (setLength (imageOf w)) 0)) in
+      summed (o .cause) (o .left .counts) (o .left .enabled)
+  reply (keeps n) =
+      let m = initialMarking (imageOf w) in
+      let o = fireWith (imageOf w) m (summaryOf (imageOf w) m) n in
+      kept (o .cause) (o .marking) (o .left .counts) (o .left .enabled)
 
 -- a table's words, what is asked of it, and the answer
 pub record Case : Type 0 where
@@ -218,6 +233,14 @@ arrivingCases =
     ∷ control 1 1 ∷ control 1 2 ∷ control 2 0 ∷ control 3 0 ∷ control 3 1 ∷ []))
     ∷ []
 
+-- what can be done next (document 02, Item 5): at first 0 and 1 are enabled; after 0 it is 6 alone
+abbrev pub summaryCases : List Case
+summaryCases =
+    case tableE summarises (summed 0 (0 ∷ 0 ∷ 2 ∷ 2 ∷ 2 ∷ 2 ∷ 2 ∷ 2 ∷ []) (3 ∷ []))
+    ∷ case tableE (keeps 0) (kept 0 (1 ∷ 0 ∷ 0 ∷ 0 ∷ 1 ∷ 1 ∷ 0 ∷ 1 ∷ 0 ∷ 1 ∷ 0 ∷ 0 ∷ 1 ∷ 0 ∷ 0 ∷ []) (2 ∷ 1 ∷ 1 ∷ 2 ∷ 2 ∷ 2 ∷ 0 ∷ 1 ∷ []) (64 ∷ []))
+    ∷ case tableE (keeps 6) (kept 15 (0 ∷ 0 ∷ 0 ∷ 0 ∷ 1 ∷ 1 ∷ 1 ∷ 1 ∷ 1 ∷ 0 ∷ 0 ∷ 0 ∷ 1 ∷ 0 ∷ 0 ∷ []) (0 ∷ 0 ∷ 2 ∷ 2 ∷ 2 ∷ 2 ∷ 2 ∷ 2 ∷ []) (3 ∷ []))
+    ∷ []
+
 -- all of them: those of document 01, then the others
 abbrev pub cases : List Case
 cases =
@@ -245,7 +268,7 @@ cases =
     -- "Run from the initial marking with limit 5 and 5 history words: 0 7 2 5, count 4, nothing enabled; limit 4: limit reached.": 0 6 2 4 by the new numbers
     ∷ case tableE (runs 5 5) (ran nothingEnabled 4 (0 ∷ 6 ∷ 2 ∷ 4 ∷ []))
     ∷ case tableE (runs 4 5) (ran limitReached 4 (0 ∷ 6 ∷ 2 ∷ 4 ∷ []))
-    ∷ rewritingCases ++ privateCases ++ arrivingCases
+    ∷ rewritingCases ++ (privateCases ++ (arrivingCases ++ summaryCases))
 
 -- every case has its answer
 abbrev pub AllRight : List Case → Type 0

@@ -7,6 +7,7 @@ use mathlib.Core.Logic.{_⊎_, inl, inr}
 use mathlib.Core.Bool.{Bool, true, false, not, _&&_, _||_}
 use mathlib.Core.List.{List, [], _∷_, _++_}
 use native.Mathlib.Omega.{arith}
+use lib.Dec.{ltb}
 use lib.ListN.{length, take}
 use lib.Seq.{take-length}
 use Rattle.lists.specs.Lists.{pick, same, every}
@@ -18,13 +19,17 @@ use Rattle.process.specs.States.{State, start}
 use Rattle.process.specs.Steps.{Step, isOpen}
 use Rattle.net.specs.Firing as Firing
 use Rattle.net.specs.Firing.{Outcome, outcome, RunOutcome, made, refused, step, inTurn, runFrom, initialMarking, isMarking}
+use Rattle.net.specs.Image.{placeCount, transitionCount, headerRight, recordsRight}
 use Rattle.net.specs.Net.{Net, encode}
 use Rattle.net.proofs.Steps.{turn-last, turn-refused, marking-length}
 use Rattle.net.proofs.Outcomes.{turn-first, turn-keeps, run-in-turn, run-count}
 use Rattle.net.proofs.Built.{initial-is-marking, fire-built, replay-built, run-built}
+use Rattle.summary.specs.Summary.{Summary, shares, workedOut}
+use Rattle.summary.specs.Calls as Keeping
+use Rattle.summary.specs.Calls.{lengthsRight, KeepOutcome, keeps}
 use Rattle.places.specs.Image.{netOf, imageOf}
 use Rattle.readback.specs.Configurations.{Configuration}
-use Rattle.fidelity.specs.Calls.{Call, fire, run, replay, Answer, Plain, ofOutcome, ofRun, endingCause, advances, begun, makes, hears}
+use Rattle.fidelity.specs.Calls.{Call, fire, fireWith, run, replay, Answer, Plain, ofOutcome, ofRun, endingCause, advances, begun, makes, hears}
 use Rattle.fidelity.specs.Calls.{leavesAll, World, calledOn, after, world}
 use Rattle.fidelity.specs.Demand.{lawful, rowsWithin}
 use Rattle.fidelity.specs.Inner.Standing.{markingOf, Stands}
@@ -149,6 +154,43 @@ module _ (w : List ℕ) (A : Accepted (scheme w)) where
               kept cause (inl x) p = rw (same-no cause 0 (λ y. absurd (omega arith))) p
               kept cause (inr x) p = rw (same-no cause 0 (λ y. absurd (omega arith))) p
 
+  -- ---- firings with a summary, which decide by the marking: refused before they come to the transition, or made or refused as the firing is
+
+  refused-played : (v : World) → Played v → (k cause : ℕ) → (cause ≡ 0 → ⊥) → (cause ≡ 16 → ⊥) → Played (firedBy v k (outcome cause 0 (v .marking)))
+  refused-played v P k cause z h =
+      rw (same-no cause 0 z) (none-made v P (ofOutcome (outcome cause 0 (v .marking)) .answer) (ap not (same-no cause 16 h)))
+
+  kept-played : (v : World) → Played v → (s : Summary) (k : ℕ) → Played (calledOn w (image w) v (fireWith s k))
+  unfolding Keeping.fireWith
+  kept-played v P s k =
+      go (not (headerRight (image w))) (not (isMarking (placeCount (image w)) (v .marking))) (not (lengthsRight (image w) s))
+      (not (ltb k (transitionCount (image w)))) (not (recordsRight (image w))) (step (image w) (v .marking) k) refl
+    where
+      last : Firing.Step → KeepOutcome
+      last r = elim r [
+        | made next ↦ keeps 0 1 next (workedOut (image w) (shares (image w) k) next s)
+        | refused cause ↦ keeps cause 0 (v .marking) s
+      ]
+
+      tests : Bool → Bool → Bool → Bool → Bool → Firing.Step → KeepOutcome
+      tests a b c d e r =
+          pick a (keeps 11 0 (v .marking) s) (pick b (keeps 13 0 (v .marking) s) (pick c (keeps 20 0 (v .marking) s)
+          (pick d (keeps 14 0 (v .marking) s) (pick e (keeps 12 0 (v .marking) s) (last r)))))
+
+      kept : KeepOutcome → Outcome
+      kept o = outcome (o .cause) (o .firings) (o .marking)
+
+      go : (a b c d e : Bool) (r : Firing.Step) → step (image w) (v .marking) k ≡ r → Played (firedBy v k (kept (tests a b c d e r)))
+      go true b c d e r q = refused-played v P k 11 (λ x. omega arith) (λ x. omega arith)
+      go false true c d e r q = refused-played v P k 13 (λ x. omega arith) (λ x. omega arith)
+      go false false true d e r q = refused-played v P k 20 (λ x. omega arith) (λ x. omega arith)
+      go false false false true e r q = refused-played v P k 14 (λ x. omega arith) (λ x. omega arith)
+      go false false false false true r q = refused-played v P k 12 (λ x. omega arith) (λ x. omega arith)
+      go false false false false false (made x) q =
+          subst (λ (o : Outcome). Played (firedBy v k o)) (turn-last (image w) (v .marking) k x q) (fired-played v P k)
+      go false false false false false (refused j) q =
+          subst (λ (o : Outcome). Played (firedBy v k o)) (turn-refused (image w) (v .marking) k [] j q) (fired-played v P k)
+
   -- ---- runs
 
   abbrev ranBy : World → RunOutcome → World
@@ -219,6 +261,7 @@ module _ (w : List ℕ) (A : Accepted (scheme w)) where
 
   called-played : (v : World) → Played v → (c : Call) → Played (calledOn w (image w) v c)
   called-played v P (fire k) = subst (λ (o : Outcome). Played (firedBy v k o)) (sym (fire-turn v P k)) (fired-played v P k)
+  called-played v P (fireWith s k) = kept-played v P s k
   called-played v P (run limit room) = subst (λ (r : RunOutcome). Played (ranBy v r)) (sym (run-turn v P limit room)) (ran-played v P limit room)
   called-played v P (replay ks) = subst (λ (o : Outcome). Played (replayedBy v ks o)) (sym (replay-turn v P ks)) (replayed-played v P ks)
 

@@ -23,9 +23,8 @@ use Rattle.rewriting.specs.Outcomes.{rewriteCause}
 use Rattle.rewriting.specs.Sequences.{takeAll, openInTurn, readStep}
 use Rattle.rewriting.proofs.Answering.{OpenReading}
 use Rattle.rewriting.proofs.Theorem.{open-read, rewrites}
-use Rattle.fidelity.specs.Calls.{Call, fire, run, replay, Answer, Plain, begun, World, leavesAll, perform, stepAt, isQuiet, advance, advances, makes}
-use Rattle.fidelity.specs.Calls.{hears}
-use Rattle.fidelity.specs.Calls.{calledOn, after, world}
+use Rattle.fidelity.specs.Calls.{Call, fire, fireWith, run, replay, Answer, Plain, begun, World, leavesAll, perform, stepAt, isQuiet, advance}
+use Rattle.fidelity.specs.Calls.{advances, makes, hears, calledOn, after, world}
 use Rattle.fidelity.specs.Demand.{isAccepted, lawful, CanFire, Demand3}
 use Rattle.fidelity.specs.SelfCalls.{shown, collegeSteps, CollegeAllows, ShownBy, SameShown}
 use Rattle.fidelity.proofs.Theorem.{demand3}
@@ -116,6 +115,11 @@ module _ (v image : List ℕ) where
 
   hears-follows : (p : Plain) (c : Call) (a : Answer) → Follows p → Follows (hears v image p c a)
   hears-follows p (fire k) a h = go (same (a .cause) 0)
+    where
+      go : (b : Bool) → Follows (pick b (makes v image p (k ∷ [])) p)
+      go true = makes-follows p (k ∷ []) h
+      go false = h
+  hears-follows p (fireWith s k) a h = go (same (a .cause) 0)
     where
       go : (b : Bool) → Follows (pick b (makes v image p (k ∷ [])) p)
       go true = makes-follows p (k ∷ []) h

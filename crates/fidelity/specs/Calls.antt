@@ -12,11 +12,15 @@ use Rattle.process.specs.Steps.{Step}
 use Rattle.process.specs.Labels.{stepOf}
 use Rattle.net.specs.Image.{labelAt, isBookkeeping}
 use Rattle.net.specs.Firing as Firing
-use Rattle.net.specs.Firing.{Outcome, RunOutcome, Ending, limitReached, historyFull, nothingEnabled, stopped, initialMarking}
+use Rattle.net.specs.Firing.{Outcome, outcome, RunOutcome, Ending, limitReached, historyFull, nothingEnabled, stopped, initialMarking}
+use Rattle.summary.specs.Summary.{Summary}
+use Rattle.summary.specs.Calls as Keeping
+use Rattle.summary.specs.Calls.{KeepOutcome}
 
--- a firing by number, a run with its limit and the length of its history, a replay with its numbers
+-- a firing by number, alone or with a summary that is lent, a run with its limit and the length of its history, a replay with its numbers
 pub data Call : Type 0 where
   fire : ℕ → Call
+  fireWith : Summary → ℕ → Call
   run : ℕ → ℕ → Call
   replay : List ℕ → Call
 
@@ -43,6 +47,10 @@ endingCause (stopped cause) = cause
 abbrev pub ofOutcome : Outcome → Result
 ofOutcome o = result (o .cause) (o .firings) [] (o .marking)
 
+-- what it leaves of the summary is not told
+abbrev pub ofKeep : KeepOutcome → Result
+ofKeep k = ofOutcome (outcome (k .cause) (k .firings) (k .marking))
+
 abbrev pub ofRun : RunOutcome → Result
 ofRun r = result (endingCause (r .reason)) (r .firings) (r .history) (r .marking)
 
@@ -66,9 +74,10 @@ leavesAll cause = same cause 11 || same cause 13
 
 -- a table's words and an image's
 module _ (w image : List ℕ) where
-  -- a call on the image, by the definitions that the promises of net::fire, net::run and net::replay cite
+  -- a call on the image, by the definitions that the promises of net::fire, summary::fire, net::run and net::replay cite
   abbrev pub perform : List ℕ → Call → Result
   perform marking (fire number) = ofOutcome (Firing.fire image marking number)
+  perform marking (fireWith summary number) = ofKeep (Keeping.fireWith image marking summary number)
   perform marking (run limit room) = ofRun (Firing.run image marking limit room)
   perform marking (replay numbers) = ofOutcome (Firing.replay image marking numbers)
 
@@ -94,10 +103,12 @@ module _ (w image : List ℕ) where
   makes p numbers = record { state = advances (p .state) numbers; made = p .made ++ numbers }
 
   -- "It is fed, call by call, the numbers given, the answer and the words a run wrote, never the marking."
-  -- "firing…: its number, or none if refused"; "run: its history's first words, as many as its count"; "replay: back to the starting state and no firings made,
-  -- then all its numbers, or, stopped, as many first ones as it answers"; "a call refused by a cause that leaves all buffers: no change"
+  -- "firing, also in the forms of document 02: its number, or none if refused"; "run: its history's first words, as many as its count"; "replay: back to the
+  -- starting state and no firings made, then all its numbers, or, stopped, as many first ones as it answers"; "a call refused by a cause that leaves all
+  -- buffers: no change"
   abbrev pub hears : Plain → Call → Answer → Plain
   hears p (fire number) a = pick (same (a .cause) 0) (makes p (number ∷ [])) p
+  hears p (fireWith summary number) a = pick (same (a .cause) 0) (makes p (number ∷ [])) p
   hears p (run limit room) a = makes p (take (a .firings) (a .written))
   hears p (replay numbers) a = pick (leavesAll (a .cause)) p (makes (begun w) (take (a .firings) numbers))
 

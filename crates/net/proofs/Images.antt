@@ -2,18 +2,19 @@
 use mathlib.Core.Path.{_≡_, refl, sym, ap, subst, _∙_}
 use mathlib.Core.Bool.{Bool, true, false, _&&_}
 use mathlib.Core.List.{List}
-use Prim.Native.Nat.{ℕ, _+_, _*_, _≤_, _<_}
+use Prim.Native.Nat.{ℕ, _+_, _*_, _-_, _≤_, _<_}
 use native.Mathlib.Omega.{arith}
 use lib.Dec.{leb}
 use lib.ListN.{length}
 use lib.Seq.{slice}
 use borrow.Author.Tests.{le-leb, lt-leb, leb-true}
-use Rattle.lists.specs.Lists.{pick, same, word, ascends}
+use Rattle.lists.specs.Lists.{pick, same, word, from, every, ascends}
 use Rattle.lists.proofs.Tests.{and-left, and-right, same-yes, same-no, same-true, true-or-false, went-first, went-second}
+use Rattle.lists.proofs.Ranges.{every-start, every-below}
 use Rattle.net.specs.declared.Record.{Record}
 use Rattle.net.specs.declared.Record.the-variants.{Arcs, Wrong}
-use Rattle.net.specs.Image.{placeCount, initialTokens, recordsStart, arcsStart, lengthGiven, initialPlaces, headerRight}
-use Rattle.net.specs.Image.{inputsStart, outputsStart, outputsEnd, inputsAt, outputsAt, recordRight}
+use Rattle.net.specs.Image.{placeCount, transitionCount, initialTokens, recordsStart, arcsStart, lengthGiven, initialPlaces, headerRight}
+use Rattle.net.specs.Image.{inputsStart, outputsStart, outputsEnd, inputsAt, outputsAt, recordRight, recordsRight}
 use Rattle.net.specs.Inner.Arcs.{Header, decoded, Listed, Offsets}
 
 -- ---- the header, test by test
@@ -204,3 +205,13 @@ was-right w t f c e p =
 
 pub listed-for : (w : List ℕ) (f c n k : ℕ) → k ≡ n → Listed w f c n → Listed w f c k
 listed-for w f c n k e l = record { ordered = l .ordered; within = l .within; rising = ap (λ (x : ℕ). ascends x 0 (slice f c w)) e ∙ l .rising }
+
+-- ---- all records
+
+pub all-records : (w : List ℕ) → recordsRight w ≡ every (recordRight w) (from 0 (transitionCount w - 0))
+unfolding recordsRight
+all-records w = every-start (recordRight w) (transitionCount w)
+
+pub record-of : (w : List ℕ) → recordsRight w ≡ true → (t : ℕ) → t < transitionCount w → recordRight w t ≡ true
+unfolding recordsRight
+record-of w h t l = every-below (recordRight w) (transitionCount w) h t l

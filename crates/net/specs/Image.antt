@@ -6,7 +6,7 @@ use Prim.Native.Nat.{ℕ, _+_, _*_}
 use lib.Dec.{leb}
 use lib.ListN.{length}
 use lib.Seq.{slice}
-use Rattle.lists.specs.Lists.{same, word, ascends}
+use Rattle.lists.specs.Lists.{same, word, range, every, ascends}
 
 -- "Header: places, transitions, input arcs, output arcs, initial tokens m, …" (document 01, Net image and firing)
 abbrev pub placeCount : List ℕ → ℕ
@@ -96,3 +96,7 @@ recordRight image transition =
     && (leb (outputsEnd image transition) (length image)
     && (ascends (placeCount image) 0 (inputsAt image transition)
     && ascends (placeCount image) 0 (outputsAt image transition)))
+
+-- "check every record for 12" (document 02, Item 5)
+unfoldable pub recordsRight : List ℕ → Bool
+recordsRight image = every (recordRight image) (range (transitionCount image))

@@ -1,5 +1,6 @@
 // Net images: firing by number, looking at what a firing would leave, replay and run on any image, also a foreign one.
-ghost use mathlib.Core.Bool.{true};
+// The tests of an image and of a marking are for the crates above too.
+ghost use mathlib.Core.Bool.{true, _&&_};
 ghost use mathlib.Core.Path.{_≡_};
 ghost use mathlib.Core.List.{[], _∷_, _++_};
 ghost use Prim.Native.Nat.{ℕ, _<_, _≤_};
@@ -7,6 +8,7 @@ ghost use lib.ListN.{length, drop, replicate};
 ghost use lib.Seq.{slice};
 ghost use Rattle.lists.specs.Lists.{ascends};
 ghost use Rattle.net.specs.Image.{placeCount, transitionCount, lengthGiven, headerRight, inputsAt, recordRight};
+ghost use Rattle.net.specs.Image.{recordsRight};
 ghost use Rattle.net.specs.Firing.{isMarking, isEnabled, hasContact, put, moved, initialMarking};
 ghost use Rattle.net.specs.Firing.{step, inTurn, fire, replay, runFrom, run};
 ghost use Rattle.net.specs.Looking.{shown, look};
@@ -93,6 +95,26 @@ fn rising(words: &[u32], start: usize, end: usize, places: usize) -> bool
     false
 }
 
+// The same, of a list that is short, as a transition's are: it is left at the first word that does not rise. A long one
+// is looked over faster by wide steps, which `rising` allows.
+fn rising_short(words: &[u32], start: usize, end: usize, places: usize) -> bool
+    requires { ⌜ end ≤ length (now words) ⌝ }
+    ensures { λ r. ⌜ r ≡ ascends places 0 (slice start end (now (words .entry))) ⌝ }
+{
+    if end <= start {
+        return true;
+    }
+    let last = end - 1;
+    let mut i = start;
+    while i < last {
+        if words[i + 1] <= words[i] {
+            return false;
+        }
+        i += 1;
+    }
+    (words[last] as usize) < places
+}
+
 // Where the arcs start: 8+m+6t.
 fn arcs_start(image: &[u32]) -> usize
     requires { ⌜ 8 ≤ length (now image) ⌝ }
@@ -115,7 +137,7 @@ fn length_given(image: &[u32], arcs: usize) -> usize
 
 // Whether header, length and initial list are right. The sums are of 32-bit words, so 64 bits hold them; counts that
 // the length does not bear out are refused before any list is walked.
-fn header_right(image: &[u32]) -> bool
+pub fn header_right(image: &[u32]) -> bool
     ensures { λ r. ⌜ r ≡ headerRight (now (image .entry)) ⌝ }
 {
     if image.len() < 8 {
@@ -179,13 +201,31 @@ fn record_at(image: &[u32], transition: usize, known: bool) -> Record
     if image.len() < end {
         return Record::Wrong;
     }
-    if !rising(image, inputs, outputs, places) {
+    if !rising_short(image, inputs, outputs, places) {
         return Record::Wrong;
     }
-    if !rising(image, outputs, end, places) {
+    if !rising_short(image, outputs, end, places) {
         return Record::Wrong;
     }
     Record::Arcs(inputs, outputs, end)
+}
+
+// Whether the header and every record are right.
+pub fn records_right(image: &[u32]) -> bool
+    ensures { λ r. ⌜ r ≡ (headerRight (now (image .entry)) && recordsRight (now (image .entry))) ⌝ }
+{
+    if !header_right(image) {
+        return false;
+    }
+    let count = image[1] as usize;
+    let mut transition = 0;
+    while transition < count {
+        let Record::Arcs(_, _, _) = record_at(image, transition, false) else {
+            return false;
+        };
+        transition += 1;
+    }
+    true
 }
 
 // Whether the list has a byte for each place, none above 1: the highest byte tells.

@@ -5,6 +5,9 @@ use net::Cause;
 use net::Firing;
 use net::Looked;
 use net::Reason;
+use summary::Found;
+use summary::Kept;
+use summary::Made;
 
 // A cause's number, or 0, and what was counted or read back.
 pub struct Outcome(pub usize, pub usize);
@@ -84,6 +87,32 @@ pub fn of_look(looked: Looked) -> Outcome {
         Looked::Done(count) => Outcome(0, count),
         Looked::Refused(cause) => Outcome(of_net(cause), 0),
         Looked::NoRoom => Outcome(10, 0),
+    }
+}
+
+// What making a summary answered.
+pub fn of_made(made: Made) -> Outcome {
+    match made {
+        Made::Done(count) => Outcome(0, count),
+        Made::Refused(cause) => Outcome(of_net(cause), 0),
+        Made::NoRoom => Outcome(10, 0),
+    }
+}
+
+// The number of the cause of a firing with a summary or of a check, or 0.
+pub fn of_kept(kept: Kept) -> usize {
+    match kept {
+        Kept::Done => 0,
+        Kept::Refused(cause) => of_net(cause),
+        Kept::SummaryWrong => 20,
+    }
+}
+
+// Whether a set has a lowest, 1 or 0, and which.
+pub fn of_found(found: Found) -> Outcome {
+    match found {
+        Found::At(word, bit) => Outcome(1, word % 1125899906842624 * 64 + bit as usize),
+        Found::Nothing => Outcome(0, 0),
     }
 }
 

@@ -1,4 +1,4 @@
-// Requests that set the table, the image, the marking or the state.
+// Requests that set the table, the image, the marking, the state or a summary.
 use crate::line::Request;
 use crate::line::byte;
 use crate::line::half;
@@ -31,7 +31,7 @@ fn change_of(request: Request, held: usize, most: usize) -> Change {
                 first: 4096,
             }
         }
-        b'i' | b'm' | b'y' => {
+        b'i' | b'm' | b'y' | b'd' | b'n' => {
             let length = least(held, most);
             Change {
                 length: length,
@@ -88,6 +88,18 @@ pub fn set32(fields: &[usize], first: usize, words: &mut [u32], from: usize, to:
     }
 }
 
+// Sets the words from `from` to `to`, as far as there are any, to the fields from `first` on.
+fn set64(fields: &[usize], first: usize, words: &mut [u64], from: usize, to: usize) {
+    let end = least(to, words.len());
+    let mut field = first;
+    let mut i = from;
+    while i < end {
+        words[i] = number_at(fields, field) as u64;
+        field = std::num::wrapping_add_usize(field, 1);
+        i += 1;
+    }
+}
+
 // w, j, i: the image's words, its length, or one of its words.
 pub fn image(request: Request, fields: &[usize], mut sizes: Sizes, image: &mut [u32]) -> Sizes {
     let change = change_of(request, sizes.image, image.len());
@@ -112,6 +124,22 @@ pub fn state(request: Request, fields: &[usize], mut sizes: Sizes, state: &mut [
     set16(fields, change.first, state, change.from, change.to);
     text::number(change.length);
     sizes.state = change.length;
+    sizes
+}
+
+// d: one of the counts.
+pub fn counts(request: Request, fields: &[usize], sizes: Sizes, counts: &mut [u32]) -> Sizes {
+    let change = change_of(request, sizes.counts, counts.len());
+    set32(fields, change.first, counts, change.from, change.to);
+    text::number(change.length);
+    sizes
+}
+
+// n: one of the words of the set.
+pub fn enabled(request: Request, fields: &[usize], sizes: Sizes, enabled: &mut [u64]) -> Sizes {
+    let change = change_of(request, sizes.enabled, enabled.len());
+    set64(fields, change.first, enabled, change.from, change.to);
+    text::number(change.length);
     sizes
 }
 

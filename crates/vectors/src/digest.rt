@@ -73,3 +73,24 @@ pub fn of_words(words: &[u32], count: usize) -> Digest {
     }
     digest
 }
+
+// Word i of a list of 64-bit words, 0 past its end.
+pub fn long_at(words: &[u64], i: usize) -> usize {
+    if i < words.len() {
+        return words[i] as usize;
+    }
+    0
+}
+
+// The digest of the first 64-bit words.
+pub fn of_longs(words: &[u64], count: usize) -> Digest {
+    let mut digest = empty();
+    let mut i: usize = 0;
+    while i < count {
+        let long = long_at(words, i);
+        digest = joined_word(digest, long % 4294967296);
+        digest = joined_word(digest, long / 4294967296);
+        i += 1;
+    }
+    digest
+}

@@ -2,8 +2,8 @@
 //
 // Standard input has a request on each line: a letter, then decimal numbers, a space before each; its first 1,048,576
 // bytes are read, and each line that ends there is answered. The answer is a line: the request's letter, then numbers
-// and lists, a space before each. What requests make is kept for those after them: a table, an image, a marking, state
-// words and the history of the latest run, all empty at first.
+// and lists, a space before each. What requests make is kept for those after them: a table, an image, a marking, the
+// counts and the set of a summary, state words and the history of the latest run, all empty at first.
 //
 //   request           what is done                                            answer
 //   t word..          the table is these words, and is checked                cause
@@ -17,6 +17,12 @@
 //   m index byte      a byte of the marking is set; nothing past its end      its length
 //   f number          fires                                                   cause, marking
 //   e number room     looks at a firing into room bytes                       cause, bytes written, the room bytes
+//   c counts set      makes the marking's summary in so many words of each    cause, transitions, counts, set
+//   d index word      a count is set; nothing past the end                    how many counts there are
+//   n index word      a word of the set is set; nothing past its end          its length
+//   F number          fires with counts and set                               cause, marking, counts, set
+//   K                 checks counts and set                                   cause
+//   L                 finds the lowest and the number of the set as it is     1 or 0, lowest, number
 //   r number..        replays these numbers                                   cause, firings, marking
 //   h count           replays the first words of the history                  cause, firings, marking
 //   u limit room      runs, with a history of room words                      cause, reason, firings, history, marking
@@ -32,13 +38,14 @@
 // A cause is its number, or 0. A reason is 1 for limit reached, 2 for history full, 3 for nothing enabled, 0 with a
 // cause. A kind of the request a, taken modulo 3, is 0 for a node, 1 for a branch, 2 for a name. What a refusal does
 // not count or read back is 0. After b the image is the words written, none if it was refused; after g, s and k the
-// state is the words written, and stays as it was if they were refused; after e, v and a nothing is changed. What is
-// lent to be written is first filled with 170 (bytes), 43690 (16-bit words) or 2863311530 (32-bit words).
+// state is the words written, and stays as it was if they were refused; after c the counts and the set are the words
+// lent, also if it was refused; after e, v and a nothing is changed. What is lent to be written is first filled with
+// 170 (bytes), 43690 (16-bit words), 2863311530 (32-bit words) or 12297829382473034410 (64-bit words).
 //
-// There is room for 4,096 words of a table, 131,072 of an image, 32,768 bytes of a marking and of a look, 64 words of
-// a state, 4,096 of a history and of labels, and 4,095 numbers of a request: more than that is not kept or lent.
-// Numbers of a request have 64 bits, and are taken modulo 2^32, 2^16 or 2^8 where they become words or bytes. A
-// missing number is 0, and another letter is answered by itself alone.
+// There is room for 4,096 words of a table, 131,072 of an image, 32,768 bytes of a marking and of a look, 32,768
+// counts and 512 words of a set, 64 words of a state, 4,096 of a history and of labels, and 4,095 numbers of a
+// request: more than that is not kept or lent. Numbers of a request have 64 bits, and are taken modulo 2^32, 2^16 or
+// 2^8 where they become words or bytes. A missing number is 0, and another letter is answered by itself alone.
 //
 // A list is its length, then, if that is at most 128, `:` and its items with a space between, else `#` and the 64-bit
 // FNV-1a digest of its bytes, the low byte of each item first, in 16 hexadecimal digits.
@@ -49,6 +56,7 @@ mod line;
 mod nets;
 mod sizes;
 mod states;
+mod summaries;
 mod tables;
 mod text;
 
@@ -62,6 +70,8 @@ fn answer(
     table: &mut [u16; 4096],
     image: &mut [u32; 131072],
     marking: &mut [u8; 32768],
+    counts: &mut [u32; 32768],
+    enabled: &mut [u64; 512],
     history: &mut [u32; 4096],
     state: &mut [u16; 64],
 ) -> Sizes {
@@ -77,6 +87,12 @@ fn answer(
         b'z' => nets::size(sizes, table),
         b'f' | b'r' | b'h' => nets::play(request, fields, sizes, image, marking, history),
         b'e' => nets::look(request, sizes, image, marking),
+        b'c' => summaries::make(request, sizes, image, marking, counts, enabled),
+        b'd' => changes::counts(request, fields, sizes, counts),
+        b'n' => changes::enabled(request, fields, sizes, enabled),
+        b'F' => summaries::fire(request, sizes, image, marking, counts, enabled),
+        b'K' => summaries::check(sizes, image, marking, counts, enabled),
+        b'L' => summaries::find(sizes, enabled),
         b'u' => nets::run(request, sizes, image, marking, history),
         b'g' | b's' | b'k' => states::next(request, sizes, table, marking, state),
         b'o' => states::open_steps(request, sizes, table, state),
@@ -93,6 +109,8 @@ fn answer_lines(
     table: &mut [u16; 4096],
     image: &mut [u32; 131072],
     marking: &mut [u8; 32768],
+    counts: &mut [u32; 32768],
+    enabled: &mut [u64; 512],
     history: &mut [u32; 4096],
     state: &mut [u16; 64],
 ) {
@@ -112,6 +130,8 @@ fn answer_lines(
             table,
             image,
             marking,
+            counts,
+            enabled,
             history,
             state,
         );
@@ -125,6 +145,8 @@ fn main() {
     let mut table = [0u16; 4096];
     let mut image = [0u32; 131072];
     let mut marking = [0u8; 32768];
+    let mut counts = [0u32; 32768];
+    let mut enabled = [0u64; 512];
     let mut history = [0u32; 4096];
     let mut state = [0u16; 64];
     let count = line::read(&mut input);
@@ -134,6 +156,8 @@ fn main() {
         &mut table,
         &mut image,
         &mut marking,
+        &mut counts,
+        &mut enabled,
         &mut history,
         &mut state,
     );

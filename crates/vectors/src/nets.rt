@@ -13,7 +13,7 @@ use crate::text;
 use net::Replayed;
 
 // Fills the first `count` words, or all if there are fewer.
-fn fill32(words: &mut [u32], count: usize) {
+pub fn fill32(words: &mut [u32], count: usize) {
     let end = least(count, words.len());
     let mut i: usize = 0;
     while i < end {

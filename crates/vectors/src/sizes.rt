@@ -2,13 +2,15 @@
 ghost use Prim.Native.Nat.{_≤_};
 ghost use Rattle.io.specs.Counts.{Counts};
 
-// The lengths of the table, the image, the marking, the state and the history.
+// The lengths of the table, the image, the marking, the state, the history, and a summary's counts and set.
 pub struct Sizes {
     pub table: usize,
     pub image: usize,
     pub marking: usize,
     pub state: usize,
     pub history: usize,
+    pub counts: usize,
+    pub enabled: usize,
 }
 
 // Nothing is kept.
@@ -19,6 +21,8 @@ pub fn none() -> Sizes {
         marking: 0,
         state: 0,
         history: 0,
+        counts: 0,
+        enabled: 0,
     }
 }
 
@@ -48,6 +52,13 @@ pub fn cut16(count: usize, list: &[u16]) -> usize
 
 // How many of `count` items the list has.
 pub fn cut32(count: usize, list: &[u32]) -> usize
+    ensures { λ r. ⌜ Counts r (now (list .entry)) ⌝ }
+{
+    least(count, list.len())
+}
+
+// How many of `count` items the list has.
+pub fn cut64(count: usize, list: &[u64]) -> usize
     ensures { λ r. ⌜ Counts r (now (list .entry)) ⌝ }
 {
     least(count, list.len())

@@ -1,8 +1,10 @@
 // The text of answers, on standard output.
 use crate::causes::Outcome;
 use crate::digest::Digest;
+use crate::digest::long_at;
 use crate::digest::of_bytes;
 use crate::digest::of_halves;
+use crate::digest::of_longs;
 use crate::digest::of_words;
 use libc::STDOUT_FILENO;
 use lists::word8;
@@ -83,6 +85,21 @@ pub fn list32(list: &[u32], count: usize) {
     let mut i: usize = 0;
     while i < count {
         item(i, word32(list, i));
+        i += 1;
+    }
+}
+
+// A space and the list of the first 64-bit words.
+pub fn list64(list: &[u64], count: usize) {
+    number(count);
+    if count > 128 {
+        digest(of_longs(list, count));
+        return;
+    }
+    byte(b':');
+    let mut i: usize = 0;
+    while i < count {
+        item(i, long_at(list, i));
         i += 1;
     }
 }

@@ -2,10 +2,11 @@
 //! firing of the run again after a look at what it would leave, and reads the state back. What is a copy is shown with
 //! the number in the table that it is a copy of.
 //!
-//!     run [TABLE-FILE [LIMIT]]
+//!     run [TABLE-FILE [LIMIT [next]]]
 //!
 //! A table file has 16-bit words, low byte first. With no file it is table E, a new name sent from one thread to
-//! another; the limit is 5 firings unless it is given. Ends with 1 where the library refuses, with 2 where the program
+//! another; the limit is 5 firings unless it is given. With `next` it prints before each firing, and at the end, how
+//! many transitions are enabled and the lowest of them. Ends with 1 where the library refuses, with 2 where the program
 //! cannot do what it was asked.
 use dekohuna::Answer;
 use std::process::exit;
@@ -104,19 +105,56 @@ fn print_firing(table: &[u16], image: &[u32], number: u32) {
     );
 }
 
-/// Makes the firings of a history once more, each after a look at what it would leave, and prints them.
-fn fire_again(table: &[u16], image: &[u32], history: &[u32]) {
+/// How many transitions are enabled, and the lowest of them.
+fn print_next(enabled: &[u64]) {
+    let number = accepted(dekohuna::summary_number(enabled));
+    let lowest = dekohuna::summary_lowest(enabled);
+    if lowest.code == dekohuna::DONE {
+        println!("can be done next: {number}, the lowest is {}", lowest.value);
+    } else {
+        println!("can be done next: {number}");
+    }
+}
+
+/// Makes the firings of a history once more, each after a look at what it would leave, and prints them. A summary
+/// beside the marking tells what can be done next, which is printed if it is asked for.
+fn fire_again(table: &[u16], image: &[u32], history: &[u32], next_too: bool) {
+    let transitions = image[1] as usize;
     let mut marking = vec![0; image[0] as usize];
     let mut next = marking.clone();
+    let mut counts = vec![0; transitions];
+    let mut enabled = vec![0; transitions.div_ceil(64)];
     accepted(dekohuna::replay(image, &mut marking, &[]));
+    accepted(dekohuna::summary_make(
+        image,
+        &marking,
+        &mut counts,
+        &mut enabled,
+    ));
     for &number in history {
+        if next_too {
+            print_next(&enabled);
+        }
+        if enabled[number as usize / 64] >> (number % 64) & 1 == 0 {
+            fail("the run fired a transition that the set has not");
+        }
         accepted(dekohuna::look(image, &marking, number, &mut next));
-        accepted(dekohuna::fire(image, &mut marking, number));
+        accepted(dekohuna::summary_fire(
+            image,
+            &mut marking,
+            &mut counts,
+            &mut enabled,
+            number,
+        ));
         if marking != next {
             fail("a firing leaves another marking than the look showed");
         }
         print_firing(table, image, number);
     }
+    if next_too {
+        print_next(&enabled);
+    }
+    accepted(dekohuna::summary_check(image, &marking, &counts, &enabled));
 }
 
 fn reason(code: u8) -> &'static str {
@@ -146,7 +184,7 @@ fn print_state(table: &[u16], state: &[u16]) {
     }
 }
 
-fn run(own: &[u16], limit: usize) {
+fn run(own: &[u16], limit: usize, next_too: bool) {
     let table = rewrite(own);
     let image = build(&table);
     let (places, transitions) = (image[0], image[1]);
@@ -157,7 +195,7 @@ fn run(own: &[u16], limit: usize) {
     accepted(dekohuna::replay(&image, &mut marking, &[]));
     let mut history = vec![0; limit];
     let ran = dekohuna::run(&image, &mut marking, limit as u64, &mut history);
-    fire_again(own, &image, &history[..ran.value as usize]);
+    fire_again(own, &image, &history[..ran.value as usize], next_too);
     println!(
         "firings made: {}, {} ({})",
         ran.value,
@@ -172,8 +210,9 @@ fn run(own: &[u16], limit: usize) {
 
 fn main() {
     let arguments: Vec<String> = std::env::args().skip(1).collect();
-    if arguments.len() > 2 {
-        fail("usage: run [TABLE-FILE [LIMIT]]");
+    let next_too = arguments.get(2).is_some_and(|given| given == "next");
+    if arguments.len() > 3 || (arguments.len() == 3 && !next_too) {
+        fail("usage: run [TABLE-FILE [LIMIT [next]]]");
     }
     let limit = match arguments.get(1) {
         None => 5,
@@ -185,5 +224,5 @@ fn main() {
     let table = arguments
         .first()
         .map_or(TABLE_E.to_vec(), |path| read_table(path));
-    run(&table, limit);
+    run(&table, limit, next_too);
 }

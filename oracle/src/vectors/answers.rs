@@ -1,14 +1,18 @@
 //! The answers to requests.
 
 use crate::net::{Reason, Refusal};
+use crate::summary;
 
-/// How much is kept of a table, an image, a marking, a state and a history, and lent for labels.
+/// How much is kept of a table, an image, a marking, a state, a history and a summary, and lent for
+/// labels.
 pub const TABLE_ROOM: usize = 4096;
 pub const IMAGE_ROOM: usize = 131_072;
 pub const MARKING_ROOM: usize = 32_768;
 pub const STATE_ROOM: usize = 64;
 pub const HISTORY_ROOM: usize = 4096;
 pub const LABEL_ROOM: usize = 4096;
+pub const COUNT_ROOM: usize = 32_768;
+pub const SET_ROOM: usize = 512;
 
 /// How many numbers of a request are read.
 const NUMBERS: usize = 4095;
@@ -17,6 +21,7 @@ const NUMBERS: usize = 4095;
 const FILL_8: u8 = 0xaa;
 const FILL_16: u16 = 0xaaaa;
 const FILL_32: u32 = 0xaaaa_aaaa;
+const FILL_64: u64 = 0xaaaa_aaaa_aaaa_aaaa;
 
 /// The longest list that is written whole.
 const WHOLE: usize = 128;
@@ -40,6 +45,8 @@ pub struct Session {
     pub marking: Vec<u8>,
     pub state: Vec<u16>,
     pub history: Vec<u32>,
+    pub counts: Vec<u32>,
+    pub enabled: Vec<u64>,
 }
 
 impl Session {
@@ -117,6 +124,23 @@ impl Session {
             "k" => self.step(&numbers),
             "v" => self.rewrite(&numbers),
             "a" => self.original(&numbers),
+            "c" => self.make_summary(&numbers),
+            "d" => {
+                let count = number(&numbers, 1) as u32;
+                set(&mut self.counts, at(&numbers, 0), count);
+                vec![self.counts.len().to_string()]
+            }
+            "n" => {
+                set(&mut self.enabled, at(&numbers, 0), number(&numbers, 1));
+                vec![self.enabled.len().to_string()]
+            }
+            "F" => self.fire_with_summary(&numbers),
+            "K" => {
+                let (counts, enabled) = (&self.counts, &self.enabled);
+                let cause = summary::check(&self.image, &self.marking, counts, enabled);
+                vec![cause.to_string()]
+            }
+            "L" => self.look_at_set(),
             _ => vec![],
         };
         let start = letter.to_string();
@@ -212,6 +236,40 @@ impl Session {
         vec![cause.to_string(), original.to_string()]
     }
 
+    /// `c counts set` makes the summary in so many words of each, which are all kept.
+    fn make_summary(&mut self, numbers: &[u64]) -> Vec<String> {
+        self.counts = vec![FILL_32; at(numbers, 0).min(COUNT_ROOM)];
+        self.enabled = vec![FILL_64; at(numbers, 1).min(SET_ROOM)];
+        let (counts, enabled) = (&mut self.counts, &mut self.enabled);
+        let made = summary::make(&self.image, &self.marking, counts, enabled);
+        let answer = told(made.map(|transitions| transitions as usize));
+        let lists = vec![list32(&self.counts), list64(&self.enabled)];
+        [answer, lists].concat()
+    }
+
+    fn fire_with_summary(&mut self, numbers: &[u64]) -> Vec<String> {
+        let number = number(numbers, 0) as u32;
+        let (counts, enabled) = (&mut self.counts, &mut self.enabled);
+        let fired = summary::fire(&self.image, &mut self.marking, counts, enabled, number);
+        let cause = fired.map_or_else(|refusal| refusal.cause, |()| 0);
+        vec![
+            cause.to_string(),
+            list8(&self.marking),
+            list32(&self.counts),
+            list64(&self.enabled),
+        ]
+    }
+
+    /// `L` answers 1 and the lowest of the set, or 0 and 0, then how many it has.
+    fn look_at_set(&self) -> Vec<String> {
+        let (found, lowest) = match summary::lowest(&self.enabled) {
+            Some(lowest) => (1, lowest),
+            None => (0, 0),
+        };
+        let number = summary::number(&self.enabled);
+        vec![found.to_string(), lowest.to_string(), number.to_string()]
+    }
+
     /// The answer of a call that writes a state, which is kept unless it was refused.
     fn keep_state(&mut self, answer: Result<usize, u32>, room: &[u16]) -> Vec<String> {
         if let Ok(count) = answer {
@@ -284,6 +342,10 @@ fn list16(list: &[u16]) -> String {
 }
 
 fn list32(list: &[u32]) -> String {
+    listed(list, |word| word.to_le_bytes().to_vec())
+}
+
+fn list64(list: &[u64]) -> String {
     listed(list, |word| word.to_le_bytes().to_vec())
 }
 

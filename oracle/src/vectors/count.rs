@@ -62,7 +62,7 @@ fn found_before(session: &Session, line: &str, letter: char) -> Vec<String> {
 
 fn found_after(session: &Session, answer: &[&str], letter: char) -> Vec<String> {
     let mut found = Vec::new();
-    if "tbzferhugsokva".contains(letter) {
+    if "tbzferhugsokvacFK".contains(letter) {
         let cause = answer.get(1).unwrap_or(&"");
         found.push(format!("cause {letter} {cause:>2}"));
         found.push(format!("cause all {cause:>2}"));

@@ -54,7 +54,7 @@ pub fn play_foreign(writer: &mut Writer) {
 }
 
 /// An image whose header is right and whose transitions have any arcs.
-fn foreign(random: &mut Random) -> Vec<u32> {
+pub fn foreign(random: &mut Random) -> Vec<u32> {
     let places = random.between(0, 6);
     let transitions = random.between(0, 5);
     let initial = some_places(random, places, 50);

@@ -3,7 +3,7 @@
 
 use std::ops::Range;
 
-use super::answers::{IMAGE_ROOM, LABEL_ROOM};
+use super::answers::{Session, IMAGE_ROOM, LABEL_ROOM};
 use super::drawing::first_words;
 use super::markings::{spoil, standing};
 use super::requests::Writer;
@@ -110,6 +110,19 @@ pub fn play_table(writer: &mut Writer, words: &[u16], table: Table, calls: usize
     player.walk(steps);
 }
 
+/// The enabled transitions of the image and the marking that are kept.
+pub fn enabled(session: &Session) -> Vec<u32> {
+    let Some(image) = Image::open(&session.image) else {
+        return Vec::new();
+    };
+    let marked = |place: &u32| session.marking.get(*place as usize) == Some(&1);
+    let enabled = |&number: &u32| {
+        let arcs = image.arcs(number);
+        arcs.is_some_and(|arcs| arcs.inputs.iter().all(marked))
+    };
+    (0..image.transitions).filter(enabled).collect()
+}
+
 struct Player<'w> {
     writer: &'w mut Writer,
     table: Table,
@@ -166,16 +179,7 @@ impl Player<'_> {
     }
 
     fn enabled(&self) -> Vec<u32> {
-        let session = &self.writer.session;
-        let Some(image) = Image::open(&session.image) else {
-            return Vec::new();
-        };
-        let marked = |place: &u32| session.marking.get(*place as usize) == Some(&1);
-        let enabled = |&number: &u32| {
-            let arcs = image.arcs(number);
-            arcs.is_some_and(|arcs| arcs.inputs.iter().all(marked))
-        };
-        (0..image.transitions).filter(enabled).collect()
+        enabled(&self.writer.session)
     }
 
     /// Fires an enabled transition; where there is none, begins again.

@@ -1,11 +1,12 @@
 //! The requests: the worked cases, tables refused by each cause, accepted tables played with,
-//! foreign images, and tables whose definitions call themselves.
+//! foreign images, tables whose definitions call themselves, and summaries.
 
 use super::answers::Session;
 use super::foreign::play_foreign;
 use super::play::{play, play_dialogue, play_like, play_refused};
 use super::rewriting::play_rewriting;
 use super::shapes::SHAPES;
+use super::summaries::play_summaries;
 use super::worked::play_worked;
 use crate::generate::Shape;
 use crate::random::Random;
@@ -127,6 +128,7 @@ pub fn requests() -> String {
     }
     writer.ask('z', &[]);
     play_rewriting(&mut writer);
+    play_summaries(&mut writer);
     writer.ask('q', &[1, 2]);
     writer.text
 }

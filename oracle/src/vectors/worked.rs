@@ -6,7 +6,7 @@ use super::requests::Writer;
 use crate::generate::encode;
 
 /// Table E.
-const E: [u16; 48] = [
+pub const E: [u16; 48] = [
     1, 2, 2, 2, 5, 2, 0, 13, 15, 23, 25, 40, 48, // header
     0, 1, // names
     0, 0, 0, 0, 1, 3, 0, 0, // definitions

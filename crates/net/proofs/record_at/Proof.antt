@@ -33,8 +33,8 @@ returns-3 c =
     let s = c .before .before .before .before .before .span-of .ensures in
     decoded-wrong _ _ (past-end _ _ _ _ _ s (omega (arith, a .is, c .before .if2 .left)) (omega (arith, c .if3 .taken, s)))
 
-rising-requires : tie.Need-rising-requires
-rising-requires c κs = search needs
+rising-short-requires : tie.Need-rising-short-requires
+rising-short-requires c κs = search needs
 
 returns-4 : tie.Need-returns-4
 returns-4 c =
@@ -42,10 +42,10 @@ returns-4 c =
     decoded-wrong _ _
     (inputs-wrong _ _ _ _ _ (c .before .before .before .before .before .before .before .span-of .ensures)
     (omega (arith, a .is, c .before .before .before .if2 .left)) (c .before .before .if3 .left)
-    (sym (c .before .rising .ensures) ∙ not-true _ (c .if4 .taken)))
+    (sym (c .before .rising-short .ensures) ∙ not-true _ (c .if4 .taken)))
 
-rising-requires-2 : tie.Need-rising-requires-2
-rising-requires-2 c κs = search needs
+rising-short-requires-2 : tie.Need-rising-short-requires-2
+rising-short-requires-2 c κs = search needs
 
 returns-5 : tie.Need-returns-5
 returns-5 c =
@@ -53,8 +53,8 @@ returns-5 c =
     decoded-wrong _ _
     (outputs-wrong _ _ _ _ _ (c .before .before .before .before .before .before .before .before .before .span-of .ensures)
     (omega (arith, a .is, c .before .before .before .before .before .if2 .left)) (c .before .before .before .before .if3 .left)
-    (sym (c .before .before .before .rising .ensures) ∙ not-false _ (c .before .before .if4 .left))
-    (sym (c .before .rising2 .ensures) ∙ not-true _ (c .if5 .taken)))
+    (sym (c .before .before .before .rising-short .ensures) ∙ not-false _ (c .before .before .if4 .left))
+    (sym (c .before .rising-short2 .ensures) ∙ not-true _ (c .if5 .taken)))
 
 returns-6 : tie.Need-returns-6
 returns-6 c =
@@ -62,8 +62,8 @@ returns-6 c =
     let s = c .before .before .before .before .before .before .before .before .before .span-of .ensures in
     decoded-right _ _ _ _ _ s
     (all-right _ _ _ _ _ s (omega (arith, a .is, c .before .before .before .before .before .if2 .left)) (c .before .before .before .before .if3 .left)
-    (sym (c .before .before .before .rising .ensures) ∙ not-false _ (c .before .before .if4 .left))
-    (sym (c .before .rising2 .ensures) ∙ not-false _ (c .if5 .left)))
+    (sym (c .before .before .before .rising-short .ensures) ∙ not-false _ (c .before .before .if4 .left))
+    (sym (c .before .rising-short2 .ensures) ∙ not-false _ (c .if5 .left)))
 
 pub record-at-spec : {M : Type 1} → statement M
 record-at-spec =
@@ -76,8 +76,8 @@ record-at-spec =
     arcs-start-requires
     returns-2
     returns-3
-    rising-requires
+    rising-short-requires
     returns-4
-    rising-requires-2
+    rising-short-requires-2
     returns-5
     returns-6)

@@ -1,15 +1,16 @@
 -- `vectors::answer_lines` meets its contract. Loop: the index is at most the count. Measure: bytes left.
+use native.Mathlib.Omega.{arith}
 use borrow.Author.Needs.{needs}
 use Prim.Native.Nat.{_≤_, _-_}
 use Rattle.vectors.proofs.answer_lines.Statement.{statement}
 use Rattle.vectors.proofs.answer_lines.Tie as tie
 
 abbrev Inv-loop : tie.InvT-loop
-Inv-loop input count table₀ image₀ marking₀ history₀ state₀ sizes₀ at₀ table image marking history state sizes at =
+Inv-loop input count table₀ image₀ marking₀ counts₀ enabled₀ history₀ state₀ sizes₀ at₀ table image marking counts enabled history state sizes at =
     at ≤ count
 
 abbrev μ-loop : tie.MeasureT-loop
-μ-loop input count table₀ image₀ marking₀ history₀ state₀ sizes₀ at₀ table image marking history state sizes at =
+μ-loop input count table₀ image₀ marking₀ counts₀ enabled₀ history₀ state₀ sizes₀ at₀ table image marking counts enabled history state sizes at =
     count - at
 
 none-requires : tie.Need-none-requires Inv-loop μ-loop
@@ -40,7 +41,9 @@ byte-requires : tie.Need-byte-requires Inv-loop μ-loop
 byte-requires c κs = search needs
 
 add-at : tie.Need-add-at Inv-loop μ-loop
-add-at c = search needs
+add-at c =
+    let s = c .before .before .before .before .before .before .before .before .before .before .before .before .before .before in
+    omega (arith, s .before .end-from .ensures .1, s .if1 .left, s .before .before .before .before .before .before .fits .count)
 
 loop-less : tie.Need-loop-less Inv-loop μ-loop
 loop-less c = search needs
