@@ -1,13 +1,13 @@
 -- `net::records_right` meets its contract. Loop: all records are right exactly if those from this one on are. Measure: records left.
 use mathlib.Core.Path.{_≡_, refl, sym, ap, _∙_}
-use mathlib.Core.Bool.{Bool, _&&_, true, false}
-use Prim.Native.Nat.{ℕ, _-_, _≤_}
+use mathlib.Core.Bool.{Bool, _&&_, true}
+use Prim.Native.Nat.{_-_}
 use native.Mathlib.Omega.{arith}
 use borrow.Author.Needs.{needs}
 use borrow.Author.Tests.{not-true, not-false}
 use Rattle.lists.specs.Lists.{every, from}
 use Rattle.lists.proofs.Tests.{false-true}
-use Rattle.lists.proofs.Ranges.{every-start, every-more, every-stop, every-done}
+use Rattle.lists.proofs.Ranges.{every-more, every-stop, every-done}
 use Rattle.net.specs.Image.{headerRight, recordRight, recordsRight, transitionCount}
 use Rattle.net.proofs.Images.{header, was-right, was-wrong, all-records}
 use Rattle.net.proofs.records_right.Statement.{statement}
