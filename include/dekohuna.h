@@ -29,8 +29,9 @@
  *
  * Order of calls. Build writes the image of a table, into as many words as size tells; the image's first word counts
  * the places, so it is the length of a marking. A replay of no numbers leaves the initial marking. A firing and a run
- * start at the marking that is lent, whatever it is; a run fires the lowest enabled transition each time. A look shows
- * what a firing would leave, and fires nothing. Read tells which state a marking stands for.
+ * start at the marking that is lent, whatever it is; a run settles first: each time it fires the lowest enabled
+ * bookkeeping transition, else the lowest enabled one. A look shows what a firing would leave, and fires nothing. Read
+ * tells which state a marking stands for.
  *
  * Summaries. A summary beside a marking tells what can be done next without a search: for each transition a 32-bit
  * count of its inputs that are not marked, and a set of 64-bit words in which transition k is bit k mod 64 of word
@@ -139,13 +140,18 @@ uint64_t dekohuna_look(const uint32_t *image, size_t image_words, const uint8_t 
 uint64_t dekohuna_replay(const uint32_t *image, size_t image_words, uint8_t *marking, size_t marking_bytes,
                          const uint32_t *numbers, size_t number_count);
 
-/* Starts at the marking lent, fires the lowest enabled transition over and over, and writes the numbers to the history;
- * the value is the firings made, and just as many words of the history change. Before each firing it looks, in this
- * order, whether `limit` firings are made (200), whether the history is full (201) and whether nothing is enabled
- * (202). Causes 11 and 13 before any firing; 12 at a malformed record met in the search; 16 where the lowest enabled
- * transition has it. */
+/* Starts at the marking lent, fires the lowest enabled bookkeeping transition, else the lowest enabled one, over and
+ * over, and writes the numbers to the history; the value is the firings made, and just as many words of the history
+ * change. Before each firing it looks, in this order, whether `limit` firings are made (200), whether the history is
+ * full (201) and whether nothing is enabled (202). Causes 11 and 13 before any firing; 12 at a malformed record met in
+ * the search, which passes over all records up to an enabled bookkeeping transition; 16 where the transition to be
+ * fired has it. Bookkeeping is told by the kind in the record, 0 or 1. */
 uint64_t dekohuna_run(const uint32_t *image, size_t image_words, uint8_t *marking, size_t marking_bytes,
                       uint64_t limit, uint32_t *history, size_t history_words);
+
+/* The same by the old rule: fires the lowest enabled transition. Its search passes over the records up to that one. */
+uint64_t dekohuna_run_lowest(const uint32_t *image, size_t image_words, uint8_t *marking, size_t marking_bytes,
+                             uint64_t limit, uint32_t *history, size_t history_words);
 
 /* Writes the summary of a marking to the start of both lists; the value is the number of transitions. The marking is
  * only read. Causes 11, 13, 12 (for every record), then 10. */

@@ -20,7 +20,9 @@ pub struct Case {
     pub image: Vec<u32>,
     pub initial: Vec<u8>,
     pub limit: usize,
+    /// The numbers of a run by the lowest enabled transition, and of one that settles first.
     pub history: Vec<u32>,
+    pub settled: Vec<u32>,
     /// Places where the process can go on, spread over the history.
     pub points: Vec<Point>,
 }
@@ -72,7 +74,12 @@ impl Both<'_> {
         let (_, initial) = self.agree("replay of nothing", &marking, |engine, marking| {
             engine.replay(&image, marking, &[])
         })?;
-        let history = self.history(&image, &initial, limit)?;
+        let history = self.history(&image, &initial, limit, |engine, marking, history| {
+            engine.run_lowest(&image, marking, limit as u64, history)
+        })?;
+        let settled = self.history(&image, &initial, limit, |engine, marking, history| {
+            engine.run(&image, marking, limit as u64, history)
+        })?;
         let points = self.points(&table, &image, &initial, &history)?;
         Ok(Case {
             title,
@@ -81,6 +88,7 @@ impl Both<'_> {
             initial,
             limit,
             history,
+            settled,
             points,
         })
     }
@@ -101,13 +109,19 @@ impl Both<'_> {
     }
 
     /// The history of a run, whose marking a replay of it must give too.
-    fn history(&self, image: &[u32], initial: &[u8], limit: usize) -> Result<Vec<u32>, String> {
+    fn history(
+        &self,
+        image: &[u32],
+        initial: &[u8],
+        limit: usize,
+        run: impl Fn(&dyn Engine, &mut [u8], &mut [u32]) -> Answer,
+    ) -> Result<Vec<u32>, String> {
         let (answer, mut history) = self.agree("run", &vec![7; limit], |engine, history| {
-            engine.run(image, &mut initial.to_vec(), limit as u64, history)
+            run(engine, &mut initial.to_vec(), history)
         })?;
         history.truncate(answer.value as usize);
         let (_, run) = self.agree("run's marking", initial, |engine, marking| {
-            engine.run(image, marking, limit as u64, &mut vec![0; limit])
+            run(engine, marking, &mut vec![0; limit])
         })?;
         let (_, replayed) = self.agree("replay", initial, |engine, marking| {
             engine.replay(image, marking, &history)

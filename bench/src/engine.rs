@@ -9,6 +9,13 @@ pub trait Engine {
     fn look(&self, image: &[u32], marking: &[u8], transition: u32, next: &mut [u8]) -> Answer;
     fn replay(&self, image: &[u32], marking: &mut [u8], numbers: &[u32]) -> Answer;
     fn run(&self, image: &[u32], marking: &mut [u8], limit: u64, history: &mut [u32]) -> Answer;
+    fn run_lowest(
+        &self,
+        image: &[u32],
+        marking: &mut [u8],
+        limit: u64,
+        history: &mut [u32],
+    ) -> Answer;
     fn read(&self, table: &[u16], marking: &[u8], state: &mut [u16]) -> Answer;
     fn start(&self, table: &[u16], state: &mut [u16]) -> Answer;
     fn open_steps(&self, table: &[u16], state: &[u16], labels: &mut [u32]) -> Answer;

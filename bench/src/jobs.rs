@@ -44,7 +44,7 @@ pub const BUILD: Job = Job {
     },
 };
 
-pub const OTHERS: [Job; 9] = [
+pub const OTHERS: [Job; 10] = [
     Job {
         title: "checks",
         units: |_| 1,
@@ -60,8 +60,8 @@ pub const OTHERS: [Job; 9] = [
         },
     },
     Job {
-        title: "firings run",
-        units: |case| case.history.len(),
+        title: "firings run, settled",
+        units: |case| case.settled.len(),
         turn: |engine, case, buffers| {
             let limit = case.limit as u64;
             buffers.marking.copy_from_slice(&case.initial);
@@ -69,6 +69,18 @@ pub const OTHERS: [Job; 9] = [
                 marking, history, ..
             } = buffers;
             black_box(engine.run(&case.image, marking, limit, history));
+        },
+    },
+    Job {
+        title: "firings run, lowest",
+        units: |case| case.history.len(),
+        turn: |engine, case, buffers| {
+            let limit = case.limit as u64;
+            buffers.marking.copy_from_slice(&case.initial);
+            let Buffers {
+                marking, history, ..
+            } = buffers;
+            black_box(engine.run_lowest(&case.image, marking, limit, history));
         },
     },
     Job {

@@ -31,6 +31,16 @@ impl Engine for Library {
         dekohuna::run(image, marking, limit, history)
     }
 
+    fn run_lowest(
+        &self,
+        image: &[u32],
+        marking: &mut [u8],
+        limit: u64,
+        history: &mut [u32],
+    ) -> Answer {
+        dekohuna::run_lowest(image, marking, limit, history)
+    }
+
     fn read(&self, table: &[u16], marking: &[u8], state: &mut [u16]) -> Answer {
         dekohuna::read(table, marking, state)
     }

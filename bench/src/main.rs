@@ -62,10 +62,11 @@ fn print_method() {
 fn report(both: &Both, case: &Case) {
     println!("\n{}\n{}", case.title, counts(&case.table));
     println!(
-        "places {}, transitions {}, image words {}, firings of the run {}",
+        "places {}, transitions {}, image words {}, firings of the runs {} and {}",
         case.image[0],
         case.image[1],
         case.image.len(),
+        case.settled.len(),
         case.history.len()
     );
     println!(

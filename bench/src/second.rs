@@ -1,7 +1,7 @@
 //! The oracle, with its answers in the form of the C interface.
 
 use dekohuna::{Answer, Label, HISTORY_FULL, LIMIT_REACHED, NOTHING_ENABLED};
-use oracle::{Reason, Refusal};
+use oracle::{Reason, Refusal, RunAnswer};
 
 use crate::engine::Engine;
 
@@ -34,6 +34,20 @@ fn fired(result: Result<u64, Refusal>) -> Answer {
     }
 }
 
+fn ran(result: Result<RunAnswer, Refusal>) -> Answer {
+    match result {
+        Ok(answer) => Answer {
+            value: answer.firings,
+            code: match answer.reason {
+                Reason::LimitReached => LIMIT_REACHED,
+                Reason::HistoryFull => HISTORY_FULL,
+                Reason::NothingEnabled => NOTHING_ENABLED,
+            },
+        },
+        Err(refusal) => refused(refusal),
+    }
+}
+
 impl Engine for Oracle {
     fn check(&self, table: &[u16]) -> Answer {
         Answer {
@@ -59,17 +73,17 @@ impl Engine for Oracle {
     }
 
     fn run(&self, image: &[u32], marking: &mut [u8], limit: u64, history: &mut [u32]) -> Answer {
-        match oracle::run(image, marking, limit, history) {
-            Ok(answer) => Answer {
-                value: answer.firings,
-                code: match answer.reason {
-                    Reason::LimitReached => LIMIT_REACHED,
-                    Reason::HistoryFull => HISTORY_FULL,
-                    Reason::NothingEnabled => NOTHING_ENABLED,
-                },
-            },
-            Err(refusal) => refused(refusal),
-        }
+        ran(oracle::run(image, marking, limit, history))
+    }
+
+    fn run_lowest(
+        &self,
+        image: &[u32],
+        marking: &mut [u8],
+        limit: u64,
+        history: &mut [u32],
+    ) -> Answer {
+        ran(oracle::run_lowest(image, marking, limit, history))
     }
 
     fn read(&self, table: &[u16], marking: &[u8], state: &mut [u16]) -> Answer {

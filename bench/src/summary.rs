@@ -56,7 +56,7 @@ fn agrees(case: &Case, markings: &[Kept]) -> bool {
         && markings.iter().all(|kept| {
             let found = dekohuna::summary_lowest(&kept.enabled);
             let mut history = [0; 1];
-            let ran = dekohuna::run(&case.image, &mut kept.marking.clone(), 1, &mut history);
+            let ran = dekohuna::run_lowest(&case.image, &mut kept.marking.clone(), 1, &mut history);
             found.code == dekohuna::NOTHING_ENABLED && ran.value == 0
                 || found.code == dekohuna::DONE && found.value == u64::from(history[0])
         })
@@ -82,14 +82,14 @@ pub fn report(case: &Case) -> bool {
         &mut || {
             for kept in &markings {
                 scratch.copy_from_slice(&kept.marking);
-                black_box(dekohuna::run(&case.image, &mut scratch, 1, &mut [0]));
+                black_box(dekohuna::run_lowest(&case.image, &mut scratch, 1, &mut [0]));
             }
         },
     ]);
     print(
         "lowest enabled",
         markings.len(),
-        ["summary", "run with limit 1"],
+        ["summary", "run_lowest with limit 1"],
         &seconds,
     );
 

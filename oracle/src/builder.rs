@@ -17,6 +17,11 @@ pub const SILENT: u32 = 3;
 pub const COMMUNICATION: u32 = 4;
 pub const CALL: u32 = 5;
 
+/// "Kinds 0 and 1 are bookkeeping."
+pub fn is_bookkeeping(kind: u32) -> bool {
+    kind == COPY || kind == RELEASE
+}
+
 /// The label of a kind and two numbers of the table.
 pub(crate) fn label(kind: u32, a: usize, b: usize) -> Label {
     [kind, a as u32, b as u32]

@@ -1,4 +1,4 @@
-//! A second reading of document 01 and of document 02's items 1 to 5: the table check, the
+//! A second reading of document 01 and of document 02's items 1 to 6: the table check, the
 //! rewriting of self-calls, the image builder and its size, firing, looking, replay, run,
 //! summaries, reading back, and the plain process, written from the documents and sharing no code
 //! with the project it is compared with.
@@ -34,7 +34,7 @@ pub mod vectors;
 
 pub use builder::build;
 pub use listing::listing;
-pub use net::{fire, look, replay, run, Reason, Refusal, RunAnswer};
+pub use net::{fire, look, replay, run, run_lowest, Reason, Refusal, RunAnswer};
 pub use process::{open_steps, start, step};
 pub use readback::read;
 pub use rewrite::{original_branch, original_name, original_node, rewrite};

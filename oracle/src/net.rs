@@ -1,6 +1,7 @@
-//! Document 01, "Net image and firing": reading an image, firing by number, replay and run; document
-//! 02, item 2: looking at a firing before it is made.
+//! Document 01, "Net image and firing": reading an image, firing by number, replay and run;
+//! document 02, item 2: looking at a firing before it is made; item 6: settling before acting.
 
+use crate::builder::is_bookkeeping;
 use crate::process::write_words;
 
 /// Why a call on an image was refused. `firings` is there where the document's table returns
@@ -82,10 +83,38 @@ pub fn replay(image: &[u32], marking: &mut [u8], numbers: &[u32]) -> Result<u64,
     Ok(firings)
 }
 
-/// "A run fires the lowest enabled transition of the lent marking, writes each number to the
-/// history [...] Before each firing it looks at limit reached, then history full (never 10),
-/// then nothing enabled. It stops at a malformed record met in the search (12)."
+/// A run "fires [...], writes each number to the history [...] Before each firing it looks at limit
+/// reached, then history full (never 10), then nothing enabled. It stops at a malformed record met
+/// in the search (12)." Which transition it fires when no rule is named: "the lowest enabled
+/// bookkeeping transition, else the lowest enabled one" (document 02, item 6).
 pub fn run(
+    image: &[u32],
+    marking: &mut [u8],
+    limit: u64,
+    history: &mut [u32],
+) -> Result<RunAnswer, Refusal> {
+    run_by(Rule::SettleFirst, image, marking, limit, history)
+}
+
+/// Document 01's rule: "A run fires the lowest enabled transition of the lent marking".
+pub fn run_lowest(
+    image: &[u32],
+    marking: &mut [u8],
+    limit: u64,
+    history: &mut [u32],
+) -> Result<RunAnswer, Refusal> {
+    run_by(Rule::Lowest, image, marking, limit, history)
+}
+
+/// Which enabled transition a run fires.
+#[derive(Clone, Copy, PartialEq, Eq)]
+enum Rule {
+    SettleFirst,
+    Lowest,
+}
+
+fn run_by(
+    rule: Rule,
     image: &[u32],
     marking: &mut [u8],
     limit: u64,
@@ -107,7 +136,8 @@ pub fn run(
             return answer(Reason::HistoryFull);
         };
         let stopped = |cause| Refusal::after(cause, firings);
-        let Some(number) = image.lowest_enabled(marking, &mut met).map_err(stopped)? else {
+        let found = image.search(rule, marking, &mut met).map_err(stopped)?;
+        let Some(number) = found else {
             return answer(Reason::NothingEnabled);
         };
         image.fire(marking, number).map_err(stopped)?;
@@ -230,9 +260,11 @@ impl<'a> Image<'a> {
         Ok(())
     }
 
-    /// The lowest enabled transition, or 12 for a wrong record met before it. Records below
-    /// `met` have been met, and found right, by an earlier search.
-    fn lowest_enabled(&self, marking: &[u8], met: &mut u32) -> Result<Option<u32>, u32> {
+    /// The transition that a rule takes, or 12 for a wrong record met in the search: "All records
+    /// up to an enabled bookkeeping one are met in its search." Records below `met` have been met,
+    /// and found right, by an earlier search.
+    fn search(&self, rule: Rule, marking: &[u8], met: &mut u32) -> Result<Option<u32>, u32> {
+        let mut lowest = None;
         for number in 0..self.transitions {
             let transition = if number < *met {
                 self.arcs(number)
@@ -242,10 +274,13 @@ impl<'a> Image<'a> {
             let transition = transition.ok_or(12u32)?;
             *met = (*met).max(number + 1);
             if transition.is_enabled(marking) {
-                return Ok(Some(number));
+                if rule == Rule::Lowest || is_bookkeeping(self.record(number)[0]) {
+                    return Ok(Some(number));
+                }
+                lowest = lowest.or(Some(number));
             }
         }
-        Ok(None)
+        Ok(lowest)
     }
 }
 

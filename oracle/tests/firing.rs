@@ -3,7 +3,7 @@
 mod common;
 
 use common::{image_of, initial_of, E};
-use oracle::{fire, read, replay, run, Reason, Refusal};
+use oracle::{fire, read, replay, run, run_lowest, Reason, Refusal};
 
 fn all_refuse(image: &[u32], marking: &[u8], number: u32, cause: u32) {
     let alone = Refusal {
@@ -15,6 +15,7 @@ fn all_refuse(image: &[u32], marking: &[u8], number: u32, cause: u32) {
     assert_eq!(fire(image, &mut lent, number), Err(alone));
     assert_eq!(run(image, &mut lent, 0, &mut history), Err(alone));
     assert_eq!(run(image, &mut lent, 9, &mut history), Err(alone));
+    assert_eq!(run_lowest(image, &mut lent, 9, &mut history), Err(alone));
     assert_eq!(lent, marking);
     assert_eq!(history, [9; 2]);
 }
@@ -134,7 +135,7 @@ fn cause_12_stops_a_firing_a_replay_and_a_run() {
         assert_eq!(marking, [0, 1, 0]);
         // Transition 0 is fired before the search meets transition 1.
         let mut marking = vec![1, 0, 1];
-        let answer = run(&image, &mut marking, 9, &mut history).map(|answer| answer.firings);
+        let answer = run_lowest(&image, &mut marking, 9, &mut history).map(|answer| answer.firings);
         assert_eq!(answer, Err(refused(1)));
         assert_eq!(history, [0, 7, 7]);
         assert_eq!(marking, [0, 1, 1]);
@@ -147,13 +148,13 @@ fn cause_12_stops_a_firing_a_replay_and_a_run() {
             firings: Some(0),
         };
         assert_eq!(fire(&image, &mut marking, 0), Err(refused));
-        assert_eq!(run(&image, &mut marking, 1, &mut [0]), Err(refused));
+        assert_eq!(run_lowest(&image, &mut marking, 1, &mut [0]), Err(refused));
         assert_eq!(
-            run(&image, &mut marking, 1, &mut []).unwrap().reason,
+            run_lowest(&image, &mut marking, 1, &mut []).unwrap().reason,
             Reason::HistoryFull
         );
         assert_eq!(
-            run(&image, &mut marking, 0, &mut []).unwrap().reason,
+            run_lowest(&image, &mut marking, 0, &mut []).unwrap().reason,
             Reason::LimitReached
         );
     }
@@ -185,7 +186,7 @@ fn causes_14_15_and_16_leave_the_firings_made() {
     assert_eq!(marking, [1, 0, 1]);
     // A run does not pass over a contact.
     let mut history = [7; 4];
-    let answer = run(&image, &mut marking, 9, &mut history);
+    let answer = run_lowest(&image, &mut marking, 9, &mut history);
     assert_eq!(
         answer,
         Err(Refusal {
@@ -198,7 +199,9 @@ fn causes_14_15_and_16_leave_the_firings_made() {
     let image = foreign(2, &[0], &[(&[0], &[0]), (&[], &[1])]);
     let mut marking = vec![0, 0];
     assert_eq!(
-        run(&image, &mut marking, 1, &mut [0]).unwrap().reason,
+        run_lowest(&image, &mut marking, 1, &mut [0])
+            .unwrap()
+            .reason,
         Reason::LimitReached
     );
     assert_eq!(marking, [0, 1]);

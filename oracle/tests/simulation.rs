@@ -6,7 +6,7 @@ use common::{is_bookkeeping, standing_marking, Label, Net, Values};
 use oracle::generate::{accepted, Shape};
 use oracle::random::Random;
 use oracle::table::Branch;
-use oracle::{fire, read, replay, run, Reason, Refusal, RunAnswer};
+use oracle::{fire, read, replay, run, run_lowest, Reason, Refusal, RunAnswer};
 
 /// What the walks met, so that the tests do not pass on empty ground.
 #[derive(Debug, Default)]
@@ -111,8 +111,27 @@ fn check_replay(net: &Net, random: &mut Random, numbers: &[u32], end: &[u8]) {
     }
 }
 
-/// A run agrees with firing the lowest enabled transition again and again.
+/// A run by either rule agrees with firing the transition of that rule again and again.
 fn check_run(net: &Net, random: &mut Random, from: &[u8]) {
+    check_rule(net, random, from, run, |enabled| {
+        let mut settling = enabled.iter();
+        let settling = settling.find(|&&number| is_bookkeeping(net.label(number)));
+        settling.or(enabled.first()).copied()
+    });
+    check_rule(net, random, from, run_lowest, |enabled| {
+        enabled.first().copied()
+    });
+}
+
+type Run = fn(&[u32], &mut [u8], u64, &mut [u32]) -> Result<RunAnswer, Refusal>;
+
+fn check_rule(
+    net: &Net,
+    random: &mut Random,
+    from: &[u8],
+    run: Run,
+    chosen: impl Fn(&[u32]) -> Option<u32>,
+) {
     let limit = random.below(30);
     let cells = random.below(30);
     let mut expected = from.to_vec();
@@ -124,7 +143,7 @@ fn check_run(net: &Net, random: &mut Random, from: &[u8]) {
         if numbers.len() == cells {
             break Reason::HistoryFull;
         }
-        let Some(&number) = net.enabled(&expected).first() else {
+        let Some(number) = chosen(&net.enabled(&expected)) else {
             break Reason::NothingEnabled;
         };
         expected = net.fired(&expected, number);

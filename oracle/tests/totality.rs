@@ -6,7 +6,9 @@ use common::{Label, Net};
 use oracle::generate::{accepted, Shape};
 use oracle::random::Random;
 use oracle::rewrite::rewritten;
-use oracle::{build, check, fire, listing, open_steps, read, replay, run, size, start, step};
+use oracle::{
+    build, check, fire, listing, open_steps, read, replay, run_lowest, size, start, step,
+};
 use oracle::{original_branch, original_name, original_node};
 use oracle::{Reason, Refusal, RunAnswer};
 
@@ -186,7 +188,7 @@ fn spoilt_images_fire_run_and_replay_alike() {
         let (answer, numbers) = run_by_firing(&image, &mut expected, limit.max(1), cells.max(1));
         let mut marking = from.clone();
         let mut history = vec![u32::MAX; cells.max(1)];
-        let ran = run(&image, &mut marking, limit.max(1) as u64, &mut history);
+        let ran = run_lowest(&image, &mut marking, limit.max(1) as u64, &mut history);
         assert_eq!(ran, answer);
         assert_eq!(marking, expected);
         assert_eq!(history[..numbers.len()], numbers);

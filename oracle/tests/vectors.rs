@@ -228,7 +228,10 @@ fn every_shape_and_cause_is_asked_for() {
         at_least(15, &format!("cause a {cause:>2}"));
     }
     // What follows on the rewritten tables.
-    for letter in ["b", "f", "r", "u", "g", "o", "k"] {
+    for letter in ["b", "f", "r", "g", "o", "k"] {
         at_least(100, &format!("cause {letter}  0"));
+    }
+    for rule in ["u", "U"] {
+        at_least(50, &format!("cause {rule}  0"));
     }
 }

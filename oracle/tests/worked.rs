@@ -4,8 +4,8 @@
 mod common;
 
 use common::{image_of, initial_of, E};
-use oracle::{build, check, fire, listing, open_steps, read, replay, run, size, start, step};
-use oracle::{Reason, Refusal, RunAnswer};
+use oracle::{build, check, fire, listing, open_steps, read, replay, size, start, step};
+use oracle::{run, run_lowest, Reason, Refusal, RunAnswer};
 
 const STOPPED: [u16; 21] = [
     0, 0, 1, 1, 1, 0, 0, 13, 13, 17, 18, 21, 21, 0, 0, 0, 0, 0, 0, 0, 0,
@@ -145,8 +145,17 @@ fn table_e_fires_as_starred() {
     }
 }
 
+/// Table E runs alike by both rules.
 #[test]
 fn table_e_runs_as_starred() {
+    for run in [run, run_lowest] {
+        runs_as_starred(run);
+    }
+}
+
+type Run = fn(&[u32], &mut [u8], u64, &mut [u32]) -> Result<RunAnswer, Refusal>;
+
+fn runs_as_starred(run: Run) {
     let image = image_of(&E);
     let mut marking = initial_of(&image);
     let mut history = [77; 5];

@@ -100,6 +100,15 @@ extern "C" {
         history: *mut u32,
         history_words: usize,
     ) -> u64;
+    fn dekohuna_run_lowest(
+        image: *const u32,
+        image_words: usize,
+        marking: *mut u8,
+        marking_bytes: usize,
+        limit: u64,
+        history: *mut u32,
+        history_words: usize,
+    ) -> u64;
     fn dekohuna_read(
         table: *const u16,
         table_words: usize,
@@ -266,6 +275,20 @@ pub fn replay(image: &[u32], marking: &mut [u8], numbers: &[u32]) -> Answer {
 pub fn run(image: &[u32], marking: &mut [u8], limit: u64, history: &mut [u32]) -> Answer {
     answer(unsafe {
         dekohuna_run(
+            image.as_ptr(),
+            image.len(),
+            marking.as_mut_ptr(),
+            marking.len(),
+            limit,
+            history.as_mut_ptr(),
+            history.len(),
+        )
+    })
+}
+
+pub fn run_lowest(image: &[u32], marking: &mut [u8], limit: u64, history: &mut [u32]) -> Answer {
+    answer(unsafe {
+        dekohuna_run_lowest(
             image.as_ptr(),
             image.len(),
             marking.as_mut_ptr(),

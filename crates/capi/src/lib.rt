@@ -8,7 +8,7 @@ ghost use lib.ListN.{length};
 ghost use Rattle.table.specs.Causes.{cause};
 ghost use Rattle.builder.specs.Answer.{builtOutcome, buildOutcome, sizedOutcome, sizeOutcome};
 ghost use Rattle.net.specs.Answers.{causeNumber, firingNumber, firingsMade, lookNumber, bytesShown, ending};
-ghost use Rattle.net.specs.Firing.{fire, replay, run};
+ghost use Rattle.net.specs.Firing.{fire, replay, run, runLowest};
 ghost use Rattle.net.specs.Looking.{look};
 ghost use Rattle.process.specs.Answers.{answerNumber, answerValue};
 ghost use Rattle.process.specs.Outcomes.{startOutcome, openOutcome, stepOutcome};
@@ -28,6 +28,7 @@ use builder::Sized;
 use net::Cause;
 use net::Firing;
 use net::Looked;
+use net::Ran;
 use net::Reason;
 use summary::Found;
 use summary::Kept;
@@ -146,6 +147,14 @@ fn fired_word(firing: Firing) -> u64
     }
 }
 
+// The word of a run, by either rule.
+fn ran_word(ran: Ran) -> u64
+    ensures { λ r. ⌜ r ≡ packed (ran .firings) (endingCode (ending (ran .reason))) ⌝ }
+{
+    let reason = ran.reason;
+    pack(ran.firings, reason_code(reason))
+}
+
 // The word of a look.
 fn looked_word(looked: Looked) -> u64
     ensures { λ r. ⌜ r ≡ packed (bytesShown looked) (lookNumber looked) ⌝ }
@@ -258,7 +267,8 @@ pub extern "C" fn dekohuna_replay(image: &[u32], marking: &mut [u8], numbers: &[
     pack(replayed.firings, firing_code(outcome))
 }
 
-// Fires the lowest enabled transition over and over, and writes the numbers to `history`.
+// Fires the lowest enabled bookkeeping transition, else the lowest enabled one, over and over, and writes the numbers
+// to `history`.
 #[no_mangle]
 pub extern "C" fn dekohuna_run(
     image: &[u32],
@@ -270,9 +280,22 @@ pub extern "C" fn dekohuna_run(
         (run (now (image .entry)) (now (marking .entry)) limit (length (now (history .entry))))
         r (now (marking .exit)) (now (history .exit)) (now (history .entry)) ⌝ }
 {
-    let ran = net::run(image, marking, limit, history);
-    let reason = ran.reason;
-    pack(ran.firings, reason_code(reason))
+    ran_word(net::run(image, marking, limit, history))
+}
+
+// Fires the lowest enabled transition over and over, and writes the numbers to `history`.
+#[no_mangle]
+pub extern "C" fn dekohuna_run_lowest(
+    image: &[u32],
+    marking: &mut [u8],
+    limit: u64,
+    history: &mut [u32],
+) -> u64
+    ensures { λ r. ⌜ RunReturned
+        (runLowest (now (image .entry)) (now (marking .entry)) limit (length (now (history .entry))))
+        r (now (marking .exit)) (now (history .exit)) (now (history .entry)) ⌝ }
+{
+    ran_word(net::run_lowest(image, marking, limit, history))
 }
 
 // Writes the words of the state that a marking stands for.

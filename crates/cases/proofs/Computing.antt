@@ -12,7 +12,7 @@ use Rattle.table.specs.Causes.{entryRight, callRightIn, callRight, callsRight}
 use Rattle.net.specs.Image.{headerRight, recordRight, recordsRight}
 use Rattle.net.specs.Net.{recordsFrom, encode, isAscending}
 use Rattle.net.specs.Firing as Firing
-use Rattle.net.specs.Firing.{isMarking, isEnabled, hasContact, step, inTurn, initialMarking, searchFrom, lowestEnabled, runFrom}
+use Rattle.net.specs.Firing.{isMarking, isEnabled, hasContact, step, inTurn, initialMarking, searchFrom, lowestEnabled, quietFrom, settleFirst, runBy, runOf}
 use Rattle.summary.specs.Sets as Sets
 use Rattle.summary.specs.Sets.{hasBit, isIn, packed}
 use Rattle.summary.specs.Summary as Summaries
@@ -69,7 +69,7 @@ nets = tt
 
 unfoldable pub firings : Unit {0}
 unfolding recordsFrom encode isAscending headerRight recordRight isMarking isEnabled hasContact Firing.put Firing.stepOf step inTurn initialMarking
-    Firing.fire Firing.replay searchFrom lowestEnabled runFrom Firing.run
+    Firing.fire Firing.replay searchFrom lowestEnabled quietFrom settleFirst runBy runOf
 firings = tt
 
 unfoldable pub summaries : Unit {0}

@@ -1,5 +1,5 @@
--- The starred cases of document 01 (Table E and its listing), a definition that calls itself, the number of private values, the values that can arrive and
--- summaries (document 02, Items 1, 3, 4 and 5), as one table, and what is asked in each, by the definitions that the promises cite.
+-- The starred cases of document 01 (Table E and its listing), a definition that calls itself, the number of private values, the values that can arrive,
+-- summaries and runs that settle first (document 02, Items 1 and 3 to 6), as one table, and what is asked in each, by the definitions that the promises cite.
 use mathlib.Core.Path.{_≡_}
 use mathlib.Core.Option.{Option, none, some}
 use mathlib.Core.List.{List, [], _∷_, _++_}
@@ -10,7 +10,7 @@ use Rattle.scheme.specs.Scheme.{scheme}
 use Rattle.table.specs.Causes.{cause}
 use Rattle.net.specs.Image.{transitionCount}
 use Rattle.net.specs.Firing as Firing
-use Rattle.net.specs.Firing.{Ending, limitReached, nothingEnabled, initialMarking}
+use Rattle.net.specs.Firing.{Ending, limitReached, nothingEnabled, stopped, RunOutcome, initialMarking}
 use Rattle.summary.specs.Summary.{summary, setLength, summaryOf}
 use Rattle.summary.specs.Calls.{makeSummary, fireWith}
 use Rattle.places.specs.Reach.{valuesFor}
@@ -23,14 +23,16 @@ use Rattle.rewriting.specs.Outcomes.{rewriteOutcome, originalNode, originalBran
 use Rattle.print.specs.Program.{programText}
 
 -- what is asked of a table: its cause; a build into so many words; a firing after others from the initial marking; reading back after firings, into four
--- words; a run from the initial marking, with its limit and the words of its history; a rewriting into so many words; what a node or a branch of the
--- rewritten table was; what the listing program prints; its N; the places of its net; the summary of the initial marking; a firing with that summary
+-- words; a run from the initial marking, with its limit and the words of its history, by the old rule and one that settles first; a rewriting into so many
+-- words; what a node or a branch of the rewritten table was; what the listing program prints; its N; the places of its net; the summary of the initial
+-- marking; a firing with that summary
 pub data Question : Type 0 where
   checks : Question
   builds : ℕ → Question
   fires : List ℕ → ℕ → Question
   reads : List ℕ → Question
   runs : ℕ → ℕ → Question
+  settles : ℕ → ℕ → Question
   rewrites : ℕ → Question
   wasNode : ℕ → Question
   wasBranch : ℕ → Question
@@ -56,6 +58,9 @@ pub data Reply : Type 0 where
 abbrev pub bytesOf : List ℕ → List ℕ
 bytesOf words = flat (λ x. (x % 256) ∷ (x / 256) ∷ []) words
 
+abbrev pub ranOf : RunOutcome → Reply
+ranOf r = ran (r .reason) (r .firings) (r .history)
+
 module _ (w : List ℕ) where
   abbrev pub markingAfter : List ℕ → List ℕ
   markingAfter numbers = Firing.replay (imageOf w) (initialMarking (imageOf w)) numbers .marking
@@ -65,7 +70,8 @@ module _ (w : List ℕ) where
   reply (builds room) = let o = buildOutcome w (replicate room 0) in buffer (o .number) (o .buffer)
   reply (fires numbers n) = number (Firing.fire (imageOf w) (markingAfter numbers) n .cause)
   reply (reads numbers) = let o = readOutcome w (markingAfter numbers) (replicate 4 0) in buffer (o .number) (o .left)
-  reply (runs limit room) = let r = Firing.run (imageOf w) (initialMarking (imageOf w)) limit room in ran (r .reason) (r .firings) (r .history)
+  reply (runs limit room) = ranOf (Firing.runLowest (imageOf w) (initialMarking (imageOf w)) limit room)
+  reply (settles limit room) = ranOf (Firing.run (imageOf w) (initialMarking (imageOf w)) limit room)
   reply (rewrites room) = let o = rewriteOutcome w (replicate room 0) in buffer (o .number) (o .left)
   reply (wasNode n) = let o = originalNode w n in was (o .number) (o .value)
   reply (wasBranch b) = let o = originalBranch w b in was (o .number) (o .value)
@@ -241,6 +247,41 @@ summaryCases =
     ∷ case tableE (keeps 6) (kept 15 (0 ∷ 0 ∷ 0 ∷ 0 ∷ 1 ∷ 1 ∷ 1 ∷ 1 ∷ 1 ∷ 0 ∷ 0 ∷ 0 ∷ 1 ∷ 0 ∷ 0 ∷ []) (0 ∷ 0 ∷ 2 ∷ 2 ∷ 2 ∷ 2 ∷ 2 ∷ 2 ∷ []) (3 ∷ []))
     ∷ []
 
+-- E by the rule that settles first (document 02, Item 6)
+abbrev pub settlingCases : List Case
+settlingCases =
+    case tableE (settles 5 5) (ran nothingEnabled 4 (0 ∷ 6 ∷ 2 ∷ 4 ∷ []))
+    ∷ case tableE (settles 4 5) (ran limitReached 4 (0 ∷ 6 ∷ 2 ∷ 4 ∷ []))
+    ∷ []
+
+-- two foreign nets, each of two transitions without arcs: a silent step (3 0 0), then a release (1 0 0), whose record is malformed in the second net
+abbrev pub quietLast : List ℕ
+quietLast = 0 ∷ 2 ∷ 0 ∷ 0 ∷ 0 ∷ 8 ∷ 8 ∷ 20 ∷ 3 ∷ 0 ∷ 0 ∷ 20 ∷ 0 ∷ 0 ∷ 1 ∷ 0 ∷ 0 ∷ 20 ∷ 0 ∷ 0 ∷ []
+
+abbrev pub malformedLast : List ℕ
+malformedLast = 0 ∷ 2 ∷ 0 ∷ 0 ∷ 0 ∷ 8 ∷ 8 ∷ 20 ∷ 3 ∷ 0 ∷ 0 ∷ 20 ∷ 0 ∷ 0 ∷ 1 ∷ 0 ∷ 0 ∷ 0 ∷ 0 ∷ 0 ∷ []
+
+-- an image's words, and what a run of two firings gives from its initial marking by the rule that settles first, and by the old one
+pub record ForeignRun : Type 0 where
+  pub image : List ℕ
+  pub settled : Reply
+  pub old : Reply
+
+abbrev pub foreignRuns : List ForeignRun
+foreignRuns =
+    -- the rules differ
+    record { image = quietLast; settled = ran limitReached 2 (1 ∷ 1 ∷ []); old = ran limitReached 2 (0 ∷ 0 ∷ []) }
+    -- "All records up to an enabled bookkeeping one are met in its search."
+    ∷ record { image = malformedLast; settled = ran (stopped 12) 0 []; old = ran limitReached 2 (0 ∷ 0 ∷ []) }
+    ∷ []
+
+abbrev pub ForeignRight : List ForeignRun → Type 0
+ForeignRight [] = Unit {0}
+ForeignRight (f ∷ fs) =
+    (ranOf (Firing.run (f .image) (initialMarking (f .image)) 2 2) ≡ f .settled)
+    × (ranOf (Firing.runLowest (f .image) (initialMarking (f .image)) 2 2) ≡ f .old)
+    × ForeignRight fs
+
 -- all of them: those of document 01, then the others
 abbrev pub cases : List Case
 cases =
@@ -265,10 +306,11 @@ cases =
     -- "After 0, or 1, the state reads 1 3 1 65535."
     ∷ case tableE (reads (0 ∷ [])) (buffer 0 (1 ∷ 3 ∷ 1 ∷ 65535 ∷ []))
     ∷ case tableE (reads (1 ∷ [])) (buffer 0 (1 ∷ 3 ∷ 1 ∷ 65535 ∷ []))
-    -- "Run from the initial marking with limit 5 and 5 history words: 0 7 2 5, count 4, nothing enabled; limit 4: limit reached.": 0 6 2 4 by the new numbers
+    -- "Run from the initial marking with limit 5 and 5 history words: 0 7 2 5, count 4, nothing enabled; limit 4: limit reached.": 0 6 2 4 by the new numbers,
+    -- and by the old rule, which the case now names (document 02, Item 6)
     ∷ case tableE (runs 5 5) (ran nothingEnabled 4 (0 ∷ 6 ∷ 2 ∷ 4 ∷ []))
     ∷ case tableE (runs 4 5) (ran limitReached 4 (0 ∷ 6 ∷ 2 ∷ 4 ∷ []))
-    ∷ rewritingCases ++ (privateCases ++ (arrivingCases ++ summaryCases))
+    ∷ rewritingCases ++ (privateCases ++ (arrivingCases ++ (summaryCases ++ settlingCases)))
 
 -- every case has its answer
 abbrev pub AllRight : List Case → Type 0

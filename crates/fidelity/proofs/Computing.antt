@@ -12,7 +12,7 @@ use Rattle.table.specs.Causes.{entryRight, callRightIn, callRight, callsRight}
 use Rattle.net.specs.Image.{headerRight, recordRight}
 use Rattle.net.specs.Net.{recordsFrom, encode}
 use Rattle.net.specs.Firing as Firing
-use Rattle.net.specs.Firing.{isMarking, isEnabled, hasContact, step, inTurn, initialMarking, searchFrom, lowestEnabled, runFrom}
+use Rattle.net.specs.Firing.{isMarking, isEnabled, hasContact, step, inTurn, initialMarking, searchFrom, lowestEnabled, quietFrom, settleFirst, runBy, runOf}
 use Rattle.places.specs.Values.{valuesOf, privateValuesOf, shares}
 use Rattle.places.specs.Held.{largest, heldCounts, mostHeld, privateCount}
 use Rattle.places.specs.Reach.{overlaps, isSent, passes, isPassed, comes, tabled, look, isNew, rounds, reachTable, valuesFor}
@@ -58,7 +58,7 @@ nets = tt
 
 unfoldable pub firings : Unit {0}
 unfolding recordsFrom encode headerRight recordRight isMarking isEnabled hasContact Firing.put Firing.stepOf step inTurn initialMarking Firing.fire
-    Firing.replay searchFrom lowestEnabled runFrom Firing.run
+    Firing.replay searchFrom lowestEnabled quietFrom settleFirst runBy runOf
 firings = tt
 
 unfoldable pub states : Unit {0}

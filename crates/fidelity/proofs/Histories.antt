@@ -18,7 +18,7 @@ use Rattle.table.specs.Accepted.{Accepted}
 use Rattle.process.specs.States.{State, start}
 use Rattle.process.specs.Steps.{Step, isOpen}
 use Rattle.net.specs.Firing as Firing
-use Rattle.net.specs.Firing.{Outcome, outcome, RunOutcome, made, refused, step, inTurn, runFrom, initialMarking, isMarking}
+use Rattle.net.specs.Firing.{Outcome, outcome, RunOutcome, made, refused, step, inTurn, Search, lowestEnabled, settleFirst, runBy, initialMarking, isMarking}
 use Rattle.net.specs.Image.{placeCount, transitionCount, headerRight, recordsRight}
 use Rattle.net.specs.Net.{Net, encode}
 use Rattle.net.proofs.Steps.{turn-last, turn-refused, marking-length}
@@ -29,8 +29,8 @@ use Rattle.summary.specs.Calls as Keeping
 use Rattle.summary.specs.Calls.{lengthsRight, KeepOutcome, keeps}
 use Rattle.places.specs.Image.{netOf, imageOf}
 use Rattle.readback.specs.Configurations.{Configuration}
-use Rattle.fidelity.specs.Calls.{Call, fire, fireWith, run, replay, Answer, Plain, ofOutcome, ofRun, endingCause, advances, begun, makes, hears}
-use Rattle.fidelity.specs.Calls.{leavesAll, World, calledOn, after, world}
+use Rattle.fidelity.specs.Calls.{Call, fire, fireWith, run, runLowest, replay, Answer, Plain, ofOutcome, ofRun, endingCause, advances, begun}
+use Rattle.fidelity.specs.Calls.{makes, hears, leavesAll, World, calledOn, after, world}
 use Rattle.fidelity.specs.Demand.{lawful, rowsWithin}
 use Rattle.fidelity.specs.Inner.Standing.{markingOf, Stands}
 use Rattle.fidelity.specs.Inner.Starting.{startConfiguration}
@@ -39,7 +39,8 @@ use Rattle.fidelity.proofs.Starting.{start-shows}
 use Rattle.fidelity.proofs.Built as Built
 use Rattle.fidelity.proofs.Turns.{image, S, U, E, image-is, Kept, Acts, goes, stops, turns}
 use Rattle.fidelity.proofs.Waiting.{can-fire}
-use Rattle.fidelity.proofs.Worlds.{Calm, calm-16, calm-leaves, every-snoc, net, Standing, act, turn-calm, Joined, joined, advances-append, run-calm}
+use Rattle.fidelity.proofs.Worlds.{Calm, calm-16, calm-leaves, every-snoc, net, Standing, act, turn-calm, Joined, joined, advances-append}
+use Rattle.fidelity.proofs.Worlds.{Quiet, run-quiet}
 
 abbrev calm : Answer → Bool
 calm a = not (same (a .cause) 16)
@@ -200,30 +201,37 @@ module _ (w : List ℕ) (A : Accepted (scheme w)) where
     answers = v .answers ++ (ofRun r .answer ∷ []);
   }
 
-  run-turn : (v : World) (P : Played v) (limit room : ℕ) → Firing.run (image w) (v .marking) limit room ≡ runFrom (image w) limit room (v .marking)
-  run-turn v P limit room =
-      subst (λ (i : List ℕ). Firing.run i (v .marking) limit room ≡ runFrom i limit room (v .marking)) (sym (image-is w A))
-      (run-built (net w A) (Built.net-ascending (S w A) (U w A) A (E w A)) (v .marking) limit room (played-marking v P))
+  run-turn : (rule : List ℕ → List ℕ → Search) (v : World) (P : Played v) (limit room : ℕ)
+      → Firing.runOf (image w) (rule (image w)) (v .marking) limit room ≡ runBy (image w) (rule (image w)) limit room (v .marking)
+  run-turn rule v P limit room =
+      subst (λ (i : List ℕ). Firing.runOf i (rule i) (v .marking) limit room ≡ runBy i (rule i) limit room (v .marking)) (sym (image-is w A))
+      (run-built (net w A) (Built.net-ascending (S w A) (U w A) A (E w A)) (rule (encode (net w A))) (v .marking) limit room (played-marking v P))
 
-  ran-played : (v : World) → Played v → (limit room : ℕ) → Played (ranBy v (runFrom (image w) limit room (v .marking)))
-  ran-played v P limit room = go (runFrom (image w) limit room (v .marking)) refl (played-stands v P)
+  ran-played : (rule : List ℕ → Search) (v : World) → Played v → (limit room : ℕ) → Played (ranBy v (runBy (image w) rule limit room (v .marking)))
+  ran-played rule v P limit room = go (runBy (image w) rule limit room (v .marking)) refl (played-stands v P)
     where
-      go : (r : RunOutcome) → runFrom (image w) limit room (v .marking) ≡ r → Stands (S w A) (U w A) (v .marking) (v .plain .state) → Played (ranBy v r)
+      go : (r : RunOutcome) → runBy (image w) rule limit room (v .marking) ≡ r → Stands (S w A) (U w A) (v .marking) (v .plain .state) → Played (ranBy v r)
       go r e T =
           let all : take (r .firings) (r .history) ≡ r .history
           = ap (λ (k : ℕ). take k (r .history))
-          (sym (subst (λ (o : RunOutcome). length (o .history) ≡ o .firings) e (run-count (image w) limit room (v .marking)))) ∙ take-length (r .history) in
+          (sym (subst (λ (o : RunOutcome). length (o .history) ≡ o .firings) e (run-count (image w) rule limit room (v .marking))))
+          ∙ take-length (r .history) in
           let turn : inTurn (image w) (v .marking) (r .history) ≡ outcome 0 (r .firings) (r .marking)
           = subst (λ (o : RunOutcome). inTurn (image w) (v .marking) (o .history) ≡ outcome 0 (o .firings) (o .marking)) e
-          (run-in-turn (image w) limit room (v .marking)) in
-          let quiet : endingCause (r .reason) ≡ 0
-          = subst (λ (o : RunOutcome). endingCause (o .reason) ≡ 0) e
-          (subst (λ (m : List ℕ). endingCause (runFrom (image w) limit room m .reason) ≡ 0) (sym (T .is))
-          (run-calm w A limit room (T .configuration) (v .plain .state) (T .shows))) in
+          (run-in-turn (image w) rule limit room (v .marking)) in
+          let quiet : Quiet w A r
+          = subst (Quiet w A) e
+          (subst (λ (m : List ℕ). Quiet w A (runBy (image w) rule limit room m)) (sym (T .is))
+          (run-quiet w A rule limit room (T .configuration) (v .plain .state) (T .shows))) in
           more-made v P (take (r .firings) (r .history)) (ofRun r .answer) (r .marking)
           (ap (λ (ks : List ℕ). inTurn (image w) (v .marking) ks .cause) all ∙ ap (λ (o : Outcome). o .cause) turn)
           (sym (ap (λ (ks : List ℕ). inTurn (image w) (v .marking) ks .marking) all ∙ ap (λ (o : Outcome). o .marking) turn))
-          (calm-16 (endingCause (r .reason)) (inl quiet))
+          quiet
+
+  rule-played : (rule : List ℕ → List ℕ → Search) (v : World) → Played v → (limit room : ℕ)
+      → Played (ranBy v (Firing.runOf (image w) (rule (image w)) (v .marking) limit room))
+  rule-played rule v P limit room =
+      subst (λ (r : RunOutcome). Played (ranBy v r)) (sym (run-turn rule v P limit room)) (ran-played (rule (image w)) v P limit room)
 
   -- ---- replays
 
@@ -262,7 +270,8 @@ module _ (w : List ℕ) (A : Accepted (scheme w)) where
   called-played : (v : World) → Played v → (c : Call) → Played (calledOn w (image w) v c)
   called-played v P (fire k) = subst (λ (o : Outcome). Played (firedBy v k o)) (sym (fire-turn v P k)) (fired-played v P k)
   called-played v P (fireWith s k) = kept-played v P s k
-  called-played v P (run limit room) = subst (λ (r : RunOutcome). Played (ranBy v r)) (sym (run-turn v P limit room)) (ran-played v P limit room)
+  called-played v P (run limit room) = rule-played settleFirst v P limit room
+  called-played v P (runLowest limit room) = rule-played lowestEnabled v P limit room
   called-played v P (replay ks) = subst (λ (o : Outcome). Played (replayedBy v ks o)) (sym (replay-turn v P ks)) (replayed-played v P ks)
 
   after-played : (cs : List Call) (v : World) → Played v → Played (after w (image w) v cs)

@@ -23,8 +23,8 @@ use Rattle.rewriting.specs.Outcomes.{rewriteCause}
 use Rattle.rewriting.specs.Sequences.{takeAll, openInTurn, readStep}
 use Rattle.rewriting.proofs.Answering.{OpenReading}
 use Rattle.rewriting.proofs.Theorem.{open-read, rewrites}
-use Rattle.fidelity.specs.Calls.{Call, fire, fireWith, run, replay, Answer, Plain, begun, World, leavesAll, perform, stepAt, isQuiet, advance}
-use Rattle.fidelity.specs.Calls.{advances, makes, hears, calledOn, after, world}
+use Rattle.fidelity.specs.Calls.{Call, fire, fireWith, run, runLowest, replay, Answer, Plain, begun, World, leavesAll, perform, stepAt, isQuiet}
+use Rattle.fidelity.specs.Calls.{advance, advances, makes, hears, calledOn, after, world}
 use Rattle.fidelity.specs.Demand.{isAccepted, lawful, CanFire, Demand3}
 use Rattle.fidelity.specs.SelfCalls.{shown, collegeSteps, CollegeAllows, ShownBy, SameShown}
 use Rattle.fidelity.proofs.Theorem.{demand3}
@@ -125,6 +125,7 @@ module _ (v image : List ℕ) where
       go true = makes-follows p (k ∷ []) h
       go false = h
   hears-follows p (run limit room) a h = makes-follows p (take (a .firings) (a .written)) h
+  hears-follows p (runLowest limit room) a h = makes-follows p (take (a .firings) (a .written)) h
   hears-follows p (replay ks) a h = go (leavesAll (a .cause))
     where
       go : (b : Bool) → Follows (pick b p (makes v image (begun v) (take (a .firings) ks)))

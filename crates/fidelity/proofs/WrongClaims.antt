@@ -22,7 +22,7 @@ use Rattle.places.specs.Reach.{valuesFor}
 use Rattle.places.specs.Transitions.{Description, releases, copies, calling, ofNode, ofPair}
 use Rattle.places.specs.Image.{transitionOf, netOf, imageOf}
 use Rattle.readback.specs.Reading.{readBack, words}
-use Rattle.fidelity.specs.Calls.{Call, fire, fireWith, run, replay, Answer, Result, Plain, begun, perform, hears, after, world}
+use Rattle.fidelity.specs.Calls.{Call, fire, fireWith, run, runLowest, replay, Answer, Result, Plain, begun, perform, hears, after, world}
 use Rattle.fidelity.specs.Demand.{rowsWithin, Demand3}
 use Rattle.fidelity.proofs.Computing.{everything}
 use Rattle.fidelity.proofs.Refusing.{nothingFires, none-can-fire}
@@ -50,6 +50,7 @@ module _ (w : List ℕ) where
   hearsNoReplay p (fire number) a = hears w (imageOf w) p (fire number) a
   hearsNoReplay p (fireWith s number) a = hears w (imageOf w) p (fireWith s number) a
   hearsNoReplay p (run limit room) a = hears w (imageOf w) p (run limit room) a
+  hearsNoReplay p (runLowest limit room) a = hears w (imageOf w) p (runLowest limit room) a
   hearsNoReplay p (replay numbers) a = p
 
   -- it hears the calls in turn, the first made on this marking

@@ -17,11 +17,13 @@ use Rattle.summary.specs.Summary.{Summary}
 use Rattle.summary.specs.Calls as Keeping
 use Rattle.summary.specs.Calls.{KeepOutcome}
 
--- a firing by number, alone or with a summary that is lent, a run with its limit and the length of its history, a replay with its numbers
+-- a firing by number, alone or with a summary that is lent, a run that settles first and one by the old rule, each with its limit and the length of its
+-- history, a replay with its numbers
 pub data Call : Type 0 where
   fire : ℕ → Call
   fireWith : Summary → ℕ → Call
   run : ℕ → ℕ → Call
+  runLowest : ℕ → ℕ → Call
   replay : List ℕ → Call
 
 -- what a call tells: the cause that it was refused or stopped with, 0 if none, its count of firings, and the words that a run wrote
@@ -74,11 +76,12 @@ leavesAll cause = same cause 11 || same cause 13
 
 -- a table's words and an image's
 module _ (w image : List ℕ) where
-  -- a call on the image, by the definitions that the promises of net::fire, summary::fire, net::run and net::replay cite
+  -- a call on the image, by the definitions that the promises of net::fire, summary::fire, net::run, net::run_lowest and net::replay cite
   abbrev pub perform : List ℕ → Call → Result
   perform marking (fire number) = ofOutcome (Firing.fire image marking number)
   perform marking (fireWith summary number) = ofKeep (Keeping.fireWith image marking summary number)
   perform marking (run limit room) = ofRun (Firing.run image marking limit room)
+  perform marking (runLowest limit room) = ofRun (Firing.runLowest image marking limit room)
   perform marking (replay numbers) = ofOutcome (Firing.replay image marking numbers)
 
   -- "A plain process knows the table and the image's labels."
@@ -110,6 +113,7 @@ module _ (w image : List ℕ) where
   hears p (fire number) a = pick (same (a .cause) 0) (makes p (number ∷ [])) p
   hears p (fireWith summary number) a = pick (same (a .cause) 0) (makes p (number ∷ [])) p
   hears p (run limit room) a = makes p (take (a .firings) (a .written))
+  hears p (runLowest limit room) a = makes p (take (a .firings) (a .written))
   hears p (replay numbers) a = pick (leavesAll (a .cause)) p (makes (begun w) (take (a .firings) numbers))
 
   abbrev pub calledOn : World → Call → World

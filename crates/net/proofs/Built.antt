@@ -8,7 +8,7 @@ use lib.ListN.{length, replicate}
 use Rattle.lists.specs.Lists.{pick}
 use Rattle.net.specs.Image.{placeCount, transitionCount, inputsAt, recordRight}
 use Rattle.net.specs.Firing.{isMarking, isEnabled, put, initialMarking, inTurn, fire, replay, Search}
-use Rattle.net.specs.Firing.{lowest, malformed, nothing, searchFrom, lowestEnabled, runFrom, run}
+use Rattle.net.specs.Firing.{lowest, malformed, nothing, searchFrom, lowestEnabled, runBy, runOf}
 use Rattle.net.specs.Net.{Net, transitionAt, encode, isAscending}
 use Rattle.net.proofs.Steps.{fire-as, replay-as}
 use Rattle.net.proofs.Runs.{run-as}
@@ -29,8 +29,9 @@ module _ (net : Net) where
     pub replay-built : (m ks : List ℕ) → length m ≡ net .places → replay (encode net) m ks ≡ inTurn (encode net) (initialMarking (encode net)) ks
     replay-built m ks h = replay-as (encode net) m ks (header-passes net good) (h ∙ sym (place-count net))
 
-    pub run-built : (m : List ℕ) (limit room : ℕ) → isMarking (net .places) m ≡ true → run (encode net) m limit room ≡ runFrom (encode net) limit room m
-    run-built m limit room h = run-as (encode net) m limit room (header-passes net good) (marking-for m h)
+    pub run-built : (rule : List ℕ → Search) (m : List ℕ) (limit room : ℕ) → isMarking (net .places) m ≡ true
+        → runOf (encode net) rule m limit room ≡ runBy (encode net) rule limit room m
+    run-built rule m limit room h = run-as (encode net) rule m limit room (header-passes net good) (marking-for m h)
 
     -- a search meets no malformed record
     search-right : (m : List ℕ) (n k : ℕ) → k + n ≤ length (net .transitions) → searchFrom (encode net) m n k ≡ malformed → ⊥

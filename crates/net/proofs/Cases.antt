@@ -7,7 +7,8 @@ use lib.ListN.{length, replicate}
 use Rattle.lists.specs.Lists.{same, every, some, flat, member, ascends, total}
 use Rattle.net.specs.Image.{Label, labelOf, headerRight, recordRight}
 use Rattle.net.specs.Firing.{isMarking, isEnabled, hasContact, put, initialMarking, stepOf, step, Outcome, outcome, inTurn, fire}
-use Rattle.net.specs.Firing.{replay, searchFrom, lowestEnabled, Ending, limitReached, historyFull, nothingEnabled, stopped, RunOutcome, runFrom, run}
+use Rattle.net.specs.Firing.{replay, searchFrom, lowestEnabled, quietFrom, settleFirst, Ending, limitReached, historyFull, nothingEnabled, stopped}
+use Rattle.net.specs.Firing.{RunOutcome, runBy, runOf, run, runLowest}
 use Rattle.net.specs.Looking.{looked, shown, look}
 use Rattle.net.specs.Net.{Transition, Net, recordsFrom, encode, isAscending}
 
@@ -108,16 +109,18 @@ looks :
 unfolding imageE markingE nextE same every some member ascends headerRight recordRight isMarking isEnabled hasContact put stepOf step inTurn fire shown look
 looks = (refl, refl, refl, refl, refl, refl)
 
--- runs from the initial marking, by limit and history words: nothing enabled after 0 7 2 5; the limit is looked at before the history
+-- runs from the initial marking, by limit and history words: nothing enabled after 0 7 2 5, by both rules; the limit is looked at before the history
 runs :
     (run imageE markingE 5 5 ≡ record { reason = nothingEnabled; firings = 4; marking = lastE; history = 0 ∷ 7 ∷ 2 ∷ 5 ∷ [] })
+    × (runLowest imageE markingE 5 5 ≡ run imageE markingE 5 5)
     × (run imageE markingE 4 5 .reason ≡ limitReached)
     × (run imageE markingE 4 5 .firings ≡ 4)
     × (run imageE markingE 3 3 .reason ≡ limitReached)
     × (run imageE markingE 5 3 .reason ≡ historyFull)
     × (run imageE markingE 5 3 .history ≡ 0 ∷ 7 ∷ 2 ∷ [])
-unfolding imageE markingE lastE same every some member ascends headerRight recordRight isMarking isEnabled hasContact put stepOf step searchFrom lowestEnabled runFrom run
-runs = (refl, refl, refl, refl, refl, refl)
+unfolding imageE markingE lastE same every some member ascends headerRight recordRight isMarking isEnabled hasContact put stepOf step searchFrom lowestEnabled
+    quietFrom settleFirst runBy runOf
+runs = (refl, refl, refl, refl, refl, refl, refl)
 
 -- what the run wrote is lent to a replay as its numbers; a replay that is stopped leaves the firings made, at its first number the initial marking; "of the lent
 -- marking only the length is checked": bytes above 1 are no cause

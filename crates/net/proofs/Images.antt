@@ -11,8 +11,8 @@ use borrow.Author.Tests.{le-leb, lt-leb, leb-true}
 use Rattle.lists.specs.Lists.{pick, same, word, from, every, ascends}
 use Rattle.lists.proofs.Tests.{and-left, and-right, same-yes, same-no, same-true, true-or-false, went-first, went-second}
 use Rattle.lists.proofs.Ranges.{every-start, every-below}
-use Rattle.net.specs.declared.Record.{Record}
-use Rattle.net.specs.declared.Record.the-variants.{Arcs, Wrong}
+use Rattle.net.specs.declared.arcs.Record.{Record}
+use Rattle.net.specs.declared.arcs.Record.the-variants.{Arcs, Wrong}
 use Rattle.net.specs.Image.{placeCount, transitionCount, initialTokens, recordsStart, arcsStart, lengthGiven, initialPlaces, headerRight}
 use Rattle.net.specs.Image.{inputsStart, outputsStart, outputsEnd, inputsAt, outputsAt, recordRight, recordsRight}
 use Rattle.net.specs.Inner.Arcs.{Header, decoded, Listed, Offsets}

@@ -5,6 +5,7 @@ pub mod Puts
 pub mod Steps
 pub mod Looks
 pub mod Runs
+pub mod Passes
 pub mod Encode
 pub mod Outcomes
 pub mod Built

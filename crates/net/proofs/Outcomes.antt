@@ -1,23 +1,22 @@
 -- What holds of every outcome: firings leave markings markings, a count tells which numbers were made, and a run is its history fired in turn.
 use mathlib.Core.Path.{_≡_, refl, sym, ap, subst, _∙_}
-use mathlib.Core.Bool.{Bool, true, false, not, _&&_}
+use mathlib.Core.Bool.{Bool, true, false, not}
 use mathlib.Core.List.{List, [], _∷_}
-use Prim.Native.Nat.{ℕ, zero, suc, _+_, _≤_, _<_}
+use Prim.Native.Nat.{ℕ, zero, suc, _≤_, _<_}
 use native.Mathlib.Numerals.{one-add}
 use native.Mathlib.Omega.{arith}
 use lib.Dec.{leb, ltb}
 use lib.ListN.{length, take, set, replicate, length-replicate}
-use Rattle.lists.specs.Lists.{pick, same, every}
+use Rattle.lists.specs.Lists.{same, every}
 use Rattle.lists.proofs.Tests.{and-intro, and-left, and-right, same-yes, went-second}
 use borrow.Author.Tests.{ltb-true, not-false}
 use Rattle.net.specs.Image.{placeCount, transitionCount, initialPlaces, inputsAt, outputsAt, recordRight}
 use Rattle.net.specs.Firing.{isMarking, isEnabled, hasContact, put, moved, initialMarking, Step, made}
 use Rattle.net.specs.Firing.{refused, stepOf, step, Outcome, outcome, after, inTurn}
-use Rattle.net.specs.Firing.{Search, lowest, malformed, nothing, lowestEnabled, Ending, limitReached}
-use Rattle.net.specs.Firing.{historyFull, nothingEnabled, stopped, RunOutcome, ended, preceded, runFrom}
+use Rattle.net.specs.Firing.{Search, lowest, malformed, nothing}
+use Rattle.net.specs.Firing.{nothingEnabled, stopped, RunOutcome, ended, preceded, runBy}
 use Rattle.net.proofs.Marks.{length-put}
-use Rattle.net.proofs.Steps.{marking-length, step-contact, step-made, step-as, turn-refused, turn-made}
-use Rattle.net.proofs.Runs.{lowest-met}
+use Rattle.net.proofs.Steps.{marking-length, turn-refused, turn-made}
 
 -- ---- markings stay markings
 
@@ -133,78 +132,69 @@ turn-keeps n w m (t ∷ ts) h = go (step w m t) refl (λ x. turn-keeps n w x ts)
     go (made x) p rest = ap (λ (o : Outcome). isMarking n (o .marking)) (turn-made w m t ts x p) ∙ rest x (step-keeps n w m t x p h)
     go (refused c) p rest = ap (λ (o : Outcome). isMarking n (o .marking)) (turn-refused w m t ts c p) ∙ h
 
--- ---- a run
+-- ---- a run, by any rule
 
 -- the cases of a turn that neither limit nor history ends
-pub run-cases : (w : List ℕ) (limit room : ℕ) (m : List ℕ) (P : RunOutcome → Type 0) → (lowestEnabled w m ≡ nothing → P (ended nothingEnabled m))
-    → (lowestEnabled w m ≡ malformed → P (ended (stopped 12) m))
-    → ((t c : ℕ) → lowestEnabled w m ≡ lowest t → step w m t ≡ refused c → P (ended (stopped c) m))
-    → ((t : ℕ) (next : List ℕ) → lowestEnabled w m ≡ lowest t → step w m t ≡ made next → P (preceded (t ∷ []) (runFrom w limit room next)))
-    → P (runFrom w (suc limit) (suc room) m)
-unfolding runFrom
-run-cases w limit room m P a b c d = go (lowestEnabled w m) refl
+pub run-cases : (w : List ℕ) (rule : List ℕ → Search) (limit room : ℕ) (m : List ℕ) (P : RunOutcome → Type 0)
+    → (rule m ≡ nothing → P (ended nothingEnabled m))
+    → (rule m ≡ malformed → P (ended (stopped 12) m))
+    → ((t c : ℕ) → rule m ≡ lowest t → step w m t ≡ refused c → P (ended (stopped c) m))
+    → ((t : ℕ) (next : List ℕ) → rule m ≡ lowest t → step w m t ≡ made next → P (preceded (t ∷ []) (runBy w rule limit room next)))
+    → P (runBy w rule (suc limit) (suc room) m)
+unfolding runBy
+run-cases w rule limit room m P a b c d = go (rule m) refl
   where
-    go2 : (t : ℕ) (s : Step) → lowestEnabled w m ≡ lowest t → step w m t ≡ s
-        → P (elim s [ made next ↦ preceded (t ∷ []) (runFrom w limit room next) | refused cause ↦ ended (stopped cause) m ])
+    go2 : (t : ℕ) (s : Step) → rule m ≡ lowest t → step w m t ≡ s
+        → P (elim s [ made next ↦ preceded (t ∷ []) (runBy w rule limit room next) | refused cause ↦ ended (stopped cause) m ])
     go2 t (made next) p q = d t next p q
     go2 t (refused cause) p q = c t cause p q
 
-    go : (s : Search) → lowestEnabled w m ≡ s
+    go : (s : Search) → rule m ≡ s
         → P (elim s [
           | nothing ↦ ended nothingEnabled m
           | malformed ↦ ended (stopped 12) m
           | lowest t ↦ elim
-              (step w m t) [ made next ↦ preceded (t ∷ []) (runFrom w limit room next) | refused cause ↦ ended (stopped cause) m ]
+              (step w m t) [ made next ↦ preceded (t ∷ []) (runBy w rule limit room next) | refused cause ↦ ended (stopped cause) m ]
         ])
     go nothing p = a p
     go malformed p = b p
     go (lowest t) p = go2 t (step w m t) p refl
 
 -- a run is its history fired in turn
-pub run-in-turn : (w : List ℕ) (limit room : ℕ) (m : List ℕ)
-    → inTurn w m (runFrom w limit room m .history) ≡ outcome 0 (runFrom w limit room m .firings) (runFrom w limit room m .marking)
-unfolding runFrom inTurn
-run-in-turn w zero room m = refl
-run-in-turn w (suc limit) zero m = refl
-run-in-turn w (suc limit) (suc room) m =
-    run-cases w limit room m (λ o. inTurn w m (o .history) ≡ outcome 0 (o .firings) (o .marking)) (λ p. refl) (λ p. refl) (λ t c p q. refl)
-    (λ t next p q. turn-made w m t (runFrom w limit room next .history) next q ∙ ap (after 1) (run-in-turn w limit room next))
+pub run-in-turn : (w : List ℕ) (rule : List ℕ → Search) (limit room : ℕ) (m : List ℕ)
+    → inTurn w m (runBy w rule limit room m .history) ≡ outcome 0 (runBy w rule limit room m .firings) (runBy w rule limit room m .marking)
+unfolding runBy inTurn
+run-in-turn w rule zero room m = refl
+run-in-turn w rule (suc limit) zero m = refl
+run-in-turn w rule (suc limit) (suc room) m =
+    run-cases w rule limit room m (λ o. inTurn w m (o .history) ≡ outcome 0 (o .firings) (o .marking)) (λ p. refl) (λ p. refl) (λ t c p q. refl)
+    (λ t next p q. turn-made w m t (runBy w rule limit room next .history) next q ∙ ap (after 1) (run-in-turn w rule limit room next))
 
 -- its count is the number of history words written, at most the limit and the room
-pub run-count : (w : List ℕ) (limit room : ℕ) (m : List ℕ) → length (runFrom w limit room m .history) ≡ runFrom w limit room m .firings
-unfolding runFrom
-run-count w zero room m = refl
-run-count w (suc limit) zero m = refl
-run-count w (suc limit) (suc room) m =
-    run-cases w limit room m (λ o. length (o .history) ≡ o .firings) (λ p. refl) (λ p. refl) (λ t c p q. refl)
-    (λ t next p q. omega (arith, run-count w limit room next))
+pub run-count : (w : List ℕ) (rule : List ℕ → Search) (limit room : ℕ) (m : List ℕ)
+    → length (runBy w rule limit room m .history) ≡ runBy w rule limit room m .firings
+unfolding runBy
+run-count w rule zero room m = refl
+run-count w rule (suc limit) zero m = refl
+run-count w rule (suc limit) (suc room) m =
+    run-cases w rule limit room m (λ o. length (o .history) ≡ o .firings) (λ p. refl) (λ p. refl) (λ t c p q. refl)
+    (λ t next p q. omega (arith, run-count w rule limit room next))
 
-pub run-limits : (w : List ℕ) (limit room : ℕ) (m : List ℕ) → (runFrom w limit room m .firings ≤ limit) × (runFrom w limit room m .firings ≤ room)
-unfolding runFrom
-run-limits w zero room m = (omega arith, omega arith)
-run-limits w (suc limit) zero m = (omega arith, omega arith)
-run-limits w (suc limit) (suc room) m =
-    run-cases w limit room m (λ o. (o .firings ≤ suc limit) × (o .firings ≤ suc room)) (λ p. (omega arith, omega arith)) (λ p. (omega arith, omega arith))
+pub run-limits : (w : List ℕ) (rule : List ℕ → Search) (limit room : ℕ) (m : List ℕ)
+    → (runBy w rule limit room m .firings ≤ limit) × (runBy w rule limit room m .firings ≤ room)
+unfolding runBy
+run-limits w rule zero room m = (omega arith, omega arith)
+run-limits w rule (suc limit) zero m = (omega arith, omega arith)
+run-limits w rule (suc limit) (suc room) m =
+    run-cases w rule limit room m (λ o. (o .firings ≤ suc limit) × (o .firings ≤ suc room)) (λ p. (omega arith, omega arith)) (λ p. (omega arith, omega arith))
     (λ t c p q. (omega arith, omega arith))
-    (λ t next p q. let r = run-limits w limit room next in (omega arith, omega arith))
+    (λ t next p q. let r = run-limits w rule limit room next in (omega arith, omega arith))
 
-pub run-keeps : (n : ℕ) (w : List ℕ) (limit room : ℕ) (m : List ℕ) → isMarking n m ≡ true → isMarking n (runFrom w limit room m .marking) ≡ true
-unfolding runFrom
-run-keeps n w zero room m h = h
-run-keeps n w (suc limit) zero m h = h
-run-keeps n w (suc limit) (suc room) m h =
-    run-cases w limit room m (λ o. isMarking n (o .marking) ≡ true) (λ p. h) (λ p. h) (λ t c p q. h)
-    (λ t next p q. run-keeps n w limit room next (step-keeps n w m t next q h))
-
--- the lowest enabled transition is refused at a contact only
-pub lowest-refused : (w m : List ℕ) (t c : ℕ) → lowestEnabled w m ≡ lowest t → step w m t ≡ refused c → c ≡ 16
-lowest-refused w m t c p q =
-    let g = lowest-met w m t p in
-    let e : refused c ≡ stepOf m (inputsAt w t) (outputsAt w t) = sym q
-    ∙ step-as w m t (omega arith) (g .right t (omega arith) (omega arith)) (inputsAt w t) (outputsAt w t) refl refl in
-    go (hasContact m (inputsAt w t) (outputsAt w t)) refl e (g .enabled)
-  where
-    go : (b : Bool) → hasContact m (inputsAt w t) (outputsAt w t) ≡ b → refused c ≡ stepOf m (inputsAt w t) (outputsAt w t)
-        → isEnabled m (inputsAt w t) ≡ true → c ≡ 16
-    go true h e on = let z : refused c ≡ refused 16 = e ∙ step-contact m (inputsAt w t) (outputsAt w t) on h in cc
-    go false h e on = absurd (apart c (moved m (inputsAt w t) (outputsAt w t)) (e ∙ step-made m (inputsAt w t) (outputsAt w t) on h))
+pub run-keeps : (n : ℕ) (w : List ℕ) (rule : List ℕ → Search) (limit room : ℕ) (m : List ℕ)
+    → isMarking n m ≡ true → isMarking n (runBy w rule limit room m .marking) ≡ true
+unfolding runBy
+run-keeps n w rule zero room m h = h
+run-keeps n w rule (suc limit) zero m h = h
+run-keeps n w rule (suc limit) (suc room) m h =
+    run-cases w rule limit room m (λ o. isMarking n (o .marking) ≡ true) (λ p. h) (λ p. h) (λ t c p q. h)
+    (λ t next p q. run-keeps n w rule limit room next (step-keeps n w m t next q h))

@@ -6,52 +6,16 @@ use mathlib.Core.List.{List, [], _∷_, _++_, append-nil}
 use Prim.Native.Nat.{ℕ, zero, suc, _+_, _-_, _≤_, _<_}
 use native.Mathlib.Numerals.{add-one}
 use native.Mathlib.Omega.{arith}
-use lib.Dec.{ltb}
 use lib.ListN.{length, take, drop, set, length-append, length-set, take-append-drop}
 use lib.Seq.{length-take-le, take-suc-set, append-snoc, drop-set-lt, drop-drop}
-use borrow.Author.Tests.{lt-ltb, le-ltb}
 use Rattle.lists.specs.Lists.{pick}
 use Rattle.net.specs.declared.Ran.{Ran}
 use Rattle.net.specs.Image.{placeCount, transitionCount, headerRight, inputsAt, recordRight}
 use Rattle.net.specs.Firing.{isMarking, isEnabled, Step, made, refused, step, Search, lowest, malformed, nothing, searchFrom}
-use Rattle.net.specs.Firing.{lowestEnabled, Ending, limitReached, historyFull, nothingEnabled, stopped, RunOutcome, ended, preceded, runFrom, run}
+use Rattle.net.specs.Firing.{lowestEnabled, Ending, limitReached, historyFull, nothingEnabled, stopped, RunOutcome, ended, preceded, runBy, runOf}
 use Rattle.net.specs.Answers.{ending, Leaves}
 
--- ---- the search among n transitions, at transition t
-
-pub search-start : (w m : List ℕ) (n : ℕ) → searchFrom w m n 0 ≡ searchFrom w m (n - 0) 0
-search-start w m n = let e : n ≡ n - 0 = omega arith in ap (λ (k : ℕ). searchFrom w m k 0) e
-
-pub search-at : (w m : List ℕ) (n x y : ℕ) → x ≡ y → searchFrom w m (n - (x + 1)) (x + 1) ≡ searchFrom w m (n - (y + 1)) (y + 1)
-search-at w m n x y e = ap (λ (k : ℕ). searchFrom w m (n - (k + 1)) (k + 1)) e
-
-module _ (w m : List ℕ) (n t : ℕ) where
-  pub search-end : n ≤ t → searchFrom w m (n - t) t ≡ nothing
-  unfolding searchFrom
-  search-end h = let e : n - t ≡ 0 = omega arith in rw e
-
-  module _ (h : t < n) where
-    left-over : n - t ≡ suc (n - (t + 1))
-    left-over = omega arith
-
-    pub search-wrong : recordRight w t ≡ false → searchFrom w m (n - t) t ≡ malformed
-    unfolding searchFrom
-    search-wrong a = rw (left-over, a)
-
-    module _ (a : recordRight w t ≡ true) (ins : List ℕ) (i : ins ≡ inputsAt w t) where
-      pub search-here : isEnabled m ins ≡ true → searchFrom w m (n - t) t ≡ lowest t
-      unfolding searchFrom
-      search-here p = rw (left-over, a, ← i, p)
-
-      pub search-next : isEnabled m ins ≡ false → searchFrom w m (n - t) t ≡ searchFrom w m (n - (t + 1)) (t + 1)
-      unfolding searchFrom
-      search-next p = rw (left-over, a, ← i, p)
-
-pub search-lowest : (n t : ℕ) → t < n → lowest t ≡ pick (ltb t n) (lowest t) nothing
-search-lowest n t h = rw (lt-ltb t n)
-
-pub search-nothing : (n t : ℕ) → n ≤ t → nothing ≡ pick (ltb t n) (lowest t) nothing
-search-nothing n t h = rw (le-ltb t n)
+-- ---- what a search of the old rule found
 
 -- what is known where the search has found the lowest: it is enabled, none below it is, and every record met is right
 pub record Met (w m : List ℕ) (n a t : ℕ) : Type 0 where
@@ -133,43 +97,43 @@ none-enabled w m e k h = none-from w m (transitionCount w) 0 e k (omega arith) (
 
 -- ---- a run
 
-module _ (w m : List ℕ) (limit room : ℕ) where
-  pub run-no-image : headerRight w ≡ false → run w m limit room ≡ ended (stopped 11) m
-  unfolding run
+module _ (w : List ℕ) (rule : List ℕ → Search) (m : List ℕ) (limit room : ℕ) where
+  pub run-no-image : headerRight w ≡ false → runOf w rule m limit room ≡ ended (stopped 11) m
+  unfolding runOf
   run-no-image a = rw a
 
   module _ (a : headerRight w ≡ true) where
-    pub run-no-marking : isMarking (placeCount w) m ≡ false → run w m limit room ≡ ended (stopped 13) m
-    unfolding run
+    pub run-no-marking : isMarking (placeCount w) m ≡ false → runOf w rule m limit room ≡ ended (stopped 13) m
+    unfolding runOf
     run-no-marking b = rw (a, b)
 
-    pub run-as : isMarking (placeCount w) m ≡ true → run w m limit room ≡ runFrom w limit room m
-    unfolding run
+    pub run-as : isMarking (placeCount w) m ≡ true → runOf w rule m limit room ≡ runBy w rule limit room m
+    unfolding runOf
     run-as b = rw (a, b)
 
 -- a turn, k firings made
-module _ (w m : List ℕ) (limit room k : ℕ) where
-  pub run-limit : limit ≤ k → runFrom w (limit - k) (room - k) m ≡ ended limitReached m
-  unfolding runFrom
+module _ (w : List ℕ) (rule : List ℕ → Search) (m : List ℕ) (limit room k : ℕ) where
+  pub run-limit : limit ≤ k → runBy w rule (limit - k) (room - k) m ≡ ended limitReached m
+  unfolding runBy
   run-limit h = let e : limit - k ≡ 0 = omega arith in rw e
 
   module _ (l : k < limit) where
     more : limit - k ≡ suc (limit - (k + 1))
     more = omega arith
 
-    pub run-full : room ≤ k → runFrom w (limit - k) (room - k) m ≡ ended historyFull m
-    unfolding runFrom
+    pub run-full : room ≤ k → runBy w rule (limit - k) (room - k) m ≡ ended historyFull m
+    unfolding runBy
     run-full h = let e : room - k ≡ 0 = omega arith in rw (more, e)
 
     module _ (r : k < room) where
       more-room : room - k ≡ suc (room - (k + 1))
       more-room = omega arith
 
-      turn : runFrom w (limit - k) (room - k) m ≡ runFrom w (suc (limit - (k + 1))) (suc (room - (k + 1))) m
+      turn : runBy w rule (limit - k) (room - k) m ≡ runBy w rule (suc (limit - (k + 1))) (suc (room - (k + 1))) m
       turn = rw (more, more-room)
 
       abbrev go-on : Step → ℕ → RunOutcome
-      go-on (made next) t = preceded (t ∷ []) (runFrom w (limit - (k + 1)) (room - (k + 1)) next)
+      go-on (made next) t = preceded (t ∷ []) (runBy w rule (limit - (k + 1)) (room - (k + 1)) next)
       go-on (refused cause) t = ended (stopped cause) m
 
       abbrev found : Search → RunOutcome
@@ -177,12 +141,12 @@ module _ (w m : List ℕ) (limit room k : ℕ) where
       found malformed = ended (stopped 12) m
       found (lowest t) = go-on (step w m t) t
 
-      by-search : runFrom w (limit - k) (room - k) m ≡ found (lowestEnabled w m)
-      unfolding runFrom
-      by-search = turn ∙ same (lowestEnabled w m)
+      by-search : runBy w rule (limit - k) (room - k) m ≡ found (rule m)
+      unfolding runBy
+      by-search = turn ∙ same (rule m)
         where
           same2 : (s : Step) (t : ℕ) → elim s [
-            | made next ↦ preceded (t ∷ []) (runFrom w (limit - (k + 1)) (room - (k + 1)) next)
+            | made next ↦ preceded (t ∷ []) (runBy w rule (limit - (k + 1)) (room - (k + 1)) next)
             | refused cause ↦ ended
                 (stopped cause) m
           ] ≡ go-on s t
@@ -194,7 +158,7 @@ module _ (w m : List ℕ) (limit room k : ℕ) where
             | malformed ↦ ended (stopped 12) m
             | lowest t ↦ elim
                 (step w m t) [
-                  | made next ↦ preceded (t ∷ []) (runFrom w (limit - (k + 1)) (room - (k + 1)) next)
+                  | made next ↦ preceded (t ∷ []) (runBy w rule (limit - (k + 1)) (room - (k + 1)) next)
                   | refused cause ↦ ended
                       (stopped cause) m
                 ]
@@ -203,17 +167,17 @@ module _ (w m : List ℕ) (limit room k : ℕ) where
           same malformed = refl
           same (lowest t) = same2 (step w m t) t
 
-      pub run-nothing : lowestEnabled w m ≡ nothing → runFrom w (limit - k) (room - k) m ≡ ended nothingEnabled m
+      pub run-nothing : rule m ≡ nothing → runBy w rule (limit - k) (room - k) m ≡ ended nothingEnabled m
       run-nothing e = by-search ∙ ap found e
 
-      pub run-malformed : lowestEnabled w m ≡ malformed → runFrom w (limit - k) (room - k) m ≡ ended (stopped 12) m
+      pub run-malformed : rule m ≡ malformed → runBy w rule (limit - k) (room - k) m ≡ ended (stopped 12) m
       run-malformed e = by-search ∙ ap found e
 
-      pub run-refused : (t c : ℕ) → lowestEnabled w m ≡ lowest t → step w m t ≡ refused c → runFrom w (limit - k) (room - k) m ≡ ended (stopped c) m
+      pub run-refused : (t c : ℕ) → rule m ≡ lowest t → step w m t ≡ refused c → runBy w rule (limit - k) (room - k) m ≡ ended (stopped c) m
       run-refused t c e s = by-search ∙ ap found e ∙ ap (λ (x : Step). go-on x t) s
 
-      pub run-made : (t : ℕ) (next : List ℕ) → lowestEnabled w m ≡ lowest t → step w m t ≡ made next
-          → runFrom w (limit - k) (room - k) m ≡ preceded (t ∷ []) (runFrom w (limit - (k + 1)) (room - (k + 1)) next)
+      pub run-made : (t : ℕ) (next : List ℕ) → rule m ≡ lowest t → step w m t ≡ made next
+          → runBy w rule (limit - k) (room - k) m ≡ preceded (t ∷ []) (runBy w rule (limit - (k + 1)) (room - (k + 1)) next)
       run-made t next e s = by-search ∙ ap found e ∙ ap (λ (x : Step). go-on x t) s
 
 -- ---- the run from its beginning, k numbers made
@@ -228,21 +192,23 @@ preceded-more done t r =
     ap (λ (n : ℕ). outcomeOf (r .reason) n (r .marking) (done ++ (t ∷ r .history))) f
     ∙ ap (λ (l : List ℕ). outcomeOf (r .reason) (length (done ++ (t ∷ [])) + r .firings) (r .marking) l) h
 
-pub run-start : (w m h : List ℕ) (limit room : ℕ) → runFrom w limit room m ≡ preceded (take 0 h) (runFrom w (limit - 0) (room - 0) m)
-run-start w m h limit room =
+pub run-start : (w : List ℕ) (rule : List ℕ → Search) (m h : List ℕ) (limit room : ℕ)
+    → runBy w rule limit room m ≡ preceded (take 0 h) (runBy w rule (limit - 0) (room - 0) m)
+run-start w rule m h limit room =
     let a : limit - 0 ≡ limit = omega arith in
     let b : room - 0 ≡ room = omega arith in
-    let r = runFrom w limit room m in
+    let r = runBy w rule limit room m in
     let f : r .firings ≡ 0 + r .firings = omega arith in
     rw (a, b) (ap (λ (n : ℕ). outcomeOf (r .reason) n (r .marking) (r .history)) f)
 
-pub run-on : (w m h : List ℕ) (limit room k : ℕ) (o : RunOutcome) → o ≡ preceded (take k h) (runFrom w (limit - k) (room - k) m) → k < limit → k < room
-    → length h ≡ room → (t : ℕ) (next : List ℕ) → lowestEnabled w m ≡ lowest t → step w m t ≡ made next
-    → o ≡ preceded (take (k + 1) (set h k t)) (runFrom w (limit - (k + 1)) (room - (k + 1)) next)
-run-on w m h limit room k o e l r len t next s p =
-    let x = runFrom w (limit - (k + 1)) (room - (k + 1)) next in
+pub run-on : (w : List ℕ) (rule : List ℕ → Search) (m h : List ℕ) (limit room k : ℕ) (o : RunOutcome)
+    → o ≡ preceded (take k h) (runBy w rule (limit - k) (room - k) m) → k < limit → k < room
+    → length h ≡ room → (t : ℕ) (next : List ℕ) → rule m ≡ lowest t → step w m t ≡ made next
+    → o ≡ preceded (take (k + 1) (set h k t)) (runBy w rule (limit - (k + 1)) (room - (k + 1)) next)
+run-on w rule m h limit room k o e l r len t next s p =
+    let x = runBy w rule (limit - (k + 1)) (room - (k + 1)) next in
     let d : take (k + 1) (set h k t) ≡ take k h ++ (t ∷ []) = rw add-one (take-suc-set h k t (omega arith)) in
-    e ∙ ap (preceded (take k h)) (run-made w m limit room k l r t next s p) ∙ preceded-more (take k h) t x ∙ ap (λ (y : List ℕ). preceded y x) (sym d)
+    e ∙ ap (preceded (take k h)) (run-made w rule m limit room k l r t next s p) ∙ preceded-more (take k h) t x ∙ ap (λ (y : List ℕ). preceded y x) (sym d)
 
 -- the rest of the history stays as it was
 pub rest-kept : (h lent : List ℕ) (k t : ℕ) → drop k h ≡ drop k lent → drop (k + 1) (set h k t) ≡ drop (k + 1) lent

@@ -5,7 +5,7 @@ use Prim.Native.Nat.{ℕ, zero, suc, _+_}
 use lib.Dec.{leb, ltb}
 use lib.ListN.{length, set, replicate}
 use Rattle.lists.specs.Lists.{pick, same, word, every, some, member}
-use Rattle.net.specs.Image.{placeCount, transitionCount, initialPlaces, headerRight, recordRight, inputsAt, outputsAt}
+use Rattle.net.specs.Image.{placeCount, transitionCount, initialPlaces, headerRight, labelAt, isBookkeeping, recordRight, inputsAt, outputsAt}
 
 -- "A marking is a byte per place." (document 01, Net image and firing)
 -- "marking length not the place count, or a byte above 1 | 13" where this fails (document 01, Causes of refusal)
@@ -108,9 +108,28 @@ searchFrom image marking (suc left) transition =
     (pick (isEnabled marking (inputsAt image transition)) (lowest transition)
     (searchFrom image marking left (transition + 1)))
 
--- the search of a run, over all transitions
+-- the search of the old rule, over all transitions
 unfoldable pub lowestEnabled : List ℕ → List ℕ → Search
 lowestEnabled image marking = searchFrom image marking (transitionCount image) 0
+
+-- the first, of the transitions left from this one upward, whose record is wrong, or that is bookkeeping and whose inputs all have their tokens
+unfoldable pub quietFrom : List ℕ → List ℕ → ℕ → ℕ → Search
+quietFrom image marking zero transition = nothing
+quietFrom image marking (suc left) transition =
+    pick (not (recordRight image transition)) malformed
+    (pick (isEnabled marking (inputsAt image transition) && isBookkeeping (labelAt image transition .kind)) (lowest transition)
+    (quietFrom image marking left (transition + 1)))
+
+-- what one search finds, else what another does
+abbrev pub orElse : Search → Search → Search
+orElse (lowest transition) other = lowest transition
+orElse malformed other = malformed
+orElse nothing other = other
+
+-- "The rule when none is named becomes: the lowest enabled bookkeeping transition, else the lowest enabled one. All records up to an enabled bookkeeping one
+-- are met in its search." (document 02, Item 6)
+unfoldable pub settleFirst : List ℕ → List ℕ → Search
+settleFirst image marking = orElse (quietFrom image marking (transitionCount image) 0) (lowestEnabled image marking)
 
 -- why a run ends: one of three reasons, or the number of a cause
 pub data Ending : Type 0 where
@@ -136,24 +155,31 @@ preceded numbers r =
     record { reason = r .reason; firings = length numbers + r .firings; marking = r .marking; history = numbers ++ r .history }
 
 -- "Before each firing it looks at limit reached, then history full (never 10), then nothing enabled." (document 01, Net image and firing):
--- limit and room are what is left of the limit and of the history's words
-unfoldable pub runFrom : List ℕ → ℕ → ℕ → List ℕ → RunOutcome
-runFrom image zero room marking = ended limitReached marking
-runFrom image (suc limit) zero marking = ended historyFull marking
-runFrom image (suc limit) (suc room) marking =
-    elim (lowestEnabled image marking) [
+-- by the rule that finds what is fired; limit and room are what is left of the limit and of the history's words
+unfoldable pub runBy : List ℕ → (List ℕ → Search) → ℕ → ℕ → List ℕ → RunOutcome
+runBy image rule zero room marking = ended limitReached marking
+runBy image rule (suc limit) zero marking = ended historyFull marking
+runBy image rule (suc limit) (suc room) marking =
+    elim (rule marking) [
       | nothing ↦ ended nothingEnabled marking
       | malformed ↦ ended (stopped 12) marking
       | lowest transition ↦
           elim (step image marking transition) [
-            | made next ↦ preceded (transition ∷ []) (runFrom image limit room next)
+            | made next ↦ preceded (transition ∷ []) (runBy image rule limit room next)
             | refused cause ↦ ended (stopped cause) marking
           ]
     ]
 
 -- a run checks 11 and 13 before everything else, and its history only lends words to write: their number is the room
-unfoldable pub run : List ℕ → List ℕ → ℕ → ℕ → RunOutcome
-run image marking limit room =
+unfoldable pub runOf : List ℕ → (List ℕ → Search) → List ℕ → ℕ → ℕ → RunOutcome
+runOf image rule marking limit room =
     pick (not (headerRight image)) (ended (stopped 11) marking)
     (pick (not (isMarking (placeCount image) marking)) (ended (stopped 13) marking)
-    (runFrom image limit room marking))
+    (runBy image rule limit room marking))
+
+-- a run that names no rule, and "The old rule remains by name." (document 02, Item 6)
+abbrev pub run : List ℕ → List ℕ → ℕ → ℕ → RunOutcome
+run image marking limit room = runOf image (settleFirst image) marking limit room
+
+abbrev pub runLowest : List ℕ → List ℕ → ℕ → ℕ → RunOutcome
+runLowest image marking limit room = runOf image (lowestEnabled image) marking limit room

@@ -3,17 +3,32 @@
 ghost use mathlib.Core.Bool.{true, _&&_};
 ghost use mathlib.Core.Path.{_≡_};
 ghost use mathlib.Core.List.{[], _∷_, _++_};
-ghost use Prim.Native.Nat.{ℕ, _<_, _≤_};
-ghost use lib.ListN.{length, drop, replicate};
-ghost use lib.Seq.{slice};
-ghost use Rattle.lists.specs.Lists.{ascends};
-ghost use Rattle.net.specs.Image.{placeCount, transitionCount, lengthGiven, headerRight, inputsAt, recordRight};
+ghost use Prim.Native.Nat.{_<_, _≤_};
+ghost use lib.Dec.{ltb};
+ghost use lib.ListN.{length, drop};
+ghost use Rattle.lists.specs.Lists.{pick};
+ghost use Rattle.net.specs.Image.{placeCount, transitionCount, headerRight, inputsAt, recordRight};
 ghost use Rattle.net.specs.Image.{recordsRight};
-ghost use Rattle.net.specs.Firing.{isMarking, isEnabled, hasContact, put, moved, initialMarking};
-ghost use Rattle.net.specs.Firing.{step, inTurn, fire, replay, runFrom, run};
+ghost use Rattle.net.specs.Firing.{isMarking, isEnabled, initialMarking};
+ghost use Rattle.net.specs.Firing.{step, inTurn, fire, replay, runBy, runOf, run, runLowest};
 ghost use Rattle.net.specs.Looking.{shown, look};
 ghost use Rattle.net.specs.Answers.{firingOutcome, lookOutcome, replayOutcome, Leaves};
-ghost use Rattle.net.specs.Inner.Arcs.{Header, Start, decoded, Listed, Offsets, Larger, Fired};
+ghost use Rattle.net.specs.Inner.Arcs.{Header, Larger, Fired};
+ghost use Rattle.net.specs.Inner.Passes.{ruleOf, endsAt};
+
+mod arcs;
+
+use arcs::Record;
+use arcs::all_marked;
+use arcs::arcs_start;
+use arcs::clear;
+use arcs::contact;
+use arcs::length_given;
+use arcs::move_tokens;
+use arcs::put_all;
+use arcs::record_at;
+use arcs::rising;
+use arcs::span_of;
 
 // Why a call refuses: causes 11, 12, 13, 14, 15 and 16.
 pub enum Cause {
@@ -58,83 +73,6 @@ pub struct Ran {
     pub firings: usize,
 }
 
-// Where the inputs of a transition start, where its outputs start and where they end.
-struct Span {
-    inputs: usize,
-    outputs: usize,
-    end: usize,
-}
-
-// A transition's record, decoded: the same three offsets, or a record or arcs that are wrong.
-enum Record {
-    Arcs(usize, usize, usize),
-    Wrong,
-}
-
-// Whether the words from `start` to `end` ascend strictly and lie below `places`: each pair of neighbours is looked at,
-// and the last word.
-fn rising(words: &[u32], start: usize, end: usize, places: usize) -> bool
-    requires { ⌜ end ≤ length (now words) ⌝ }
-    ensures { λ r. ⌜ r ≡ ascends places 0 (slice start end (now (words .entry))) ⌝ }
-{
-    if end <= start {
-        return true;
-    }
-    let last = end - 1;
-    let mut right = true;
-    let mut i = start;
-    while i < last {
-        if words[i + 1] <= words[i] {
-            right = false;
-        }
-        i += 1;
-    }
-    if right {
-        return (words[last] as usize) < places;
-    }
-    false
-}
-
-// The same, of a list that is short, as a transition's are: it is left at the first word that does not rise. A long one
-// is looked over faster by wide steps, which `rising` allows.
-fn rising_short(words: &[u32], start: usize, end: usize, places: usize) -> bool
-    requires { ⌜ end ≤ length (now words) ⌝ }
-    ensures { λ r. ⌜ r ≡ ascends places 0 (slice start end (now (words .entry))) ⌝ }
-{
-    if end <= start {
-        return true;
-    }
-    let last = end - 1;
-    let mut i = start;
-    while i < last {
-        if words[i + 1] <= words[i] {
-            return false;
-        }
-        i += 1;
-    }
-    (words[last] as usize) < places
-}
-
-// Where the arcs start: 8+m+6t.
-fn arcs_start(image: &[u32]) -> usize
-    requires { ⌜ 8 ≤ length (now image) ⌝ }
-    ensures { λ r. ⌜ Start (now (image .entry)) r ⌝ }
-{
-    let tokens = image[4] as usize;
-    let transitions = image[1] as usize;
-    8 + tokens + 6 * transitions
-}
-
-// The length that the header's counts give.
-fn length_given(image: &[u32], arcs: usize) -> usize
-    requires { ⌜ (8 ≤ length (now image)) × Start (now image) arcs ⌝ }
-    ensures { λ r. ⌜ r ≡ lengthGiven (now (image .entry)) ⌝ }
-{
-    let inputs = image[2] as usize;
-    let outputs = image[3] as usize;
-    arcs + inputs + outputs
-}
-
 // Whether header, length and initial list are right. The sums are of 32-bit words, so 64 bits hold them; counts that
 // the length does not bear out are refused before any list is walked.
 pub fn header_right(image: &[u32]) -> bool
@@ -160,54 +98,6 @@ pub fn header_right(image: &[u32]) -> bool
     }
     let places = image[0] as usize;
     rising(image, 8, records, places)
-}
-
-// The offsets in a transition's record, unchecked.
-fn span_of(image: &[u32], transition: usize) -> Span
-    requires { ⌜ Header (now image) × (transition < transitionCount (now image)) ⌝ }
-    ensures { λ r. ⌜ Offsets (now (image .entry)) transition (r .inputs) (r .outputs) (r .end) ⌝ }
-{
-    let tokens = image[4] as usize;
-    let record = 8 + tokens + 6 * transition;
-    let inputs = image[record + 3] as usize;
-    let outputs = inputs + image[record + 4] as usize;
-    let end = outputs + image[record + 5] as usize;
-    Span {
-        inputs: inputs,
-        outputs: outputs,
-        end: end,
-    }
-}
-
-// The record of a transition. One that is known to be right is not looked over again.
-fn record_at(image: &[u32], transition: usize, known: bool) -> Record
-    requires { ⌜ Header (now image)
-        × (transition < transitionCount (now image))
-        × (known ≡ true → recordRight (now image) transition ≡ true) ⌝ }
-    ensures { λ r. ⌜ r ≡ decoded (now (image .entry)) transition ⌝ }
-{
-    let span = span_of(image, transition);
-    let inputs = span.inputs;
-    let outputs = span.outputs;
-    let end = span.end;
-    if known {
-        return Record::Arcs(inputs, outputs, end);
-    }
-    let places = image[0] as usize;
-    let arcs = arcs_start(image);
-    if inputs < arcs {
-        return Record::Wrong;
-    }
-    if image.len() < end {
-        return Record::Wrong;
-    }
-    if !rising_short(image, inputs, outputs, places) {
-        return Record::Wrong;
-    }
-    if !rising_short(image, outputs, end, places) {
-        return Record::Wrong;
-    }
-    Record::Arcs(inputs, outputs, end)
 }
 
 // Whether the header and every record are right.
@@ -244,90 +134,6 @@ pub fn marking_right(marking: &[u8], places: usize) -> bool
         i += 1;
     }
     highest <= 1
-}
-
-// Whether every place that the words from `start` to `end` list has its token.
-fn all_marked(words: &[u32], start: usize, end: usize, marking: &[u8]) -> bool
-    requires { ⌜ Listed (now words) start end (length (now marking)) ⌝ }
-    ensures { λ r. ⌜ r ≡ isEnabled (now (marking .entry)) (slice start end (now (words .entry))) ⌝ }
-{
-    let mut i = start;
-    while i < end {
-        let place = words[i] as usize;
-        if marking[place] != 1 {
-            return false;
-        }
-        i += 1;
-    }
-    true
-}
-
-// Whether an output has its token that is not also an input: the two ascending lists are merged.
-fn contact(words: &[u32], start: usize, middle: usize, end: usize, marking: &[u8]) -> bool
-    requires { ⌜ Listed (now words) start middle (length (now marking))
-        × Listed (now words) middle end (length (now marking)) ⌝ }
-    ensures { λ r. ⌜ r
-        ≡ hasContact (now (marking .entry)) (slice start middle (now (words .entry)))
-        (slice middle end (now (words .entry))) ⌝ }
-{
-    let mut next_input = start;
-    let mut next_output = middle;
-    while next_output < end {
-        let output = words[next_output] as usize;
-        if next_input < middle {
-            let input = words[next_input] as usize;
-            if input < output {
-                next_input += 1;
-                continue;
-            }
-            if input == output {
-                next_input += 1;
-                next_output += 1;
-                continue;
-            }
-        }
-        if marking[output] == 1 {
-            return true;
-        }
-        next_output += 1;
-    }
-    false
-}
-
-// Writes a byte at every place that the words from `start` to `end` list.
-fn put_all(words: &[u32], start: usize, end: usize, marking: &mut [u8], byte: u8)
-    requires { ⌜ Listed (now words) start end (length (now marking)) ⌝ }
-    ensures { λ r. ⌜ now (marking .exit) ≡ put byte (now (marking .entry)) (slice start end (now (words .entry))) ⌝ }
-{
-    let mut next = start;
-    while next < end {
-        let place = words[next] as usize;
-        marking[place] = byte;
-        next += 1;
-    }
-}
-
-// Sets every byte to 0.
-fn clear(marking: &mut [u8])
-    ensures { λ r. ⌜ now (marking .exit) ≡ replicate (length (now (marking .entry))) 0 ⌝ }
-{
-    let mut i = 0;
-    while i < marking.len() {
-        marking[i] = 0;
-        i += 1;
-    }
-}
-
-// Takes the inputs' tokens and gives the outputs'.
-fn move_tokens(words: &[u32], start: usize, middle: usize, end: usize, marking: &mut [u8])
-    requires { ⌜ Listed (now words) start middle (length (now marking))
-        × Listed (now words) middle end (length (now marking)) ⌝ }
-    ensures { λ r. ⌜ now (marking .exit)
-        ≡ moved (now (marking .entry)) (slice start middle (now (words .entry)))
-        (slice middle end (now (words .entry))) ⌝ }
-{
-    put_all(words, start, middle, marking, 0);
-    put_all(words, middle, end, marking, 1);
 }
 
 // One firing on an image whose header is right, at a marking of its length. It costs its arcs.
@@ -516,11 +322,35 @@ fn larger(a: usize, b: usize) -> usize
     a
 }
 
-// Fires the lowest enabled transition, on an image and at a marking that are right, and writes each number to the
-// history. The records below `seen` were met in an earlier search and found right, and are not looked over again.
-fn run_on(image: &[u32], marking: &mut [u8], limit: usize, history: &mut [u32]) -> Ran
+// The smaller of two numbers.
+fn smaller(a: usize, b: usize) -> usize
+    ensures { λ r. ⌜ r ≡ pick (ltb a b) a b ⌝ }
+{
+    if a < b {
+        return a;
+    }
+    b
+}
+
+// Whether an enabled transition ends the search: by the old rule each does, else one that is bookkeeping.
+fn ends_at(image: &[u32], settle: bool, transition: usize) -> bool
+    requires { ⌜ transition < transitionCount (now image) ⌝ }
+    ensures { λ r. ⌜ r ≡ endsAt (now (image .entry)) settle transition ⌝ }
+{
+    if !settle {
+        return true;
+    }
+    lists::word32(image, 8 + lists::word32(image, 4) + 6 * transition) <= 1
+}
+
+// Fires what the rule finds, on an image and at a marking that are right, and writes each number to the history. A run
+// that settles first keeps the lowest enabled transition while it looks for bookkeeping. The records below `seen` were
+// met in an earlier search and found right, and are not looked over again.
+fn run_on(image: &[u32], marking: &mut [u8], settle: bool, limit: usize, history: &mut [u32]) -> Ran
     requires { ⌜ Header (now image) × (length (now marking) ≡ placeCount (now image)) ⌝ }
-    ensures { λ r. ⌜ Leaves (runFrom (now (image .entry)) limit (length (now (history .entry))) (now (marking .entry)))
+    ensures { λ r. ⌜ Leaves
+        (runBy (now (image .entry)) (ruleOf settle (now (image .entry))) limit (length (now (history .entry)))
+        (now (marking .entry)))
         r
         (now (marking .exit)) (now (history .exit)) (now (history .entry)) ⌝ }
 {
@@ -535,6 +365,7 @@ fn run_on(image: &[u32], marking: &mut [u8], limit: usize, history: &mut [u32]) 
                 firings: made,
             };
         }
+        let mut best = count;
         let mut transition = 0;
         'scan: while transition < count {
             let Record::Arcs(inputs, outputs, _) = record_at(image, transition, transition < seen)
@@ -553,22 +384,27 @@ fn run_on(image: &[u32], marking: &mut [u8], limit: usize, history: &mut [u32]) 
                 }
                 i += 1;
             }
-            break 'scan;
+            if ends_at(image, settle, transition) {
+                best = transition;
+                break 'scan;
+            }
+            best = smaller(best, transition);
+            transition += 1;
         }
-        if count <= transition {
+        if count <= best {
             return Ran {
                 reason: Reason::NothingEnabled,
                 firings: made,
             };
         }
-        seen = larger(seen, transition + 1);
-        if !fire_enabled(image, marking, transition) {
+        seen = larger(larger(seen, transition), best + 1);
+        if !fire_enabled(image, marking, best) {
             return Ran {
                 reason: Reason::Stopped(Cause::Contact),
                 firings: made,
             };
         }
-        history[made] = transition as u32;
+        history[made] = best as u32;
         made += 1;
     }
     Ran {
@@ -577,10 +413,18 @@ fn run_on(image: &[u32], marking: &mut [u8], limit: usize, history: &mut [u32]) 
     }
 }
 
-// Runs: 11, 13, then before each firing limit reached, history full, nothing enabled; 12 at a malformed record met in
-// the search, 16 at a contact. Of the history only the words written change, and nothing of it is read.
-pub fn run(image: &[u32], marking: &mut [u8], limit: u64, history: &mut [u32]) -> Ran
-    ensures { λ r. ⌜ Leaves (run (now (image .entry)) (now (marking .entry)) limit (length (now (history .entry)))) r
+// Runs by a rule: 11, 13, then the turns.
+fn run_checked(
+    image: &[u32],
+    marking: &mut [u8],
+    settle: bool,
+    limit: u64,
+    history: &mut [u32],
+) -> Ran
+    ensures { λ r. ⌜ Leaves
+        (runOf (now (image .entry)) (ruleOf settle (now (image .entry))) (now (marking .entry)) limit
+        (length (now (history .entry))))
+        r
         (now (marking .exit)) (now (history .exit)) (now (history .entry)) ⌝ }
 {
     if !header_right(image) {
@@ -596,5 +440,25 @@ pub fn run(image: &[u32], marking: &mut [u8], limit: u64, history: &mut [u32]) -
             firings: 0,
         };
     }
-    run_on(image, marking, limit as usize, history)
+    run_on(image, marking, settle, limit as usize, history)
+}
+
+// Runs, and settles first: fires the lowest enabled bookkeeping transition, else the lowest enabled one. 11, 13, then
+// before each firing limit reached, history full, nothing enabled; 12 at a malformed record met in the search, 16 at a
+// contact. Of the history only the words written change, and nothing of it is read.
+pub fn run(image: &[u32], marking: &mut [u8], limit: u64, history: &mut [u32]) -> Ran
+    ensures { λ r. ⌜ Leaves (run (now (image .entry)) (now (marking .entry)) limit (length (now (history .entry)))) r
+        (now (marking .exit)) (now (history .exit)) (now (history .entry)) ⌝ }
+{
+    run_checked(image, marking, true, limit, history)
+}
+
+// Runs by the old rule: fires the lowest enabled transition. All else is as in a run that settles first.
+pub fn run_lowest(image: &[u32], marking: &mut [u8], limit: u64, history: &mut [u32]) -> Ran
+    ensures { λ r. ⌜ Leaves
+        (runLowest (now (image .entry)) (now (marking .entry)) limit (length (now (history .entry))))
+        r
+        (now (marking .exit)) (now (history .exit)) (now (history .entry)) ⌝ }
+{
+    run_checked(image, marking, false, limit, history)
 }

@@ -25,7 +25,8 @@
 //   L                 finds the lowest and the number of the set as it is     1 or 0, lowest, number
 //   r number..        replays these numbers                                   cause, firings, marking
 //   h count           replays the first words of the history                  cause, firings, marking
-//   u limit room      runs, with a history of room words                      cause, reason, firings, history, marking
+//   u limit room      runs (settle first), with a history of room words       cause, reason, firings, history, marking
+//   U limit room      runs by the lowest enabled, with such a history         cause, reason, firings, history, marking
 //   g room            reads the marking back into room words                  cause, words written, the room words
 //   s room            writes the starting state into room words               cause, words written, the room words
 //   x word..          the state is these words                                its length
@@ -93,7 +94,7 @@ fn answer(
         b'F' => summaries::fire(request, sizes, image, marking, counts, enabled),
         b'K' => summaries::check(sizes, image, marking, counts, enabled),
         b'L' => summaries::find(sizes, enabled),
-        b'u' => nets::run(request, sizes, image, marking, history),
+        b'u' | b'U' => nets::run(request, sizes, image, marking, history),
         b'g' | b's' | b'k' => states::next(request, sizes, table, marking, state),
         b'o' => states::open_steps(request, sizes, table, state),
         b'v' => tables::rewrite(request, sizes, table),

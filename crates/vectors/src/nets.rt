@@ -10,6 +10,7 @@ use crate::sizes::cut16;
 use crate::sizes::cut32;
 use crate::sizes::least;
 use crate::text;
+use net::Ran;
 use net::Replayed;
 
 // Fills the first `count` words, or all if there are fewer.
@@ -112,7 +113,15 @@ pub fn look(request: Request, sizes: Sizes, image: &[u32], marking: &[u8]) -> Si
     sizes
 }
 
-// u: runs.
+// Runs by the rule of the request's letter.
+fn run_by(letter: u8, image: &[u32], marking: &mut [u8], limit: u64, history: &mut [u32]) -> Ran {
+    if letter == b'U' {
+        return net::run_lowest(image, marking, limit, history);
+    }
+    net::run(image, marking, limit, history)
+}
+
+// u, U: runs.
 pub fn run(
     request: Request,
     mut sizes: Sizes,
@@ -124,7 +133,8 @@ pub fn run(
     let bytes = cut8(sizes.marking, marking);
     fill32(history, request.b);
     let room = cut32(request.b, history);
-    let ran = net::run(
+    let ran = run_by(
+        request.letter,
         &image[..words],
         &mut marking[..bytes],
         request.a as u64,

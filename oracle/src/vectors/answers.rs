@@ -1,6 +1,6 @@
 //! The answers to requests.
 
-use crate::net::{Reason, Refusal};
+use crate::net::{Reason, Refusal, RunAnswer};
 use crate::summary;
 
 /// How much is kept of a table, an image, a marking, a state, a history and a summary, and lent for
@@ -36,6 +36,9 @@ pub fn answers(requests: &str) -> Result<String, String> {
     }
     Ok(text)
 }
+
+/// A run by one of the rules.
+type Run = fn(&[u32], &mut [u8], u64, &mut [u32]) -> Result<RunAnswer, Refusal>;
 
 /// What requests make, kept for those after them.
 #[derive(Default)]
@@ -101,7 +104,8 @@ impl Session {
                 let numbers = self.history[..count].to_vec();
                 self.replay(&numbers)
             }
-            "u" => self.run(&numbers),
+            "u" => self.run(crate::run, &numbers),
+            "U" => self.run(crate::run_lowest, &numbers),
             "g" => {
                 let mut room = lent_state(at(&numbers, 0));
                 let answer = crate::read(&self.table, &self.marking, &mut room);
@@ -181,10 +185,10 @@ impl Session {
         vec![cause.to_string(), firings.to_string(), list8(&self.marking)]
     }
 
-    fn run(&mut self, numbers: &[u64]) -> Vec<String> {
+    fn run(&mut self, run: Run, numbers: &[u64]) -> Vec<String> {
         let limit = number(numbers, 0);
         self.history = vec![FILL_32; at(numbers, 1).min(HISTORY_ROOM)];
-        let ran = crate::run(&self.image, &mut self.marking, limit, &mut self.history);
+        let ran = run(&self.image, &mut self.marking, limit, &mut self.history);
         let (cause, reason, firings) = match ran {
             Ok(answer) => (0, reason_number(answer.reason), answer.firings),
             Err(refusal) => {

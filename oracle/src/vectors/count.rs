@@ -62,12 +62,12 @@ fn found_before(session: &Session, line: &str, letter: char) -> Vec<String> {
 
 fn found_after(session: &Session, answer: &[&str], letter: char) -> Vec<String> {
     let mut found = Vec::new();
-    if "tbzferhugsokvacFK".contains(letter) {
+    if "tbzferhuUgsokvacFK".contains(letter) {
         let cause = answer.get(1).unwrap_or(&"");
         found.push(format!("cause {letter} {cause:>2}"));
         found.push(format!("cause all {cause:>2}"));
     }
-    if letter == 'u' {
+    if letter == 'u' || letter == 'U' {
         let [reason, firings] = [2, 3].map(|at| answer.get(at).copied().unwrap_or(""));
         found.push(format!("run reason {reason}"));
         if reason == "0" && firings != "0" {

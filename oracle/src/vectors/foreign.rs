@@ -47,7 +47,7 @@ pub fn play_foreign(writer: &mut Writer) {
             }
             _ => {
                 let (limit, room) = (writer.random.below(6), writer.random.below(6));
-                writer.ask('u', &[limit as u64, room as u64]);
+                writer.run(limit as u64, room as u64);
             }
         }
     }

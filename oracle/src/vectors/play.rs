@@ -215,7 +215,7 @@ impl Player<'_> {
 
     fn run(&mut self) {
         let (limit, room) = (self.random().below(7), self.random().below(7));
-        self.ask('u', &[limit, room]);
+        self.writer.run(limit as u64, room as u64);
         if self.random().chance(40) {
             let count = self.random().between(0, room);
             self.ask('h', &[count]);
@@ -409,7 +409,7 @@ impl Player<'_> {
             }
             _ => {
                 let limit = self.random().below(5);
-                self.ask('u', &[limit, 4]);
+                self.writer.run(limit as u64, 4);
             }
         }
     }
@@ -475,7 +475,7 @@ impl Player<'_> {
         }
         if self.random().chance(70) {
             let limit = self.random().below(6);
-            self.ask('u', &[limit, 5]);
+            self.writer.run(limit as u64, 5);
         }
     }
 

@@ -59,6 +59,15 @@ impl Writer {
         self.ask('t', &numbers);
     }
 
+    /// Runs by one rule or the other.
+    pub fn run(&mut self, limit: u64, room: u64) {
+        let letter = match (limit + room) % 2 {
+            0 => 'u',
+            _ => 'U',
+        };
+        self.ask(letter, &[limit, room]);
+    }
+
     /// Looks at a firing with a room that is exact, short or longer, or with none.
     pub fn look(&mut self, number: u64, places: usize) {
         let room = match self.random.below(8) {

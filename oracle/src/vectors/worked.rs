@@ -65,6 +65,7 @@ pub fn play_worked(writer: &mut Writer) {
     play_e(writer);
     look_at_e(writer);
     play_variants(writer);
+    play_rules(writer);
     for table in [&INTO_STOP[..], &ON_ITSELF[..], &REPEATED[..]] {
         walk(writer, table);
     }
@@ -149,10 +150,12 @@ fn play_e(writer: &mut Writer) {
         (18_446_744_073_709_551_615, 4),
         (18_446_744_073_709_551_615, 8),
     ] {
-        writer.ask('r', &[]);
-        writer.ask('u', &[limit, room]);
-        writer.ask('h', &[4]);
-        writer.ask('g', &[6]);
+        for rule in ['u', 'U'] {
+            writer.ask('r', &[]);
+            writer.ask(rule, &[limit, room]);
+            writer.ask('h', &[4]);
+            writer.ask('g', &[6]);
+        }
     }
     writer.ask('r', &[]);
     writer.ask('g', &[4]);
@@ -278,6 +281,42 @@ fn play_variants(writer: &mut Writer) {
     writer.ask('o', &[0]);
 }
 
+/// Runs by both rules of nets that no table has: three places, the first marked, and a token that
+/// can go to the second or the third by transitions of these kinds, the third of which may be
+/// malformed.
+fn play_rules(writer: &mut Writer) {
+    let step = [[0, 1], [0, 2], [0, 1]];
+    for (kinds, wrong) in [
+        ([2, 1, 1], false),
+        ([3, 4, 0], false),
+        ([2, 5, 3], false),
+        ([1, 0, 2], false),
+        ([6, 7, 4_294_967_295], false),
+        ([2, 3, 1], true),
+        ([2, 1, 0], true),
+        ([0, 3, 1], true),
+    ] {
+        let mut image = vec![3, 3, 3, 3, 1, 8, 9, 27, 0];
+        for (number, kind) in kinds.into_iter().enumerate() {
+            let start = match wrong && number == 2 {
+                true => 26,
+                false => 27 + 2 * number as u64,
+            };
+            image.extend([kind, 0, 0, start, 1, 1]);
+        }
+        image.extend(step.concat());
+        writer.ask('w', &image);
+        for (rule, limit) in [('u', 2), ('U', 2), ('u', 0), ('U', 0)] {
+            writer.ask('p', &[1, 0, 0]);
+            writer.ask(rule, &[limit, 2]);
+        }
+        // Where the token would go to the third place, there is one.
+        writer.ask('p', &[1, 0, 1]);
+        writer.ask('u', &[3, 3]);
+        writer.ask('U', &[3, 3]);
+    }
+}
+
 /// Builds a table, runs it firing by firing with a read-back after each, and walks its states.
 fn walk(writer: &mut Writer, table: &[u16]) {
     writer.table(table);
@@ -287,8 +326,8 @@ fn walk(writer: &mut Writer, table: &[u16]) {
     writer.ask('l', &[places]);
     writer.ask('r', &[]);
     writer.ask('g', &[8]);
-    for _ in 0..12 {
-        writer.ask('u', &[1, 1]);
+    for turn in 0..12 {
+        writer.ask(['U', 'u'][turn % 2], &[1, 1]);
         writer.ask('g', &[8]);
         writer.ask('o', &[9]);
     }

@@ -6,11 +6,8 @@ use Rattle.capi.proofs.dekohuna_run.Tie as tie
 run-requires : tie.Need-run-requires
 run-requires c κs = search needs
 
-reason-code-requires : tie.Need-reason-code-requires
-reason-code-requires c κs = search needs
-
-pack-requires : tie.Need-pack-requires
-pack-requires c κs = search needs
+ran-word-requires : tie.Need-ran-word-requires
+ran-word-requires c κs = search needs
 
 same-length : tie.Need-same-length
 same-length c = search needs
@@ -20,14 +17,12 @@ same-length-2 c = search needs
 
 returns : tie.Need-returns
 returns c =
-    let left = c .before .before .before .before .before .before .run .ensures in
+    let left = c .before .before .before .before .before .run .ensures in
     record {
-      word-is = rw (← left .firings, ← left .reason, ← c .before .reason-code .ensures .0) (c .pack .ensures);
+      word-is = rw (← left .firings, ← left .reason) (c .ran-word .ensures);
       marking-is = left .marking-is;
       history-is = left .history-is;
     }
 
 pub dekohuna-run-spec : {M : Type 1} → statement M
-dekohuna-run-spec =
-    tie.close
-    (tie.spec run-requires reason-code-requires pack-requires same-length same-length-2 returns)
+dekohuna-run-spec = tie.close (tie.spec run-requires ran-word-requires same-length same-length-2 returns)

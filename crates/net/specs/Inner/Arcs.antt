@@ -7,8 +7,8 @@ use Prim.Native.Nat.{ℕ, _^_, _≤_, _<_}
 use lib.ListN.{length}
 use lib.Seq.{slice}
 use Rattle.lists.specs.Lists.{pick, ascends}
-use Rattle.net.specs.declared.Record.{Record}
-use Rattle.net.specs.declared.Record.the-variants.{Arcs, Wrong}
+use Rattle.net.specs.declared.arcs.Record.{Record}
+use Rattle.net.specs.declared.arcs.Record.the-variants.{Arcs, Wrong}
 use Rattle.net.specs.Firing.{Step, made, refused}
 use Rattle.net.specs.Image.{arcsStart, lengthGiven, inputsStart, outputsStart, outputsEnd, recordRight}
 

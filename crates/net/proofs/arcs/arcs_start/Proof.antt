@@ -1,9 +1,9 @@
--- `net::arcs_start` meets its contract: the sum of 32-bit words is small.
+-- `net::arcs::arcs_start` meets its contract: the sum of 32-bit words is small.
 use mathlib.Core.Path.{refl}
 use native.Mathlib.Omega.{arith}
 use borrow.Author.Needs.{needs}
-use Rattle.net.proofs.arcs_start.Statement.{statement}
-use Rattle.net.proofs.arcs_start.Tie as tie
+use Rattle.net.proofs.arcs.arcs_start.Statement.{statement}
+use Rattle.net.proofs.arcs.arcs_start.Tie as tie
 
 shared-slice-read-tokens : tie.Need-shared-slice-read-tokens
 shared-slice-read-tokens c = search needs

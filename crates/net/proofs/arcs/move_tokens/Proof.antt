@@ -1,4 +1,4 @@
--- `net::move_tokens` meets its contract: the inputs' tokens are taken, then the outputs' given.
+-- `net::arcs::move_tokens` meets its contract: the inputs' tokens are taken, then the outputs' given.
 use mathlib.Core.Path.{ap, _∙_}
 use mathlib.Core.List.{List}
 use Prim.Native.Nat.{ℕ}
@@ -8,8 +8,8 @@ use borrow.Author.Needs.{needs}
 use Rattle.net.specs.Firing.{put}
 use Rattle.net.proofs.Marks.{length-put}
 use Rattle.net.proofs.Images.{listed-for}
-use Rattle.net.proofs.move_tokens.Statement.{statement}
-use Rattle.net.proofs.move_tokens.Tie as tie
+use Rattle.net.proofs.arcs.move_tokens.Statement.{statement}
+use Rattle.net.proofs.arcs.move_tokens.Tie as tie
 
 put-all-requires : tie.Need-put-all-requires
 put-all-requires c κs = search needs

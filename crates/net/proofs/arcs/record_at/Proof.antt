@@ -1,11 +1,11 @@
--- `net::record_at` meets its contract: each return is one test of the definition, in its order.
+-- `net::arcs::record_at` meets its contract: each return is one test of the definition, in its order.
 use mathlib.Core.Path.{sym, _∙_}
 use native.Mathlib.Omega.{arith}
 use borrow.Author.Needs.{needs}
 use borrow.Author.Tests.{not-true, not-false}
 use Rattle.net.proofs.Images.{before-arcs, past-end, inputs-wrong, outputs-wrong, all-right, decoded-right, decoded-wrong}
-use Rattle.net.proofs.record_at.Statement.{statement}
-use Rattle.net.proofs.record_at.Tie as tie
+use Rattle.net.proofs.arcs.record_at.Statement.{statement}
+use Rattle.net.proofs.arcs.record_at.Tie as tie
 
 span-of-requires : tie.Need-span-of-requires
 span-of-requires c κs = search needs

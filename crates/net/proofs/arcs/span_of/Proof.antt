@@ -1,10 +1,10 @@
--- `net::span_of` meets its contract: a record's words lie below the arcs' start, and sums of 32-bit words fit.
+-- `net::arcs::span_of` meets its contract: a record's words lie below the arcs' start, and sums of 32-bit words fit.
 use Prim.Native.Nat.{ℕ, _+_}
 use native.Mathlib.Omega.{arith}
 use borrow.Author.Needs.{needs}
 use Rattle.net.specs.Image.{recordStart}
-use Rattle.net.proofs.span_of.Statement.{statement}
-use Rattle.net.proofs.span_of.Tie as tie
+use Rattle.net.proofs.arcs.span_of.Statement.{statement}
+use Rattle.net.proofs.arcs.span_of.Tie as tie
 
 -- where the record stands
 abbrev at : tie.Start → ℕ

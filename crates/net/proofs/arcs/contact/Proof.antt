@@ -1,4 +1,4 @@
--- `net::contact` meets its contract. Loop: inputs and outputs left ascend, and have a contact exactly if all have. Measure: arcs left.
+-- `net::arcs::contact` meets its contract. Loop: inputs and outputs left ascend, and have a contact exactly if all have. Measure: arcs left.
 use mathlib.Core.Bool.{true, false}
 use mathlib.Core.Path.{_≡_, refl, sym, _∙_}
 use mathlib.Core.Logic.{⊎-elim}
@@ -11,8 +11,8 @@ use Rattle.lists.specs.Lists.{member, ascends}
 use Rattle.lists.proofs.Ascending.{slice-below, rising-rest}
 use Rattle.net.specs.Firing.{hasContact}
 use Rattle.net.proofs.Marks.{contact-less, contact-both, contact-here, contact-free, contact-none, no-input-above, no-input-left}
-use Rattle.net.proofs.contact.Statement.{statement}
-use Rattle.net.proofs.contact.Tie as tie
+use Rattle.net.proofs.arcs.contact.Statement.{statement}
+use Rattle.net.proofs.arcs.contact.Tie as tie
 
 abbrev Inv-loop : tie.InvT-loop
 Inv-loop words start middle end marking next-input₀ next-output₀ next-input next-output =

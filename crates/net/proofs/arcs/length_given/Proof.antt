@@ -1,8 +1,8 @@
--- `net::length_given` meets its contract: the sum of 32-bit words is small.
+-- `net::arcs::length_given` meets its contract: the sum of 32-bit words is small.
 use native.Mathlib.Omega.{arith}
 use borrow.Author.Needs.{needs}
-use Rattle.net.proofs.length_given.Statement.{statement}
-use Rattle.net.proofs.length_given.Tie as tie
+use Rattle.net.proofs.arcs.length_given.Statement.{statement}
+use Rattle.net.proofs.arcs.length_given.Tie as tie
 
 shared-slice-read-inputs : tie.Need-shared-slice-read-inputs
 shared-slice-read-inputs c = search needs

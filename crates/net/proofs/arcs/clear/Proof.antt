@@ -1,4 +1,4 @@
--- `net::clear` meets its contract. Loop: the first i bytes are 0, the others as they were. Measure: bytes left.
+-- `net::arcs::clear` meets its contract. Loop: the first i bytes are 0, the others as they were. Measure: bytes left.
 use mathlib.Core.Path.{_≡_, refl, ap, _∙_}
 use mathlib.Core.List.{List, _++_}
 use Prim.Native.Nat.{ℕ, _-_, _≤_}
@@ -6,8 +6,8 @@ use native.Mathlib.Omega.{arith}
 use lib.ListN.{length, set, drop, replicate, length-set}
 use borrow.Author.Fill.{fill-more}
 use Rattle.lists.proofs.Slices.{filled}
-use Rattle.net.proofs.clear.Statement.{statement}
-use Rattle.net.proofs.clear.Tie as tie
+use Rattle.net.proofs.arcs.clear.Statement.{statement}
+use Rattle.net.proofs.arcs.clear.Tie as tie
 
 abbrev Inv-loop : tie.InvT-loop
 Inv-loop marking₀ i₀ marking i = (i ≤ length marking₀) × (marking ≡ replicate i 0 ++ drop i marking₀) × (length marking ≡ length marking₀)

@@ -1,4 +1,4 @@
--- `net::all_marked` meets its contract. Loop: all places listed have tokens exactly if those left do. Measure: places left.
+-- `net::arcs::all_marked` meets its contract. Loop: all places listed have tokens exactly if those left do. Measure: places left.
 use mathlib.Core.Path.{_≡_, refl, sym, _∙_}
 use Prim.Native.Nat.{_-_, _≤_}
 use native.Mathlib.Omega.{arith}
@@ -7,8 +7,8 @@ use borrow.Author.Needs.{needs}
 use Rattle.lists.proofs.Ascending.{slice-below}
 use Rattle.net.specs.Firing.{isEnabled}
 use Rattle.net.proofs.Marks.{enabled-not, enabled-more, enabled-none}
-use Rattle.net.proofs.all_marked.Statement.{statement}
-use Rattle.net.proofs.all_marked.Tie as tie
+use Rattle.net.proofs.arcs.all_marked.Statement.{statement}
+use Rattle.net.proofs.arcs.all_marked.Tie as tie
 
 abbrev Inv-loop : tie.InvT-loop
 Inv-loop words start end marking i₀ i = (start ≤ i) × (isEnabled marking (slice start end words) ≡ isEnabled marking (slice i end words))

@@ -1,4 +1,4 @@
--- `net::put_all` meets its contract. Loop: what is left is written to the marking as it is now. Measure: places left.
+-- `net::arcs::put_all` meets its contract. Loop: what is left is written to the marking as it is now. Measure: places left.
 use mathlib.Core.Path.{_≡_, refl, sym, _∙_}
 use Prim.Native.Nat.{_-_, _≤_}
 use native.Mathlib.Omega.{arith}
@@ -8,8 +8,8 @@ use borrow.Author.Needs.{needs}
 use Rattle.lists.proofs.Ascending.{slice-below}
 use Rattle.net.specs.Firing.{put}
 use Rattle.net.proofs.Marks.{put-more, put-none}
-use Rattle.net.proofs.put_all.Statement.{statement}
-use Rattle.net.proofs.put_all.Tie as tie
+use Rattle.net.proofs.arcs.put_all.Statement.{statement}
+use Rattle.net.proofs.arcs.put_all.Tie as tie
 
 abbrev Inv-loop : tie.InvT-loop
 Inv-loop words start end marking₀ byte next₀ marking next = (start ≤ next) × (length marking ≡ length marking₀) ×
