@@ -1,5 +1,4 @@
 -- `net::smaller` meets its contract.
-use borrow.Author.Needs.{needs}
 use borrow.Author.Tests.{lt-ltb, le-ltb}
 use Rattle.net.proofs.smaller.Statement.{statement}
 use Rattle.net.proofs.smaller.Tie as tie

@@ -2,11 +2,10 @@
 use mathlib.Core.Bool.{true, false}
 use mathlib.Core.Path.{_≡_, refl, sym, _∙_}
 use mathlib.Core.Logic.{⊎-elim}
-use Prim.Native.Nat.{ℕ, _+_, _-_}
+use Prim.Native.Nat.{_+_, _-_}
 use native.Mathlib.Omega.{arith}
 use lib.ListN.{length, getD}
 use lib.Seq.{slice}
-use borrow.Author.Needs.{needs}
 use Rattle.lists.specs.Lists.{member, ascends}
 use Rattle.lists.proofs.Ascending.{slice-below, rising-rest}
 use Rattle.net.specs.Firing.{hasContact}

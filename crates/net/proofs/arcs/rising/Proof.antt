@@ -1,7 +1,7 @@
 -- `net::arcs::rising` meets its contract. Loop: the whole part ascends exactly if its words did so far, and what follows the word at i goes
 -- on from there. Measure: pairs left.
 use mathlib.Core.Bool.{Bool, _&&_}
-use mathlib.Core.Path.{_≡_, refl, sym, ap, _∙_}
+use mathlib.Core.Path.{_≡_, sym, ap, _∙_}
 use mathlib.Core.Logic.{⊎-elim}
 use Prim.Native.Nat.{_+_, _-_, _≤_, _<_}
 use native.Mathlib.Omega.{arith}
