@@ -20,7 +20,7 @@ use Rattle.process.specs.Steps.{Step, isOpen}
 use Rattle.net.specs.Firing as Firing
 use Rattle.net.specs.Firing.{Outcome, outcome, RunOutcome, made, refused, step, inTurn, Search, lowestEnabled, settleFirst, runBy, initialMarking, isMarking}
 use Rattle.net.specs.Image.{placeCount, transitionCount, headerRight, recordsRight}
-use Rattle.net.specs.Net.{Net, encode}
+use Rattle.net.specs.Net.{Net, encode, isAscending}
 use Rattle.net.proofs.Steps.{turn-last, turn-refused, marking-length}
 use Rattle.net.proofs.Outcomes.{turn-first, turn-keeps, run-in-turn, run-count}
 use Rattle.net.proofs.Built.{initial-is-marking, fire-built, replay-built, run-built}
@@ -40,7 +40,8 @@ use Rattle.fidelity.proofs.Built as Built
 use Rattle.fidelity.proofs.Turns.{image, S, U, E, image-is, Kept, Acts, goes, stops, turns}
 use Rattle.fidelity.proofs.Waiting.{can-fire}
 use Rattle.fidelity.proofs.Worlds.{Calm, calm-16, calm-leaves, every-snoc, net, Standing, act, turn-calm, Joined, joined, advances-append}
-use Rattle.fidelity.proofs.Worlds.{Quiet, run-quiet}
+use Rattle.fidelity.proofs.Worlds.{run-calm}
+use Rattle.fidelity.proofs.Searching.{Sound, settles-sound, lowest-sound}
 
 abbrev calm : Answer → Bool
 calm a = not (same (a .cause) 16)
@@ -207,8 +208,9 @@ module _ (w : List ℕ) (A : Accepted (scheme w)) where
       subst (λ (i : List ℕ). Firing.runOf i (rule i) (v .marking) limit room ≡ runBy i (rule i) limit room (v .marking)) (sym (image-is w A))
       (run-built (net w A) (Built.net-ascending (S w A) (U w A) A (E w A)) (rule (encode (net w A))) (v .marking) limit room (played-marking v P))
 
-  ran-played : (rule : List ℕ → Search) (v : World) → Played v → (limit room : ℕ) → Played (ranBy v (runBy (image w) rule limit room (v .marking)))
-  ran-played rule v P limit room = go (runBy (image w) rule limit room (v .marking)) refl (played-stands v P)
+  ran-played : (rule : List ℕ → Search) → Sound (image w) rule → (v : World) → Played v → (limit room : ℕ)
+      → Played (ranBy v (runBy (image w) rule limit room (v .marking)))
+  ran-played rule G v P limit room = go (runBy (image w) rule limit room (v .marking)) refl (played-stands v P)
     where
       go : (r : RunOutcome) → runBy (image w) rule limit room (v .marking) ≡ r → Stands (S w A) (U w A) (v .marking) (v .plain .state) → Played (ranBy v r)
       go r e T =
@@ -219,19 +221,22 @@ module _ (w : List ℕ) (A : Accepted (scheme w)) where
           let turn : inTurn (image w) (v .marking) (r .history) ≡ outcome 0 (r .firings) (r .marking)
           = subst (λ (o : RunOutcome). inTurn (image w) (v .marking) (o .history) ≡ outcome 0 (o .firings) (o .marking)) e
           (run-in-turn (image w) rule limit room (v .marking)) in
-          let quiet : Quiet w A r
-          = subst (Quiet w A) e
-          (subst (λ (m : List ℕ). Quiet w A (runBy (image w) rule limit room m)) (sym (T .is))
-          (run-quiet w A rule limit room (T .configuration) (v .plain .state) (T .shows))) in
+          let quiet : endingCause (r .reason) ≡ 0
+          = subst (λ (o : RunOutcome). endingCause (o .reason) ≡ 0) e
+          (subst (λ (m : List ℕ). endingCause (runBy (image w) rule limit room m .reason) ≡ 0) (sym (T .is))
+          (run-calm w A rule G limit room (T .configuration) (v .plain .state) (T .shows))) in
           more-made v P (take (r .firings) (r .history)) (ofRun r .answer) (r .marking)
           (ap (λ (ks : List ℕ). inTurn (image w) (v .marking) ks .cause) all ∙ ap (λ (o : Outcome). o .cause) turn)
           (sym (ap (λ (ks : List ℕ). inTurn (image w) (v .marking) ks .marking) all ∙ ap (λ (o : Outcome). o .marking) turn))
-          quiet
+          (calm-16 (endingCause (r .reason)) (inl quiet))
 
-  rule-played : (rule : List ℕ → List ℕ → Search) (v : World) → Played v → (limit room : ℕ)
-      → Played (ranBy v (Firing.runOf (image w) (rule (image w)) (v .marking) limit room))
-  rule-played rule v P limit room =
-      subst (λ (r : RunOutcome). Played (ranBy v r)) (sym (run-turn rule v P limit room)) (ran-played (rule (image w)) v P limit room)
+  -- of any rule that is sound on built nets
+  rule-played : (rule : List ℕ → List ℕ → Search) → ((i : Net) → isAscending i ≡ true → Sound (encode i) (rule (encode i))) → (v : World) → Played v
+      → (limit room : ℕ) → Played (ranBy v (Firing.runOf (image w) (rule (image w)) (v .marking) limit room))
+  rule-played rule G v P limit room =
+      subst (λ (r : RunOutcome). Played (ranBy v r)) (sym (run-turn rule v P limit room))
+      (ran-played (rule (image w))
+      (subst (λ (i : List ℕ). Sound i (rule i)) (sym (image-is w A)) (G (net w A) (Built.net-ascending (S w A) (U w A) A (E w A)))) v P limit room)
 
   -- ---- replays
 
@@ -270,8 +275,8 @@ module _ (w : List ℕ) (A : Accepted (scheme w)) where
   called-played : (v : World) → Played v → (c : Call) → Played (calledOn w (image w) v c)
   called-played v P (fire k) = subst (λ (o : Outcome). Played (firedBy v k o)) (sym (fire-turn v P k)) (fired-played v P k)
   called-played v P (fireWith s k) = kept-played v P s k
-  called-played v P (run limit room) = rule-played settleFirst v P limit room
-  called-played v P (runLowest limit room) = rule-played lowestEnabled v P limit room
+  called-played v P (run limit room) = rule-played settleFirst settles-sound v P limit room
+  called-played v P (runLowest limit room) = rule-played lowestEnabled lowest-sound v P limit room
   called-played v P (replay ks) = subst (λ (o : Outcome). Played (replayedBy v ks o)) (sym (replay-turn v P ks)) (replayed-played v P ks)
 
   after-played : (cs : List Call) (v : World) → Played v → Played (after w (image w) v cs)

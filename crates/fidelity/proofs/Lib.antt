@@ -26,6 +26,7 @@ pub mod Numbers
 pub mod Built
 pub mod Turns
 pub mod Waiting
+pub mod Searching
 pub mod Worlds
 pub mod Histories
 pub mod Accepting

@@ -13,7 +13,7 @@ use Rattle.scheme.specs.Scheme.{Scheme, scheme}
 use Rattle.table.specs.Accepted.{Accepted}
 use Rattle.process.specs.States.{State, start}
 use Rattle.net.specs.Firing as Firing
-use Rattle.net.specs.Firing.{Outcome, outcome, RunOutcome, preceded, Search, Step, made, refused, step, inTurn, runBy, initialMarking, isMarking}
+use Rattle.net.specs.Firing.{Outcome, outcome, RunOutcome, Search, lowest, Step, made, refused, step, inTurn, runBy, initialMarking, isMarking}
 use Rattle.net.specs.Net.{Net, encode}
 use Rattle.net.proofs.Steps.{turn-made, turn-refused, turn-last, marking-length}
 use Rattle.net.proofs.Outcomes.{turn-first, turn-keeps, run-cases, run-in-turn, run-count}
@@ -23,6 +23,7 @@ use Rattle.readback.specs.Configurations.{Configuration}
 use Rattle.fidelity.specs.Calls.{endingCause, advance, advances, leavesAll}
 use Rattle.fidelity.specs.Inner.Standing.{Shows, markingOf}
 use Rattle.fidelity.specs.Inner.Starting.{startConfiguration}
+use Rattle.fidelity.proofs.Searching.{Sound}
 use Rattle.fidelity.proofs.Rows.{left-bound}
 use Rattle.fidelity.proofs.Starting.{start-shows}
 use Rattle.fidelity.proofs.Built as Built
@@ -121,17 +122,15 @@ module _ (w : List ℕ) (A : Accepted (scheme w)) where
   advances-append s [] b = refl
   advances-append s (k ∷ a) b = advances-append (advance w (image w) s k) a b
 
-  -- a run by any rule is not stopped by 16
-  abbrev pub Quiet : RunOutcome → Type 0
-  Quiet r = not (same (endingCause (r .reason)) 16) ≡ true
-
-  pub run-quiet : (rule : List ℕ → Search) (limit room : ℕ) (c : Configuration) (s : State) → Standing c s → Quiet (runBy (image w) rule limit room (marks c))
-  unfolding runBy same
-  run-quiet rule zero room c s R = refl
-  run-quiet rule (suc limit) zero c s R = refl
-  run-quiet rule (suc limit) (suc room) c s R =
-      run-cases (image w) rule limit room (marks c) Quiet (λ p. refl) (λ p. refl) (λ t k p q. halted t k q (act c s t R))
-      (λ t next p q. onward t next q (act c s t R) (run-quiet rule limit room))
+  -- a run by a sound rule stops at no cause
+  pub run-calm : (rule : List ℕ → Search) → Sound (image w) rule → (limit room : ℕ) (c : Configuration) (s : State) → Standing c s
+      → endingCause (runBy (image w) rule limit room (marks c) .reason) ≡ 0
+  unfolding runBy
+  run-calm rule G zero room c s R = refl
+  run-calm rule G (suc limit) zero c s R = refl
+  run-calm rule G (suc limit) (suc room) c s R =
+      run-cases (image w) rule limit room (marks c) (λ o. endingCause (o .reason) ≡ 0) (λ p. refl) (λ p. absurd (G .whole (marks c) p))
+      (λ t k p q. absurd (never t k p q)) (λ t next p q. onward t next q (act c s t R) (run-calm rule G limit room))
     where
       same-refused : (a b : ℕ) → refused a ≡ refused b → a ≡ b
       same-refused a b e = cc
@@ -142,14 +141,18 @@ module _ (w : List ℕ) (A : Accepted (scheme w)) where
       same-made : (a b : List ℕ) → made a ≡ made b → a ≡ b
       same-made a b e = cc
 
-      halted : (t k : ℕ) → step (image w) (marks c) t ≡ refused k → Acts w A c s 0 t → not (same k 16) ≡ true
-      halted t k q (goes d N e o b) = absurd (apart k (marks d) (sym q ∙ e))
-      halted t k q (stops j h e) = let y : j ≡ k = same-refused j k (sym e ∙ q) in subst (λ (n : ℕ). not (same n 16) ≡ true) y (calm-16 j (inr h))
+      never : (t k : ℕ) → rule (marks c) ≡ lowest t → step (image w) (marks c) t ≡ refused k → ⊥
+      never t k p q = go (act c s t R) (G .refuses (marks c) t k p q)
+        where
+          go : Acts w A c s 0 t → k ≡ 16 → ⊥
+          go (goes d N e o b) h = apart k (marks d) (sym q ∙ e)
+          go (stops cause (inl x) e) h = let y : k ≡ cause = same-refused k cause (sym q ∙ e) in omega arith
+          go (stops cause (inr x) e) h = let y : k ≡ cause = same-refused k cause (sym q ∙ e) in omega arith
 
       onward : (t : ℕ) (next : List ℕ) → step (image w) (marks c) t ≡ made next → Acts w A c s 0 t
-          → ((c : Configuration) (s : State) → Standing c s → Quiet (runBy (image w) rule limit room (marks c)))
-          → Quiet (preceded (t ∷ []) (runBy (image w) rule limit room next))
+          → ((c : Configuration) (s : State) → Standing c s → endingCause (runBy (image w) rule limit room (marks c) .reason) ≡ 0)
+          → endingCause (runBy (image w) rule limit room next .reason) ≡ 0
       onward t next q (goes d N e o b) ih =
-          subst (λ (m : List ℕ). Quiet (runBy (image w) rule limit room m)) (sym (same-made next (marks d) (sym q ∙ e)))
+          subst (λ (m : List ℕ). endingCause (runBy (image w) rule limit room m .reason) ≡ 0) (sym (same-made next (marks d) (sym q ∙ e)))
           (ih d (advance w (image w) s t) N)
       onward t next q (stops cause h e) ih = absurd (apart cause next (sym e ∙ q))
