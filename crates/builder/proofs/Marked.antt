@@ -27,7 +27,7 @@ use Rattle.places.specs.Rows.{freeStart}
 use Rattle.places.specs.Inner.Arcs.{insert, startsAt, initialNumbers}
 use Rattle.builder.specs.Inner.Writing.{writes}
 use Rattle.places.specs.Inner.Plan.{today, privatesOf, values, controlOf, rowOf}
-use Rattle.places.specs.Plan.{privatesAt, freeAt, rowsIn, nodesIn, reachIn, Laid}
+use Rattle.places.specs.Plan.{privatesAt, freeAt, nodesIn, reachIn, Laid}
 use Rattle.places.proofs.Plans
 use Rattle.builder.proofs.Counted.{Counted}
 use Rattle.builder.specs.Inner.Parts.{Rising, Inserted, initialRows, initialSpots}
@@ -83,7 +83,7 @@ marks-skip w x e h r = marks-more w x e h ∙ ap (λ (l : List ℕ). l ++ rowsMa
 -- what the code reads of a name that New reads: the publics of its reach, and where [x≠n] starts
 pub record Read (w y : List ℕ) (x row c : ℕ) : Type 0 where
   pub reads : isRead w x ≡ true
-  pub row-is : row ≡ word (rowsIn y) x
+  pub row-is : row ≡ rowOf w x
   pub count-is : c ≡ length (keep (bitAt (reachIn y x .publics)) (range (publics w)))
 
 module _ (w y : List ℕ) (L : Laid w y) (ps ns : ℕ) (k : Counted w ps ns) where
@@ -98,7 +98,7 @@ module _ (w y : List ℕ) (L : Laid w y) (ps ns : ℕ) (k : Counted w ps ns) whe
       let q : c ≡ length (publicsOf S x) =
       e .count-is ∙ ap (λ (z : Reach). length (keep (bitAt (z .publics)) (range (publics w)))) (Plans.reach-is w y L x)
       ∙ ap (λ (l : List ℕ). length l) (publics-kept w (L .accepted) x (publics w) (omega arith)) in
-      let b : rowOf w x + length (values w x) ≡ row + (c + ns) = omega (arith, e .row-is, Plans.row-is w y L x h l, v, q, k .privates-are) in
+      let b : rowOf w x + length (values w x) ≡ row + (c + ns) = omega (arith, e .row-is, v, q, k .privates-are) in
       rw (r, p, b, k .privates-are)
 
   -- the marks of such a name are written, then those of the names behind it
@@ -175,11 +175,11 @@ module _ (w y : List ℕ) (L : Laid w y) (ps ns bs : ℕ) (k : Counted w ps ns) 
       }
 
   -- the sums that the code forms are small
-  pub rows-room : (out : List ℕ) (at x row : ℕ) → RowsTurn w begin end out at x → x < end → row ≡ word (rowsIn y) x
+  pub rows-room : (out : List ℕ) (at x row : ℕ) → RowsTurn w begin end out at x → x < end → row ≡ rowOf w x
       → (row + (64 + ns) + ns ≤ 4096) × (at ≤ 4096)
   rows-room out at x row i l e =
       let u : x < names w = omega (arith, end-is) in
-      let f = Plans.row-few w y L x (i .low) u in (
+      let f = Plans.row-small w (L .accepted) x (omega arith) in (
         omega (arith, e, f, k .privates-are, k .few-privates),
         omega (arith, i .few, i .high, k .few-bounds),
       )

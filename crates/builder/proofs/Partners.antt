@@ -3,13 +3,14 @@ use mathlib.Core.Path.{_≡_, refl, sym, ap, subst, _∙_}
 use mathlib.Core.Logic.{_⊎_, inl, inr}
 use mathlib.Core.Bool.{Bool, true, false, true≢false}
 use mathlib.Core.List.{List, [], _∷_, _++_, map}
-use Prim.Native.Nat.{ℕ, _+_, _-_, _^_, _≤_, _<_}
+use Prim.Native.Nat.{ℕ, _+_, _-_, _*_, _^_, _≤_, _<_}
 use native.Mathlib.Decide.{ℕ-discrete}
 use native.Mathlib.Omega.{arith}
 use lib.Bits.{bitAnd}
 use lib.Count.{trailingZeros}
 use lib.Dec.{ltb}
-use lib.ListN.{length}
+use lib.ListN.{length, set, length-append, length-set, List·getD-append}
+use lib.Seq.{getD-append-seam, getD-set-same, getD-set-other}
 use borrow.Author.Tests.{lt-ltb}
 use Rattle.lists.specs.Lists.{pick, same, word, from, range, flat, keep}
 use Rattle.lists.proofs.Tests.{same-yes, same-no, same-true, same-false}
@@ -33,11 +34,12 @@ use Rattle.places.specs.Inner.Plan.{today, controlOf}
 use Rattle.places.proofs.Plans.{home-is, node-is}
 use Rattle.places.proofs.Scanning.{lowest-first, numbers-none}
 use Rattle.places.proofs.Hearing.{flat-kept, receive-of, receives-here, branch-here, set-empty, set-member, set-flat, meets-apart, deaf}
-use Rattle.builder.specs.Inner.Parts.{ofTable, state, pairTold, withBranch, withAll, Paired, pairOf, Coursed}
+use Rattle.builder.specs.Inner.Parts.{ofTable, state, pairTold, withBranch, withAll, Paired, pairOf, Coursed, Begins, StartsOf}
 use Rattle.builder.specs.declared.write.Heads.{Heads}
 use Rattle.builder.specs.declared.communications.Pair.{Pair}
 use Rattle.builder.specs.declared.communications.Course.{Course}
 use Rattle.places.specs.declared.count.Side.{Side}
+use Rattle.builder.specs.declared.communications.Starts.{Starts}
 use Rattle.builder.proofs.Writing.{put-none, put-append, inside-first}
 use Rattle.places.proofs.Controls.{nodes-are}
 use Rattle.places.proofs.ByWords.{send-branch, receive-branch}
@@ -214,6 +216,37 @@ meets-known w x L s k b =
       apart = meets-apart w x L s (word (receivesOf w) k) q;
     }
 
+-- ---- where the rows of the receives' names start
+
+-- what is written for the next branch keeps what was written
+module _ (w rows bs : List ℕ) (S : StartsOf w rows bs) (room : length rows ≡ 64) (b a z at : ℕ) (ea : Begins w (channel w b) a)
+    (ez : Begins w (branchName w b) z) (e : at ≡ 2 * length bs) where
+  abbrev stored : List ℕ
+  stored = set (set rows at a) (at + 1) z
+
+  -- two words of a branch below, and those of the branch
+  kept-below : (i : ℕ) → i < at → word stored i ≡ word rows i
+  kept-below i h = getD-set-other (set rows at a) (at + 1) i z 0 (λ q. omega (arith, q, h)) ∙ getD-set-other rows at i a 0 (λ q. omega (arith, q, h))
+
+  channel-stored : at + 1 < 64 → word stored at ≡ a
+  channel-stored h = getD-set-other (set rows at a) (at + 1) at z 0 (λ q. omega (arith, q)) ∙ getD-set-same rows at a 0 (omega (arith, room, h))
+
+  name-stored : at + 1 < 64 → word stored (at + 1) ≡ z
+  name-stored h = getD-set-same (set rows at a) (at + 1) z 0 (omega (arith, length-set rows at a, room, h))
+
+  pub starts-more : StartsOf w stored (bs ++ (b ∷ []))
+  starts-more k l h = go (ℕ-discrete k (length bs))
+    where
+      go : Dec (k ≡ length bs)
+          → Begins w (channel w (word (bs ++ (b ∷ [])) k)) (word stored (2 * k)) × Begins w (branchName w (word (bs ++ (b ∷ [])) k)) (word stored (2 * k + 1))
+      go (yes q) =
+          let i : 2 * k ≡ at = omega (arith, q, e) in
+          let r : at + 1 < 64 = omega (arith, i, h) in
+          rw (q, getD-append-seam bs b [] 0, sym e, channel-stored r, name-stored r) (ea, ez)
+      go (no d) =
+          let j : k < length bs = omega (arith, l, d, length-append bs (b ∷ [])) in
+          rw (List·getD-append bs (b ∷ []) 0 k j, kept-below (2 * k) (omega (arith, j, e)), kept-below (2 * k + 1) (omega (arith, j, e))) (S k j h)
+
 -- ---- a pair as the code reads it
 
 home-at : (w : List ℕ) (b : ℕ) → scheme w .home b ≡ home w b
@@ -228,8 +261,9 @@ next-below : (w : List ℕ) → cause w ≡ 0 → (b : ℕ) → present (scheme 
 next-below w ok b h e = omega (arith, nodes-are w, accepted w ok .next-inside b h, e)
 
 pair-known : (w x : List ℕ) (s r : ℕ) → Laid w x → s < branches w → r < branches w → isSend w s ≡ true → branchKind w r ≡ 2
-    → (branchThread w r ≡ branchThread w s → ⊥) → Paired w (pairOf (sideIn w x s) (sideIn w x r))
-pair-known w x s r k ls lr q u d = record {
+    → (branchThread w r ≡ branchThread w s → ⊥) → (own other : Starts) → Begins w (channel w s) (own .channel) → Begins w (branchName w s) (own .name)
+    → Begins w (channel w r) (other .channel) → Begins w (branchName w r) (other .name) → Paired w (pairOf (sideIn w x s) own (sideIn w x r) other)
+pair-known w x s r k ls lr q u d own other ea ez ee ey = record {
   send-inside = ls;
   receive-inside = lr;
   sends = q;
@@ -243,6 +277,10 @@ pair-known w x s r k ls lr q u d = record {
   onsend-is = starts (next w s) send-next;
   receiver-is = ap (word (nodesIn x)) (at-home r) ∙ starts (home w r) (home-inside r);
   onreceive-is = starts (next w r) receive-next;
+  channel-row = ea;
+  sent-row = ez;
+  heard-row = ee;
+  bound-row = ey;
 }
   where
     at-home : (b : ℕ) → word (homesIn x) b ≡ home w b
@@ -265,19 +303,23 @@ pair-known w x s r k ls lr q u d = record {
         next-below w (k .accepted) r (ap present d) (ap nextNode d)
 
 -- what is read of both branches, and of how the send is gone through
-module _ (w x list : List ℕ) (L : Laid w x) (ps : Pairs w x list) (s k : ℕ) (l : s < branches w) (m : Meets w x s k) (d r : Side) (p : Pair)
-    (ed : d ≡ sideIn w x s) (er : r ≡ sideAt list k) (ep : p ≡ pairOf d r) where
+module _ (w x list : List ℕ) (L : Laid w x) (ps : Pairs w x list) (s k : ℕ) (l : s < branches w) (m : Meets w x s k) (d r : Side) (own other : Starts)
+    (p : Pair)
+    (ed : d ≡ sideIn w x s) (er : r ≡ sideAt list k) (ep : p ≡ pairOf d own r other)
+    (ea : Begins w (d .channel) (own .channel)) (ez : Begins w (d .name) (own .name)) where
   abbrev y : ℕ
   y = word (receivesOf w) k
 
   heard : r ≡ sideIn w x y
   heard = er ∙ ps .sides-are k (m .inside)
 
-  read : p ≡ pairOf (sideIn w x s) (sideIn w x y)
+  read : p ≡ pairOf (sideIn w x s) own (sideIn w x y) other
   read = ep ∙ rw (ed, heard)
 
-  pub pair-read : Paired w p
-  pair-read = subst (Paired w) (sym read) (pair-known w x s y L l (m .branch-inside) (m .sends) (m .receives) (m .apart))
+  pub pair-read : Begins w (channel w y) (other .channel) → Begins w (branchName w y) (other .name) → Paired w p
+  pair-read ee ey =
+      subst (Paired w) (sym read)
+      (pair-known w x s y L l (m .branch-inside) (m .sends) (m .receives) (m .apart) own other (rw ed at ea) (rw ed at ez) ee ey)
 
   pub course-read : (c : Course) → Coursed w (d .channel) (d .name) c → Coursed w (p .channel) (p .sent) c
   course-read c h = subst (λ (q : Pair). Coursed w (q .channel) (q .sent) c) (sym ep) h

@@ -19,13 +19,13 @@ use Rattle.places.specs.Places.{differs, free}
 use Rattle.places.specs.Rows.{numberOf, freeStart}
 use Rattle.places.specs.Transitions.{Description, releasing}
 use Rattle.places.specs.Reaches.{publicWord}
-use Rattle.places.specs.Plan.{rowsIn, reachIn, freeAt, Laid}
+use Rattle.places.specs.Plan.{reachIn, freeAt, Laid}
 use Rattle.places.specs.Inner.Plan.{today, privatesOf, rowOf, values, reached, Holds}
 use Rattle.places.specs.declared.reach.Reach.{Reach}
 use Rattle.places.proofs.Names.{private-held, equals-of-public, equals-of-private, differs-of, free-of}
 use Rattle.places.proofs.NodeCounts.{values-read}
 use Rattle.places.proofs.Controls.{few-nodes, few-publics, few-bounds, few-privates}
-use Rattle.places.proofs.Plans.{row-is, row-few, reach-is, free-is, few-free}
+use Rattle.places.proofs.Plans.{row-small, reach-is, free-is, few-free}
 use Rattle.builder.specs.Inner.Writing.{Heads, putOne, putAll, Inside}
 use Rattle.builder.specs.Inner.Parts.{Chained, ofTable, arrow}
 use Rattle.builder.specs.Inner.Released.{onFrom, released, returned, Releasing}
@@ -90,7 +90,7 @@ pub record Listed (w x : List ℕ) (c : Chain) (k z : ℕ) (r : Reach) (row coun
   pub low : publics w ≤ z
   pub high : z < names w
   pub reach-told : r ≡ reachIn x z
-  pub row-told : row ≡ word (rowsIn x) z
+  pub row-told : row ≡ rowOf w z
   pub count-told : count ≡ length (keep (bitAt (r .publics)) (range (publics w)))
 
 module _ {w x : List ℕ} {c : Chain} {k z : ℕ} {r : Reach} {row count : ℕ} (q : Listed w x c k z r row count) where
@@ -120,7 +120,7 @@ module _ {w x : List ℕ} {c : Chain} {k z : ℕ} {r : Reach} {row count : ℕ} 
   parts = sym (values-read w x (q .laid) z r (q .reach-told) .is)
 
   row-right : row ≡ rowOf w z
-  row-right = q .row-told ∙ row-is w x (q .laid) z (q .low) (q .high)
+  row-right = q .row-told
 
   counted : (v : ℕ) → length (keep (bitAt (r .publics)) (range v)) ≡ length (keep (bitAt (publicWord w z)) (range v))
   counted v = ap (λ (y : Reach). length (keep (bitAt (y .publics)) (range v))) (q .reach-told ∙ reach-is w x (q .laid) z)
@@ -142,18 +142,18 @@ module _ {w x : List ℕ} {c : Chain} {k z : ℕ} {r : Reach} {row count : ℕ} 
   count-few = omega (arith, q .count-told, keep-length (bitAt (r .publics)) (range (publics w)), from-length 0 (publics w), few-publics w accepted)
 
   pub publics-fit : row + count < 4294967296
-  publics-fit = omega (arith, q .row-told, row-few w x (q .laid) z (q .low) (q .high), count-few)
+  publics-fit = omega (arith, q .row-told, row-small w accepted z (omega (arith, q .high)), count-few)
 
   pub privates-fit : (back n : ℕ) → back ≡ pick (S .restricted z) (freeStart S U) (rowOf w z + count + privatesOf w) → n ≡ privatesOf w
       → (row + count + n < 4294967296) × (back + n < 4294967296)
   privates-fit back n e m =
-      let b = row-few w x (q .laid) z (q .low) (q .high) in
+      let b = row-small w accepted z (omega (arith, q .high)) in
       let p = few-privates w accepted in
       (omega (arith, q .row-told, b, count-few, p), go (S .restricted z) e)
     where
       go : (d : Bool) → back ≡ pick d (freeStart S U) (rowOf w z + count + privatesOf w) → back + n < 4294967296
       go true f = omega (arith, few-free w x (q .laid), free-is w x (q .laid), few-privates w accepted)
-      go false f = omega (arith, q .row-told, row-right, row-few w x (q .laid) z (q .low) (q .high), count-few, few-privates w accepted)
+      go false f = omega (arith, q .row-told, row-right, row-small w accepted z (omega (arith, q .high)), count-few, few-privates w accepted)
 
   -- ---- public values
 

@@ -16,7 +16,7 @@ ghost use Rattle.builder.specs.Inner.Released.{released, returned, Relea
 ghost use Rattle.places.specs.Inner.Plan.{today, privatesOf, rowOf, values, argumentName};
 ghost use Rattle.builder.specs.Inner.Parts.{put, state};
 ghost use Rattle.places.specs.Plan.{Laid};
-ghost use Rattle.builder.specs.Inner.Parts.{Chained, Takes, TakesAll};
+ghost use Rattle.builder.specs.Inner.Parts.{Chained, Takes, TakesAll, Begins};
 ghost use Rattle.places.specs.Inner.Plan.{Holds, Reads, Named, Frees};
 use crate::insertion::insert;
 use crate::insertion::insert_equals;
@@ -31,9 +31,11 @@ use lists::word32;
 use places::count::publics_of;
 use places::lookup::free_start;
 use places::lookup::privates;
-use places::lookup::row_start;
 use places::reach::has_privates;
 use places::reach::reach_of;
+use places::row::Start;
+use places::row::row_on;
+use places::row::row_start;
 use scheme::fields::field1;
 use scheme::fields::name_kind;
 use scheme::lookup::held_names;
@@ -73,9 +75,10 @@ pub(crate) fn on(c: Chain, k: usize) -> u32
 }
 
 // Where the first private value is given back: at [*≠n] if name z is restricted, else at [z≠n], behind the values of
-// z, of which `count` are public.
-fn given_back(table: &[u16], index: &[u32], z: usize, count: usize) -> usize
-    requires { ⌜ Laid (now table) (now index) × (publics (now table) ≤ z) × (z < names (now table)) × (count ≤ 64) ⌝ }
+// z, of which `count` are public; its row starts at `row`.
+fn given_back(table: &[u16], index: &[u32], row: usize, z: usize, count: usize) -> usize
+    requires { ⌜ Laid (now table) (now index) × (publics (now table) ≤ z) × (z < names (now table)) × (count ≤ 64)
+        × (row ≡ rowOf (now table) z) ⌝ }
     ensures { λ r. ⌜ r ≡ pick (scheme (now (table .entry)) .restricted z)
         (freeStart (scheme (now (table .entry))) (today (now (table .entry))))
         (rowOf (now (table .entry)) z + count + privatesOf (now (table .entry))) ⌝ }
@@ -83,7 +86,7 @@ fn given_back(table: &[u16], index: &[u32], z: usize, count: usize) -> usize
     if name_kind(table, z) == 0 {
         return free_start(index);
     }
-    row_start(index, z) + count + privates(index)
+    row + count + privates(index)
 }
 
 // The releases of `count` public values of a name, the first of which has its place at `row`.
@@ -142,7 +145,8 @@ fn release_privates(
     q
 }
 
-// The releases of one name at place k of a chain: of its public values, then of its private ones.
+// The releases of one name at place k of a chain: of its public values, then of its private ones. Its row starts at
+// `row`.
 fn release_name(
     table: &[u16],
     index: &[u32],
@@ -151,9 +155,10 @@ fn release_name(
     c: Chain,
     k: usize,
     z: usize,
+    row: usize,
 ) -> Heads
     requires { ⌜ Laid (now table) (now index) × Chained (now table) c × (k < c .controls)
-        × (publics (now table) ≤ z) × (z < names (now table))
+        × (publics (now table) ≤ z) × (z < names (now table)) × (row ≡ rowOf (now table) z)
         × Inside (put (now table) (now out) h
         (map (releasing (scheme (now table)) (today (now table)) (c .node) (c .to) k z) (values (now table) z))) ⌝ }
     ensures { λ r. ⌜ state (now (out .exit)) r
@@ -163,14 +168,13 @@ fn release_name(
 {
     let x = Held { k, name: z };
     let r = reach_of(index, z);
-    let row = row_start(index, z);
     let count = publics_of(table, r);
     let q = release_publics(out, h, c, x, row, count);
     if !has_privates(r) {
         return q;
     }
     let first = row + count;
-    let back = given_back(table, index, z, count);
+    let back = given_back(table, index, row, z, count);
     release_privates(out, q, c, x, first, back, privates(index))
 }
 
@@ -195,15 +199,25 @@ pub(crate) fn release_all(
     let mut names = [0u32; 64];
     let count = held_names(table, index, c.node as u8, &mut names);
     let mut q = h;
+    let mut s = Start { name: 0, row: 0 };
     let mut i = 0;
     while i < count {
-        q = release_name(table, index, out, q, c, k + i, word32(&names, i));
+        let z = word32(&names, i);
+        s = row_on(table, index, s, z);
+        q = release_name(table, index, out, q, c, k + i, z, s.row);
         i += 1;
     }
     q
 }
 
-// The copy of a formal from its argument with value v.
+// A value that is copied, and where the rows of the formal and of its argument start.
+pub struct Copied {
+    pub value: usize,
+    pub formal: usize,
+    pub argument: usize,
+}
+
+// The copy of a formal from its argument with one value.
 fn copy(
     table: &[u16],
     index: &[u32],
@@ -211,29 +225,35 @@ fn copy(
     h: Heads,
     c: Chain,
     x: Passed,
-    v: usize,
+    v: Copied,
 ) -> Heads
     requires { ⌜ Laid (now table) (now index) × Chained (now table) c × (x .k < c .controls)
         × (publics (now table) ≤ x .formal) × (x .formal < names (now table))
         × (scheme (now table) .restricted (x .formal) ≡ false)
-        × Reads (now table) (x .argument) v × Holds (now table) (x .formal) v
+        × Reads (now table) (x .argument) (v .value) × Holds (now table) (x .formal) (v .value)
         × Inside (put (now table) (now out) h
-        (copying (scheme (now table)) (today (now table)) (c .node) (c .to) (x .k) (x .formal) (x .argument) v
-        ∷ [])) ⌝ }
+        (copying (scheme (now table)) (today (now table)) (c .node) (c .to) (x .k) (x .formal) (x .argument)
+        (v .value)
+        ∷ []))
+        × Begins (now table) (x .argument) (v .argument) × Begins (now table) (x .formal) (v .formal) ⌝ }
     ensures { λ r. ⌜ state (now (out .exit)) r
         ≡ put (now (table .entry)) (now (out .entry)) h
         (copying (scheme (now (table .entry))) (today (now (table .entry))) (c .node) (c .to) (x .k) (x .formal)
-        (x .argument) v
+        (x .argument) (v .value)
         ∷ []) ⌝ }
 {
     let publics = word16(table, 0);
     let mut ins = [0u32; 4];
-    let mut i = insert_equals(table, index, &mut ins, 0, x.argument, v);
+    let mut i = insert_equals(table, index, &mut ins, 0, v.argument, x.argument, v.value);
     let mut outs = ins;
-    let mut o = insert_equals(table, index, &mut outs, i, x.formal, v);
+    let mut o = insert_equals(table, index, &mut outs, i, v.formal, x.formal, v.value);
     o = insert(&mut outs, o, on(c, x.k));
-    if publics <= v {
-        i = insert(&mut ins, i, differs(table, index, x.formal, v));
+    if publics <= v.value {
+        i = insert(
+            &mut ins,
+            i,
+            differs(table, index, v.formal, x.formal, v.value),
+        );
     }
     i = insert(&mut ins, i, (c.first + x.k) as u32);
     let label = Label {
@@ -268,10 +288,17 @@ fn copy_formal(
     let publics = word16(table, 0);
     let r = reach_of(index, x.argument);
     let count = value_count(publics, privates(index), r);
+    let formal = row_start(table, index, x.formal);
+    let argument = row_start(table, index, x.argument);
     let mut q = h;
     let mut i = 0;
     while i < count {
-        q = copy(table, index, out, q, c, x, value_at(publics, r, i));
+        let v = Copied {
+            value: value_at(publics, r, i),
+            formal,
+            argument,
+        };
+        q = copy(table, index, out, q, c, x, v);
         i += 1;
     }
     q

@@ -7,13 +7,14 @@ ghost use Rattle.lists.specs.Lists.{pick, from};
 ghost use Rattle.scheme.specs.Words.{publics, branches};
 ghost use Rattle.places.specs.Places.{equals, differs};
 ghost use Rattle.places.specs.Plan.{Laid};
-ghost use Rattle.places.specs.Sides.{partnerSet};
+ghost use Rattle.places.specs.Sides.{sideIn, receivesOf, partnerSet};
 ghost use Rattle.places.specs.Inner.Plan.{Reads, Differs};
 ghost use Rattle.places.specs.Inner.Counting.{Pairs};
 ghost use Rattle.builder.specs.Inner.Writing.{Inside};
 ghost use Rattle.builder.specs.Inner.Spans.{valuesIn};
 ghost use Rattle.builder.specs.Inner.Parts.{put, state, pairTold, withAll, allTold, arcs, Tells, Paired, pairOf};
 ghost use Rattle.builder.specs.Inner.Parts.{spotOf, Spotted, Can, risersOf, toldBy, Telling, Told, Coursed};
+ghost use Rattle.builder.specs.Inner.Parts.{Begins, StartsOf};
 use crate::insertion::insert;
 use crate::insertion::insert_spot;
 use crate::layout::differs;
@@ -34,6 +35,7 @@ use crate::write::Risers;
 use crate::write::series;
 use crate::write::transition;
 use crate::write::words;
+use lists::store32;
 use lists::word16;
 use lists::word32;
 use places::count::Side;
@@ -43,9 +45,12 @@ use places::lookup::privates;
 use places::pairs::SETS;
 use places::reach::common;
 use places::reach::reach_of;
+use places::row::Start;
+use places::row::row_on;
+use scheme::fields::field4;
 
-// What the communications of a send and a receive share: the branches, the names that they use, and the places before
-// and after them.
+// What the communications of a send and a receive share: the branches, the names that they use, the places before and
+// after them, and where the rows of the names of the send and of those of the receive start.
 pub struct Pair {
     pub send: usize,
     pub receive: usize,
@@ -57,6 +62,26 @@ pub struct Pair {
     pub onsend: u32,
     pub receiver: u32,
     pub onreceive: u32,
+    pub own: Starts,
+    pub other: Starts,
+}
+
+// Where the rows of a branch's channel and of its name start.
+pub struct Starts {
+    pub channel: u32,
+    pub name: u32,
+}
+
+// A send: what is told of it, where the rows of its names start, and the receives that it can meet.
+pub struct Sender {
+    pub side: Side,
+    pub own: Starts,
+    pub set: u64,
+}
+
+// Where the rows of the channel and of the name of each receive start, in order.
+pub struct Rows {
+    pub at: [u32; 64],
 }
 
 // The numbers of the places of names that a communication reads, takes or gives, 2³² − 1 for a place that the net does
@@ -92,25 +117,26 @@ pub struct Sizes {
 }
 
 // The number of [name=v], if the name is bound.
-fn spot(table: &[u16], index: &[u32], name: usize, v: usize) -> u32
-    requires { ⌜ Laid (now table) (now index) × Reads (now table) name v ⌝ }
+fn spot(table: &[u16], index: &[u32], row: u32, name: usize, v: usize) -> u32
+    requires { ⌜ Laid (now table) (now index) × Reads (now table) name v × Begins (now table) name row ⌝ }
     ensures { λ r. ⌜ r ≡ spotOf (now (table .entry)) (equals name v) ⌝ }
 {
     if name < word16(table, 0) {
         return 4294967295;
     }
-    equals(table, index, name, v)
+    equals(table, index, row as usize, name, v)
 }
 
 // The number of [name≠v], if v is private.
-fn free_spot(table: &[u16], index: &[u32], name: usize, v: usize) -> u32
-    requires { ⌜ Laid (now table) (now index) × (publics (now table) ≤ v → Differs (now table) name v) ⌝ }
+fn free_spot(table: &[u16], index: &[u32], row: u32, name: usize, v: usize) -> u32
+    requires { ⌜ Laid (now table) (now index) × (publics (now table) ≤ v → Differs (now table) name v)
+        × Begins (now table) name row ⌝ }
     ensures { λ r. ⌜ r ≡ spotOf (now (table .entry)) (differs name v) ⌝ }
 {
     if v < word16(table, 0) {
         return 4294967295;
     }
-    differs(table, index, name, v)
+    differs(table, index, row as usize, name, v)
 }
 
 // The places of names at channel value i and sent value j.
@@ -119,11 +145,11 @@ fn spots_of(table: &[u16], index: &[u32], p: Pair, i: usize, j: usize) -> Spots
     ensures { λ r. ⌜ Spotted (now (table .entry)) p i j r ⌝ }
 {
     Spots {
-        channel: spot(table, index, p.channel, i),
-        heard: spot(table, index, p.heard, i),
-        sent: spot(table, index, p.sent, j),
-        bound: spot(table, index, p.bound, j),
-        free: free_spot(table, index, p.bound, j),
+        channel: spot(table, index, p.own.channel, p.channel, i),
+        heard: spot(table, index, p.other.channel, p.heard, i),
+        sent: spot(table, index, p.own.name, p.sent, j),
+        bound: spot(table, index, p.other.name, p.bound, j),
+        free: free_spot(table, index, p.other.name, p.bound, j),
     }
 }
 
@@ -320,8 +346,8 @@ fn course_of(table: &[u16], index: &[u32], channel: usize, name: usize) -> Cours
 }
 
 // A send and a receive by what is told of them.
-fn pair_of(s: Side, r: Side) -> Pair
-    ensures { λ p. ⌜ p ≡ pairOf s r ⌝ }
+fn pair_of(s: Side, own: Starts, r: Side, other: Starts) -> Pair
+    ensures { λ p. ⌜ p ≡ pairOf s own r other ⌝ }
 {
     Pair {
         send: s.branch as usize,
@@ -334,31 +360,66 @@ fn pair_of(s: Side, r: Side) -> Pair
         onsend: s.on,
         receiver: r.place,
         onreceive: r.on,
+        own,
+        other,
     }
 }
 
-// The communications of a send with the receives of a set, which are all that it can meet.
+// Counts, once for all sends, where the rows of the receives' names start.
+fn receive_rows(table: &[u16], index: &[u32]) -> Rows
+    requires { ⌜ Laid (now table) (now index) ⌝ }
+    ensures { λ r. ⌜ StartsOf (now (table .entry)) (r .at) (receivesOf (now (table .entry))) ⌝ }
+{
+    let branches = word16(table, 5);
+    let mut at = [0u32; 64];
+    let mut a = Start { name: 0, row: 0 };
+    let mut z = Start { name: 0, row: 0 };
+    let mut k = 0;
+    let mut b = 0;
+    while b < branches {
+        if field4(table, 11, b, 0) == 2 {
+            a = row_on(table, index, a, field4(table, 11, b, 1));
+            z = row_on(table, index, z, field4(table, 11, b, 2));
+            store32(&mut at, k, a.row as u32);
+            store32(&mut at, k + 1, z.row as u32);
+            k += 2;
+        }
+        b += 1;
+    }
+    Rows { at }
+}
+
+// The communications of a send with the receives that it can meet.
 fn partners(
     table: &[u16],
     index: &[u32],
     out: &mut [u32],
     h: Heads,
-    send: u32,
-    set: u64,
+    s: Sender,
     pairs: &[u32],
+    rows: Rows,
 ) -> Heads
     requires { ⌜ Laid (now table) (now index) × Pairs (now table) (now index) (now pairs)
-        × (send < branches (now table)) × (set ≡ partnerSet (now table) (now index) send)
-        × Inside (put (now table) (now out) h (withAll (now table) send)) ⌝ }
+        × (s .side .branch < branches (now table)) × (s .set ≡ partnerSet (now table) (now index) (s .side .branch))
+        × Inside (put (now table) (now out) h (withAll (now table) (s .side .branch)))
+        × (s .side ≡ sideIn (now table) (now index) (s .side .branch))
+        × Begins (now table) (s .side .channel) (s .own .channel)
+        × Begins (now table) (s .side .name) (s .own .name)
+        × StartsOf (now table) (rows .at) (receivesOf (now table)) ⌝ }
     ensures { λ r. ⌜ state (now (out .exit)) r
-        ≡ put (now (table .entry)) (now (out .entry)) h (withAll (now (table .entry)) send) ⌝ }
+        ≡ put (now (table .entry)) (now (out .entry)) h (withAll (now (table .entry)) (s .side .branch)) ⌝ }
 {
-    let side = side_of(table, index, send);
-    let course = course_of(table, index, side.channel as usize, side.name as usize);
+    let course = course_of(table, index, s.side.channel as usize, s.side.name as usize);
     let mut q = h;
-    let mut left = set;
+    let mut left = s.set;
     while left != 0 {
-        let p = pair_of(side, receive_at(pairs, u64::trailing_zeros(left) as u16));
+        let k = u64::trailing_zeros(left) as u16;
+        let at = 2 * (k as usize);
+        let other = Starts {
+            channel: rows.at[at],
+            name: rows.at[at + 1],
+        };
+        let p = pair_of(s.side, s.own, receive_at(pairs, k), other);
         q = pair_up(table, index, out, q, p, course);
         left = left & (left - 1);
     }
@@ -378,12 +439,22 @@ pub(crate) fn communications(
         ≡ put (now (table .entry)) (now (out .entry)) h (allTold (now (table .entry))) ⌝ }
 {
     let branches = word16(table, 5);
+    let rows = receive_rows(table, index);
     let mut q = h;
+    let mut a = Start { name: 0, row: 0 };
+    let mut z = Start { name: 0, row: 0 };
     let mut s = 0;
     while s < branches {
         let set = word32(pairs, SETS + s) as u64;
         if set != 0 {
-            q = partners(table, index, out, q, s as u32, set, pairs);
+            let side = side_of(table, index, s as u32);
+            a = row_on(table, index, a, side.channel as usize);
+            z = row_on(table, index, z, side.name as usize);
+            let own = Starts {
+                channel: a.row as u32,
+                name: z.row as u32,
+            };
+            q = partners(table, index, out, q, Sender { side, own, set }, pairs, rows);
         }
         s += 1;
     }

@@ -6,13 +6,12 @@ ghost use Rattle.scheme.specs.Scheme.{scheme};
 ghost use Rattle.places.specs.Places.{equals, differs, free};
 ghost use Rattle.places.specs.Rows.{numberOf};
 ghost use Rattle.places.specs.Plan.{Laid};
-ghost use Rattle.places.specs.Inner.Plan.{today, privatesOf, Holds, Differs};
+ghost use Rattle.places.specs.Inner.Plan.{today, privatesOf, rowOf, Holds, Differs};
 ghost use Rattle.builder.specs.Inner.Parts.{ValueAt, CountOf};
 use lists::word16;
 use places::count::publics_of;
 use places::lookup::free_start;
 use places::lookup::privates;
-use places::lookup::row_start;
 use places::reach::Reach;
 use places::reach::has_privates;
 use places::reach::nth;
@@ -43,12 +42,11 @@ pub(crate) fn value_count(publics: usize, privates: usize, values: Reach) -> usi
     count
 }
 
-// The number of [x=v].
-pub(crate) fn equals(table: &[u16], index: &[u32], name: usize, v: usize) -> u32
-    requires { ⌜ Laid (now table) (now index) × Holds (now table) name v ⌝ }
+// The number of [x=v], given where the row of x starts.
+pub(crate) fn equals(table: &[u16], index: &[u32], row: usize, name: usize, v: usize) -> u32
+    requires { ⌜ Laid (now table) (now index) × Holds (now table) name v × (row ≡ rowOf (now table) name) ⌝ }
     ensures { λ r. ⌜ r ≡ numberOf (scheme (now (table .entry))) (today (now (table .entry))) (equals name v) ⌝ }
 {
-    let row = row_start(index, name);
     let r = reach_of(index, name);
     let publics = word16(table, 0);
     if v < publics {
@@ -57,13 +55,13 @@ pub(crate) fn equals(table: &[u16], index: &[u32], name: usize, v: usize) -> u32
     (row + rank(r.publics, publics) + (v - publics)) as u32
 }
 
-// The number of [x≠v].
-pub(crate) fn differs(table: &[u16], index: &[u32], name: usize, v: usize) -> u32
-    requires { ⌜ Laid (now table) (now index) × Differs (now table) name v ⌝ }
+// The number of [x≠v], given where the row of x starts.
+pub(crate) fn differs(table: &[u16], index: &[u32], row: usize, name: usize, v: usize) -> u32
+    requires { ⌜ Laid (now table) (now index) × Differs (now table) name v × (row ≡ rowOf (now table) name) ⌝ }
     ensures { λ r. ⌜ r ≡ numberOf (scheme (now (table .entry))) (today (now (table .entry))) (differs name v) ⌝ }
 {
     let r = reach_of(index, name);
-    let first = row_start(index, name) + publics_of(table, r) + privates(index);
+    let first = row + publics_of(table, r) + privates(index);
     (first + (v - word16(table, 0))) as u32
 }
 

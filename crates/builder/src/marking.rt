@@ -18,8 +18,8 @@ use places::layout::is_read;
 use places::lookup::free_start;
 use places::lookup::node_start;
 use places::lookup::privates;
-use places::lookup::row_start;
 use places::reach::reach_of;
+use places::row::row_places;
 use scheme::fields::field1;
 use scheme::fields::field4;
 
@@ -44,12 +44,14 @@ fn initial_rows(table: &[u16], index: &[u32], out: &mut [u32]) -> usize
     let privates = privates(index);
     let end = publics + word16(table, 1);
     let mut at = 8;
+    let mut row = 0;
     let mut x = publics;
     while x < end {
         if is_read(table, index, x) {
             let held = publics_of(table, reach_of(index, x)) + privates;
-            at = count_up(out, at, row_start(index, x) + held, privates);
+            at = count_up(out, at, row + held, privates);
         }
+        row += row_places(table, index, x, x + 1);
         x += 1;
     }
     at

@@ -13,7 +13,7 @@ ghost use Rattle.places.specs.Transitions.{releases, silents, ofNode};
 ghost use Rattle.places.specs.Inner.Arcs.{allDiffer, numbersOf};
 ghost use Rattle.builder.specs.Inner.Writing.{Inside};
 ghost use Rattle.places.specs.Inner.Plan.{today, privatesOf, controlOf};
-ghost use Rattle.builder.specs.Inner.Parts.{put, state, made, Filled};
+ghost use Rattle.builder.specs.Inner.Parts.{put, state, made, Filled, Begins, ReadsAll};
 ghost use Rattle.table.specs.Causes.{cause};
 ghost use Rattle.places.specs.Plan.{Laid};
 use crate::chain::Chain;
@@ -33,6 +33,8 @@ use lists::word16;
 use places::layout::is_read;
 use places::lookup::node_start;
 use places::lookup::privates;
+use places::row::row_places;
+use places::row::row_start;
 use scheme::fields::field3;
 use scheme::fields::field4;
 
@@ -86,22 +88,37 @@ fn differences(table: &[u16], index: &[u32], list: &mut [u32], v: usize) -> usiz
     let publics = word16(table, 0);
     let end = publics + word16(table, 1);
     let mut count = 0;
+    let mut row = 0;
     let mut x = publics;
     while x < end {
         if is_read(table, index, x) {
-            count = insert(list, count, differs(table, index, x, v));
+            count = insert(list, count, differs(table, index, row, x, v));
         }
+        row += row_places(table, index, x, x + 1);
         x += 1;
     }
     count
 }
 
-// The node of a New, its place, the place of the node behind it, and how many rows it reads.
+// The same for the first private value, if there is one.
+fn first_reads(table: &[u16], index: &[u32], list: &mut [u32]) -> usize
+    requires { ⌜ Laid (now table) (now index) × (40 ≤ length (now list)) ⌝ }
+    ensures { λ r. ⌜ ReadsAll (now (table .entry)) (now (list .exit)) r ⌝ }
+{
+    if privates(index) == 0 {
+        return 0;
+    }
+    differences(table, index, list, word16(table, 0))
+}
+
+// The node of a New, its place, the place of the node behind it, how many rows it reads, and where the row of its name
+// starts.
 pub struct Move {
     pub node: usize,
     pub from: u32,
     pub to: u32,
     pub read: usize,
+    pub row: usize,
 }
 
 // Puts the numbers of every [x≠v] that there is into the list, given those of the first private value, and returns how
@@ -142,7 +159,7 @@ fn make(
         × (publics (now table) ≤ v) × (v < publics (now table) + privatesOf (now table))
         × Inside (put (now table) (now out) h (made (now table) (m .node) v ∷ []))
         × Filled (now table) (now first) (m .read) (allDiffer (scheme (now table)) (publics (now table)))
-        × (40 ≤ length (now first)) ⌝ }
+        × (40 ≤ length (now first)) × Begins (now table) (nodeFirst (now table) (m .node)) (m .row) ⌝ }
     ensures { λ r. ⌜ state (now (out .exit)) r
         ≡ put (now (table .entry)) (now (out .entry)) h (made (now (table .entry)) (m .node) v ∷ []) ⌝ }
 {
@@ -150,7 +167,7 @@ fn make(
     let mut ins = [0u32; 40];
     let mut i = risen(table, first, m.read, v, &mut ins);
     let mut outs = ins;
-    let mut o = insert_equals(table, index, &mut outs, i, name, v);
+    let mut o = insert_equals(table, index, &mut outs, i, m.row, name, v);
     o = insert(&mut outs, o, m.to);
     i = insert(&mut ins, i, free_place(table, index, v));
     i = insert(&mut ins, i, m.from);
@@ -162,10 +179,20 @@ fn make(
     transition(out, h, label, &ins, i, &outs, o)
 }
 
-fn news(table: &[u16], index: &[u32], out: &mut [u32], h: Heads, n: usize) -> Heads
+// A New; `first` has the numbers of every [x≠v] for the first private value, `read` of them.
+fn news(
+    table: &[u16],
+    index: &[u32],
+    out: &mut [u32],
+    h: Heads,
+    n: usize,
+    first: &[u32],
+    read: usize,
+) -> Heads
     requires { ⌜ Laid (now table) (now index) × (n < nodes (now table)) × (isNew (now table) n ≡ true)
         × Inside (put (now table) (now out) h
-        (map (made (now table) n) (from (publics (now table)) (privatesOf (now table))))) ⌝ }
+        (map (made (now table) n) (from (publics (now table)) (privatesOf (now table)))))
+        × ReadsAll (now table) (now first) read ⌝ }
     ensures { λ r. ⌜ state (now (out .exit)) r
         ≡ put (now (table .entry)) (now (out .entry)) h
         (map (made (now (table .entry)) n) (from (publics (now (table .entry))) (privatesOf (now (table .entry))))) ⌝ }
@@ -175,18 +202,17 @@ fn news(table: &[u16], index: &[u32], out: &mut [u32], h: Heads, n: usize) -> He
     if privates == 0 {
         return h;
     }
-    let mut first = [0u32; 40];
-    let read = differences(table, index, &mut first, publics);
     let m = Move {
         node: n,
         from: node_start(index, n) as u32,
         to: node_start(index, field3(table, 10, n, 2)) as u32,
         read,
+        row: row_start(table, index, field3(table, 10, n, 1)),
     };
     let mut q = h;
     let mut k = 0;
     while k < privates {
-        q = make(table, index, out, q, m, publics + k, &first);
+        q = make(table, index, out, q, m, publics + k, first);
         k += 1;
     }
     q
@@ -243,11 +269,20 @@ fn stop(table: &[u16], index: &[u32], out: &mut [u32], h: Heads, n: usize) -> He
     release_all(table, index, out, h, c, 0)
 }
 
-fn node(table: &[u16], index: &[u32], out: &mut [u32], h: Heads, n: usize) -> Heads
+fn node(
+    table: &[u16],
+    index: &[u32],
+    out: &mut [u32],
+    h: Heads,
+    n: usize,
+    reads: &[u32],
+    read: usize,
+) -> Heads
     requires { ⌜ Laid (now table) (now index)
         × (n < nodes (now table))
         × Inside (put (now table) (now out) h
-        (ofNode (scheme (now table)) (today (now table)) n (scheme (now table) .node n))) ⌝ }
+        (ofNode (scheme (now table)) (today (now table)) n (scheme (now table) .node n)))
+        × ReadsAll (now table) (now reads) read ⌝ }
     ensures { λ r. ⌜ state (now (out .exit)) r
         ≡ put (now (table .entry)) (now (out .entry)) h
         (ofNode (scheme (now (table .entry))) (today (now (table .entry))) n (scheme (now (table .entry)) .node n)) ⌝ }
@@ -262,7 +297,7 @@ fn node(table: &[u16], index: &[u32], out: &mut [u32], h: Heads, n: usize) -> He
         return silents(table, index, out, h, n, first, first + second);
     }
     if kind == 2 {
-        return news(table, index, out, h, n);
+        return news(table, index, out, h, n, reads, read);
     }
     call(table, index, out, h, n)
 }
@@ -277,11 +312,13 @@ pub(crate) fn nodes(table: &[u16], index: &[u32], out: &mut [u32], h: Heads) -> 
         (flat (λ n. ofNode (scheme (now (table .entry))) (today (now (table .entry))) n
         (scheme (now (table .entry)) .node n)) (range (nodes (now (table .entry))))) ⌝ }
 {
+    let mut reads = [0u32; 40];
+    let read = first_reads(table, index, &mut reads);
     let count = word16(table, 4);
     let mut q = h;
     let mut n = 0;
     while n < count {
-        q = node(table, index, out, q, n);
+        q = node(table, index, out, q, n, &reads, read);
         n += 1;
     }
     q

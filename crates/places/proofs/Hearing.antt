@@ -196,7 +196,7 @@ module _ (w : List ℕ) where
       )
 
   -- one branch more is looked at
-  keep-more : (b : ℕ) → isReceive w b ≡ true → keep (isReceive w) (range (b + 1)) ≡ keep (isReceive w) (range b) ++ (b ∷ [])
+  pub keep-more : (b : ℕ) → isReceive w b ≡ true → keep (isReceive w) (range (b + 1)) ≡ keep (isReceive w) (range b) ++ (b ∷ [])
   keep-more b h =
       let z : 0 + b ≡ b = omega arith in
       rw (add-one b, from-snoc 0 b, z, keep-append (isReceive w) (range b) (b ∷ []), keep-yes (isReceive w) b [] h, keep-nil (isReceive w))

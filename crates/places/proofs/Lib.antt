@@ -30,6 +30,7 @@ pub mod Filling
 pub mod Tokens
 pub mod Plans
 pub mod Names
+pub mod Starts
 pub mod ByWords
 pub mod Sending
 pub mod Passing

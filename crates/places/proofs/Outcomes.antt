@@ -1,12 +1,11 @@
 -- What `plan` and `measure` answer, as code meets it: where the plan stands, where the table is refused, where the lent words are too few.
-use mathlib.Core.Path.{_≡_, refl, sym, ap, _∙_}
+use mathlib.Core.Path.{_≡_, refl, ap, _∙_}
 use mathlib.Core.Bool.{Bool, true, false}
-use mathlib.Core.List.{List, [], _++_, append-nil}
+use mathlib.Core.List.{List, _++_}
 use Prim.Native.Nat.{ℕ, _≤_, _<_}
 use native.Mathlib.Omega.{arith}
 use lib.Dec.{leb}
 use lib.ListN.{length, drop}
-use lib.Seq.{take-at}
 use borrow.Author.Tests.{le-leb, lt-leb, leb-true}
 use Rattle.lists.specs.Lists.{pick, same}
 use Rattle.lists.proofs.Tests.{same-true, same-yes, same-no, same-false, false-true}
@@ -23,7 +22,7 @@ use Rattle.places.specs.declared.Planned.{Planned}
 use Rattle.places.specs.declared.Planned.the-variants.{Ready, Refused, Short}
 use Rattle.places.specs.declared.Measured.{Measured}
 use Rattle.places.specs.declared.Measured.the-variants as measure
-use Rattle.places.proofs.Plans.{plan-long}
+use Rattle.places.proofs.Plans.{laid-with, plan-laid}
 use Rattle.places.proofs.Meeting.{pairs-filled, pairs-same}
 
 -- the kinds of answers apart: the plan stands, the table is refused, there is no room
@@ -46,10 +45,6 @@ counts ready d = d
 counts (counted s) d = s
 counts (refused n) d = d
 counts short d = d
-
--- words that begin with the plan
-laid-with : (w left rest : List ℕ) → cause w ≡ 0 → left ≡ planWords w ++ rest → Laid w left
-laid-with w left rest h e = record { accepted = h; front = rw e (take-at (planWords w) rest planEnd (plan-long w)) }
 
 -- ---- what `plan` answers
 
@@ -149,7 +144,7 @@ module _ (w lent pairs : List ℕ) where
         let o = ready-told w lent left r right e in
         let p : after ≡ pairWords w (planWords w) pairs =
         f ∙ pairs-same w left (planWords w) (plan-ready w lent left r right e)
-        (laid-with w (planWords w) [] (o .0) (sym (append-nil (planWords w)))) pairs in
+        (plan-laid w (o .0)) pairs in
         ap (λ (z : Sums). measurement (counted z) left after) s ∙ ap (λ (l : List ℕ). measurement (counted (netSums w)) l after) (o .2)
         ∙ ap (measurement (counted (netSums w)) (planWords w ++ drop planEnd lent)) p ∙ is-measured (o .0) (o .1) m
 
@@ -232,7 +227,7 @@ module _ (w lent pairs left after : List ℕ) (r : Measured) (right : measured r
   measured-net t e =
       let q = net-told w lent pairs left after (counted (sumsOf t)) (rw e at right) refl in
       let L = laid-with w left (drop planEnd lent) (q .0) (q .3) in
-      let P = laid-with w (planWords w) [] (q .0) (sym (append-nil (planWords w))) in (
+      let P = plan-laid w (q .0) in (
         L,
         ap (λ (a : Answer). counts a (netSums w)) (q .2),
         pairs-filled w left L pairs after (q .1) (q .4 ∙ pairs-same w (planWords w) left P L pairs),

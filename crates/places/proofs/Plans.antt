@@ -22,10 +22,10 @@ use Rattle.table.specs.Causes.{cause}
 use Rattle.table.specs.Known.{Known}
 use Rattle.table.proofs.Lookup.{home-right, definition-right, thread-right, branch-thread-right, name-thread-right, held-right}
 use Rattle.places.specs.Places.{controls}
-use Rattle.places.specs.Rows.{rowLength, rowStart, freeStart}
+use Rattle.places.specs.Rows.{rowStart, freeStart}
 use Rattle.places.specs.Image.{netOf, netWith}
-use Rattle.places.specs.Plan.{publicsAt, restrictedAt, rowsAt, nodesAt, privatesAt, freeAt, placesAt, tokensAt, planEnd}
-use Rattle.places.specs.Plan.{publicsIn, restrictedIn, reachIn, rowsIn, nodesIn, publicWords, restrictedWords, rowWord, rowWords, nodeWord, nodeWords}
+use Rattle.places.specs.Plan.{publicsAt, restrictedAt, nodesAt, privatesAt, freeAt, placesAt, tokensAt, planEnd}
+use Rattle.places.specs.Plan.{publicsIn, restrictedIn, reachIn, nodesIn, publicWords, restrictedWords, nodeWord, nodeWords}
 use Rattle.places.specs.Plan.{countWords, reachedWords, planWords, Reached, Laid}
 use Rattle.places.specs.Reaches.{reach, publicWord, restrictedWord, reachOf}
 use Rattle.places.specs.Inner.Arcs.{initialNumbers}
@@ -33,7 +33,7 @@ use Rattle.places.specs.Inner.Plan.{today, privatesOf, controlOf, rowOf}
 use Rattle.places.proofs.Tallies.{getD-past}
 use Rattle.places.proofs.Bits.{set-none}
 use Rattle.places.proofs.Arriving.{inside}
-use Rattle.places.proofs.Rows.{row-next, places-length}
+use Rattle.places.proofs.Rows.{places-length}
 use Rattle.places.proofs.Order.{row-rises}
 use Rattle.places.proofs.Initial.{initial-numbers}
 use Rattle.places.proofs.Controls.{nodes-are, publics-are, bounds-are, few-nodes, few-publics, few-bounds, few-privates}
@@ -42,16 +42,6 @@ use Rattle.places.proofs.Tokens.{tokens-few}
 
 module _ (w : List ℕ) where
   -- ---- one word
-
-  pub row-inside : (x : ℕ) → x ≤ names w → rowWord w x ≡ rowOf w x
-  row-inside x h = go (decLt x (names w))
-    where
-      go : Dec (x < names w) → rowWord w x ≡ rowOf w x
-      go (yes l) = rw (lt-ltb x (names w) l)
-      go (no d) = let e : x ≡ names w = omega arith in rw (le-ltb x (names w) (omega arith)) (ap (rowOf w) (sym e))
-
-  pub row-past : (x : ℕ) → names w ≤ x → rowWord w x ≡ rowOf w (names w)
-  row-past x h = rw (le-ltb x (names w) h)
 
   pub node-inside : (n : ℕ) → n ≤ nodes w → nodeWord w n ≡ controlOf w n
   node-inside n h = go (decLt n (nodes w))
@@ -74,10 +64,6 @@ module _ (w : List ℕ) where
   net-initial = initial-numbers (scheme w) (today w)
 
   -- ---- the parts
-
-  rows-long : length (rowWords w) ≡ 64
-  unfolding rowWords
-  rows-long = long-map (rowWord w) 64
 
   nodes-long : length (nodeWords w) ≡ 257
   unfolding nodeWords
@@ -102,25 +88,29 @@ module _ (w : List ℕ) where
   unfolding reachedWords
   reached-long = length-append (indexWords w ++ publicWords w) (restrictedWords w) ∙ omega (arith, to-publics, restricted-long)
 
-  to-rows : length (reachedWords w ++ rowWords w) ≡ 1024
-  to-rows = length-append (reachedWords w) (rowWords w) ∙ omega (arith, reached-long, rows-long)
+  to-nodes : length (reachedWords w ++ nodeWords w) ≡ 1217
+  to-nodes = length-append (reachedWords w) (nodeWords w) ∙ omega (arith, reached-long, nodes-long)
 
-  to-nodes : length (reachedWords w ++ rowWords w ++ nodeWords w) ≡ 1281
-  to-nodes = length-append (reachedWords w ++ rowWords w) (nodeWords w) ∙ omega (arith, to-rows, nodes-long)
-
-  pub plan-long : length (planWords w) ≡ 1285
+  pub plan-long : length (planWords w) ≡ 1221
   unfolding planWords
-  plan-long = length-append (reachedWords w ++ rowWords w ++ nodeWords w) (countWords w) ∙ omega (arith, to-nodes, counts-long)
+  plan-long = length-append (reachedWords w ++ nodeWords w) (countWords w) ∙ omega (arith, to-nodes, counts-long)
+
+  -- words that begin with the plan, and the plan alone
+  pub laid-with : (x rest : List ℕ) → cause w ≡ 0 → x ≡ planWords w ++ rest → Laid w x
+  laid-with x rest h e = record { accepted = h; front = rw e (take-at (planWords w) rest planEnd plan-long) }
+
+  pub plan-laid : cause w ≡ 0 → Laid w (planWords w)
+  plan-laid h = laid-with (planWords w) [] h (sym (append-nil (planWords w)))
 
   counts-put : (z : List ℕ) (a b c d : ℕ) → a ≡ privatesOf w → b ≡ freeStart (scheme w) (today w) → c ≡ controlOf w (nodes w)
-      → d ≡ length (initialNumbers (scheme w) (today w)) → set (set (set (set z 1281 a) 1282 b) 1283 c) 1284 d ≡ sets z privatesAt (countWords w)
+      → d ≡ length (initialNumbers (scheme w) (today w)) → set (set (set (set z 1217 a) 1218 b) 1219 c) 1220 d ≡ sets z privatesAt (countWords w)
   unfolding countWords
   counts-put z a b c d p q r s = rw (p, q, r, s, net-places, net-initial)
 
   -- ---- part after part
 
   -- the reaches behind the index
-  module _ (x : List ℕ) (K : Known w x) (room : 1285 ≤ length x) (y : List ℕ)
+  module _ (x : List ℕ) (K : Known w x) (room : 1221 ≤ length x) (y : List ℕ)
       (e : y ≡ sets (sets x publicsAt (publicWords w)) restrictedAt (restrictedWords w)) where
     known-whole : x ≡ indexWords w ++ drop 832 x
     known-whole = sym (ap (λ (l : List ℕ). l ++ drop 832 x) (sym (K .right .front)) ∙ take-append-drop 832 x)
@@ -141,36 +131,29 @@ module _ (w : List ℕ) where
 
     pub reached-rest : drop planEnd y ≡ drop planEnd x
     reached-rest =
-        ap (drop 1285) with-reaches ∙ sym (drop-drop 325 960 (reachedWords w ++ drop 960 x))
-        ∙ ap (drop 325) (drop-at (reachedWords w) (drop 960 x) 960 reached-long) ∙ drop-drop 325 960 x
+        ap (drop 1221) with-reaches ∙ sym (drop-drop 261 960 (reachedWords w ++ drop 960 x))
+        ∙ ap (drop 261) (drop-at (reachedWords w) (drop 960 x) 960 reached-long) ∙ drop-drop 261 960 x
 
-  module _ (x : List ℕ) (K : Reached w x) (room : 1285 ≤ length x) where
+  module _ (x : List ℕ) (K : Reached w x) (room : 1221 ≤ length x) where
     whole : x ≡ reachedWords w ++ drop 960 x
     whole = sym (ap (λ (l : List ℕ). l ++ drop 960 x) (sym (K .front)) ∙ take-append-drop 960 x)
 
-    with-rows : (y : List ℕ) → y ≡ sets x rowsAt (rowWords w) → y ≡ reachedWords w ++ rowWords w ++ drop 1024 x
-    with-rows y e =
-        e ∙ ap (λ (l : List ℕ). sets l 960 (rowWords w)) whole
-        ∙ store-on (reachedWords w) (rowWords w) x 960 64 reached-long rows-long (omega arith)
+    with-nodes : (z : List ℕ) → z ≡ sets x nodesAt (nodeWords w) → z ≡ reachedWords w ++ nodeWords w ++ drop 1217 x
+    with-nodes z e =
+        e ∙ ap (λ (l : List ℕ). sets l 960 (nodeWords w)) whole
+        ∙ store-on (reachedWords w) (nodeWords w) x 960 257 reached-long nodes-long (omega arith)
 
-    with-nodes : (y z : List ℕ) → y ≡ sets x rowsAt (rowWords w) → z ≡ sets y nodesAt (nodeWords w)
-        → z ≡ reachedWords w ++ rowWords w ++ nodeWords w ++ drop 1281 x
-    with-nodes y z e f =
-        f ∙ ap (λ (l : List ℕ). sets l 1024 (nodeWords w)) (with-rows y e)
-        ∙ store-on (reachedWords w ++ rowWords w) (nodeWords w) x 1024 257 to-rows nodes-long (omega arith)
-
-    with-all : (y z : List ℕ) → y ≡ sets x rowsAt (rowWords w) → z ≡ sets y nodesAt (nodeWords w)
-        → sets z privatesAt (countWords w) ≡ planWords w ++ drop planEnd x
+    with-all : (z : List ℕ) → z ≡ sets x nodesAt (nodeWords w) → sets z privatesAt (countWords w) ≡ planWords w ++ drop planEnd x
     unfolding planWords
-    with-all y z e f =
-        ap (λ (l : List ℕ). sets l 1281 (countWords w)) (with-nodes y z e f)
-        ∙ store-on (reachedWords w ++ rowWords w ++ nodeWords w) (countWords w) x 1281 4 to-nodes counts-long (omega arith)
+    with-all z e =
+        ap (λ (l : List ℕ). sets l 1217 (countWords w)) (with-nodes z e)
+        ∙ store-on (reachedWords w ++ nodeWords w) (countWords w) x 1217 4 to-nodes counts-long (omega arith)
 
     -- the counts are stored one by one
-    pub laid-out : (y z : List ℕ) → y ≡ sets x rowsAt (rowWords w) → z ≡ sets y nodesAt (nodeWords w) → (a b c d : ℕ) → a ≡ privatesOf w
-        → b ≡ freeStart (scheme w) (today w) → c ≡ controlOf w (nodes w) → d ≡ length (initialNumbers (scheme w) (today w))
-        → set (set (set (set z 1281 a) 1282 b) 1283 c) 1284 d ≡ planWords w ++ drop planEnd x
-    laid-out y z e f a b c d p q r s = counts-put z a b c d p q r s ∙ with-all y z e f
+    pub laid-out : (z : List ℕ) → z ≡ sets x nodesAt (nodeWords w) → (a b c d : ℕ) → a ≡ privatesOf w → b ≡ freeStart (scheme w) (today w)
+        → c ≡ controlOf w (nodes w) → d ≡ length (initialNumbers (scheme w) (today w))
+        → set (set (set (set z 1217 a) 1218 b) 1219 c) 1220 d ≡ planWords w ++ drop planEnd x
+    laid-out z e a b c d p q r s = counts-put z a b c d p q r s ∙ with-all z e
 
   -- words stored behind the reaches leave them
   pub reached-kept : (x y : List ℕ) → Reached w x → (a : ℕ) (ws : List ℕ) → 960 ≤ a → y ≡ sets x a ws → Reached w y
@@ -226,34 +209,18 @@ module _ (w lent : List ℕ) (r : Bool) (after : List ℕ) (F : Filled w lent r 
 
   pub filled-rest : drop planEnd after ≡ drop planEnd lent
   filled-rest =
-      ap (drop 1285) filled-is ∙ sym (drop-drop 453 832 (indexWords w ++ drop 832 lent))
-      ∙ ap (drop 453) (drop-at (indexWords w) (drop 832 lent) 832 (index-long w)) ∙ drop-drop 453 832 lent
+      ap (drop 1221) filled-is ∙ sym (drop-drop 389 832 (indexWords w ++ drop 832 lent))
+      ∙ ap (drop 389) (drop-at (indexWords w) (drop 832 lent) 832 (index-long w)) ∙ drop-drop 389 832 lent
 
 -- ---- from one start to the next
 
 module _ (w : List ℕ) where
-  row-public : (x : ℕ) → x ≤ publics w → rowOf w x ≡ 0
+  pub row-none : (x : ℕ) → x ≤ publics w → rowOf w x ≡ 0
   unfolding rowStart total from
-  row-public x h = let e : x - scheme w .publics ≡ 0 = omega (arith, publics-are w) in rw e
-
-  row-next-start : (x : ℕ) → publics w ≤ x → rowOf w (x + 1) ≡ rowOf w x + rowLength (scheme w) (today w) x
-  row-next-start x h = row-next (scheme w) (today w) x (omega (arith, publics-are w))
-
-  pub row-step-public : (x : ℕ) → x < publics w → rowWord w (x + 1) ≡ rowWord w x + 0
-  row-step-public x h =
-      omega (arith, row-inside w (x + 1) (omega arith), row-inside w x (omega arith), row-public (x + 1) (omega arith), row-public x (omega arith))
-
-  pub row-step-past : (x : ℕ) → names w ≤ x → rowWord w (x + 1) ≡ rowWord w x + 0
-  row-step-past x h = omega (arith, row-past w (x + 1) (omega arith), row-past w x h)
-
-  pub row-step : (x r : ℕ) → publics w ≤ x → x < names w → r ≡ rowLength (scheme w) (today w) x → rowWord w (x + 1) ≡ rowWord w x + r
-  row-step x r h l e = omega (arith, row-inside w (x + 1) (omega arith), row-inside w x (omega arith), row-next-start x h, e)
+  row-none x h = let e : x - scheme w .publics ≡ 0 = omega (arith, publics-are w) in rw e
 
   pub node-step : (n r : ℕ) → n < nodes w → r ≡ controls (scheme w) n → nodeWord w (n + 1) ≡ nodeWord w n + r
   node-step n r l e = omega (arith, node-inside w (n + 1) (omega arith), node-inside w n (omega arith), control-goes-on w n, e)
-
-  pub rows-begin : rowWord w 0 ≡ 0
-  rows-begin = row-inside w 0 (omega arith) ∙ row-public 0 (omega arith)
 
 -- ---- the words of an accepted table stay small
 
@@ -261,28 +228,16 @@ module _ (w : List ℕ) (h : cause w ≡ 0) where
   pub few-names : names w ≤ 64
   few-names = omega (arith, few-publics w h, few-bounds w h)
 
-  rows-end : rowOf w (names w) ≡ freeStart (scheme w) (today w)
+  pub rows-end : rowOf w (names w) ≡ freeStart (scheme w) (today w)
   unfolding freeStart
   rows-end = let e : names w ≡ scheme w .publics + scheme w .bounds = omega (arith, publics-are w, bounds-are w) in ap (rowOf w) e
 
-  -- past the last name the rows end where [*≠n] starts
-  pub rows-over : (x : ℕ) → names w ≤ x → rowWord w x ≡ freeStart (scheme w) (today w)
-  rows-over x l = row-past w x l ∙ rows-end
-
-  pub row-small : (x : ℕ) → rowWord w x ≤ 3072
-  row-small x = go (decLt x (names w)) (decLt x (publics w))
+  pub row-small : (x : ℕ) → x ≤ names w → rowOf w x ≤ 3072
+  row-small x l = go (decLt x (publics w))
     where
-      go : Dec (x < names w) → Dec (x < publics w) → rowWord w x ≤ 3072
-      go (yes l) (yes d) = omega (arith, row-inside w x (omega arith), row-public w x (omega arith))
-      go (yes l) (no d) =
-          omega (
-            arith,
-            row-inside w x (omega arith),
-            row-rises (scheme w) (today w) x (names w) (omega (arith, publics-are w)) (omega arith),
-            rows-end,
-            free-few w h,
-          )
-      go (no l) d = omega (arith, rows-over x (omega arith), free-few w h)
+      go : Dec (x < publics w) → rowOf w x ≤ 3072
+      go (yes d) = omega (arith, row-none w x (omega arith))
+      go (no d) = omega (arith, row-rises (scheme w) (today w) x (names w) (omega (arith, publics-are w)) l, rows-end, free-few w h)
 
   pub node-small : (n : ℕ) → nodeWord w n < 65536
   node-small n = go (decLt n (nodes w))
@@ -336,8 +291,8 @@ module _ (w x : List ℕ) (K : Reached w x) where
 -- ---- what a plan tells
 
 module _ (w x : List ℕ) (L : Laid w x) where
-  part-of : (a e : ℕ) → e ≤ 1285 → slice a e x ≡ slice a e (planWords w)
-  part-of a e h = ap (drop a) (sym (take-take e 1285 x h) ∙ ap (take e) (L .front))
+  part-of : (a e : ℕ) → e ≤ 1221 → slice a e x ≡ slice a e (planWords w)
+  part-of a e h = ap (drop a) (sym (take-take e 1221 x h) ∙ ap (take e) (L .front))
 
   -- the plan begins with the table's index and the reaches
   pub laid-reached : Reached w x
@@ -345,9 +300,9 @@ module _ (w x : List ℕ) (L : Laid w x) where
   laid-reached = record {
     accepted = L .accepted;
     front =
-        sym (take-take 960 1285 x (omega arith)) ∙ ap (take 960) (L .front) ∙
-        rw (append-assoc (reachedWords w ++ rowWords w) (nodeWords w) (countWords w), append-assoc (reachedWords w) (rowWords w) (nodeWords w ++ countWords w))
-        (take-at (reachedWords w) (rowWords w ++ (nodeWords w ++ countWords w)) 960 (reached-long w));
+        sym (take-take 960 1221 x (omega arith)) ∙ ap (take 960) (L .front) ∙
+        rw (append-assoc (reachedWords w) (nodeWords w) (countWords w))
+        (take-at (reachedWords w) (nodeWords w ++ countWords w) 960 (reached-long w));
   }
 
   pub known : Known w x
@@ -356,31 +311,19 @@ module _ (w x : List ℕ) (L : Laid w x) where
   pub reach-is : (y : ℕ) → reachIn x y ≡ reachOf w y
   reach-is y = reach-told w x laid-reached y
 
-  rows-are : rowsIn x ≡ rowWords w
-  unfolding rowsIn planWords
-  rows-are =
-      part-of 960 1024 (omega arith) ∙
-      rw (append-assoc (reachedWords w ++ rowWords w) (nodeWords w) (countWords w), append-assoc (reachedWords w) (rowWords w) (nodeWords w ++ countWords w))
-      (slice-between (reachedWords w) (rowWords w) (nodeWords w ++ countWords w) 960 1024 (reached-long w) (omega (arith, rows-long w)))
-
   pub nodes-told : nodesIn x ≡ nodeWords w
   unfolding nodesIn planWords
   nodes-told =
-      part-of 1024 1281 (omega arith) ∙
-      rw (append-assoc (reachedWords w ++ rowWords w) (nodeWords w) (countWords w))
-      (slice-between (reachedWords w ++ rowWords w) (nodeWords w) (countWords w) 1024 1281 (to-rows w) (omega (arith, nodes-long w)))
+      part-of 960 1217 (omega arith) ∙
+      rw (append-assoc (reachedWords w) (nodeWords w) (countWords w))
+      (slice-between (reachedWords w) (nodeWords w) (countWords w) 960 1217 (reached-long w) (omega (arith, nodes-long w)))
 
-  count-word : (i : ℕ) → i < 4 → word x (1281 + i) ≡ word (countWords w) i
+  count-word : (i : ℕ) → i < 4 → word x (1217 + i) ≡ word (countWords w) i
   unfolding planWords
   count-word i h =
-      sym (getD-take 1285 x (1281 + i) 0 (omega arith)) ∙ ap (λ (l : List ℕ). word l (1281 + i)) (L .front) ∙
+      sym (getD-take 1221 x (1217 + i) 0 (omega arith)) ∙ ap (λ (l : List ℕ). word l (1217 + i)) (L .front) ∙
       ap (λ (k : ℕ). word (planWords w) (k + i)) (sym (to-nodes w)) ∙
-      getD-append-add (reachedWords w ++ rowWords w ++ nodeWords w) (countWords w) i 0
-
-  -- where the row of a bound name starts
-  pub row-is : (y : ℕ) → publics w ≤ y → y < names w → word (rowsIn x) y ≡ rowOf w y
-  unfolding rowWords
-  row-is y h l = rw rows-are (word-range (rowWord w) 64 y (omega (arith, few-names w (L .accepted))) ∙ row-inside w y (omega arith))
+      getD-append-add (reachedWords w ++ nodeWords w) (countWords w) i 0
 
   -- where the control places of a node start; behind the last node, where they end
   pub node-is : (n : ℕ) → n ≤ nodes w → word (nodesIn x) n ≡ controlOf w n
@@ -404,9 +347,6 @@ module _ (w x : List ℕ) (L : Laid w x) where
   tokens-are = count-word 3 (omega arith) ∙ ap (λ (xs : List ℕ). length xs) (net-initial w)
 
   -- ---- how large they are
-
-  pub row-few : (y : ℕ) → publics w ≤ y → y < names w → word (rowsIn x) y ≤ 3072
-  row-few y h l = omega (arith, row-is y h l, row-inside w y (omega arith), row-small w (L .accepted) y)
 
   pub node-few : (n : ℕ) → n ≤ nodes w → word (nodesIn x) n < 65536
   node-few n h = omega (arith, node-is n h, control-few w (L .accepted) n h)

@@ -61,7 +61,7 @@ module _ (w : List ℕ) (h : cause w ≡ 0) where
   pub public-bit : (x v : ℕ) → v < publics w → bitAt (publicWord w x) v ≡ U .origins x v
   public-bit x v l = bit-set (U .origins x) (publics w) v l
 
-  restricted-bit : (x k : ℕ) → k < bounds w → bitAt (restrictedWord w x) k ≡ U .origins x (publics w + k)
+  pub restricted-bit : (x k : ℕ) → k < bounds w → bitAt (restrictedWord w x) k ≡ U .origins x (publics w + k)
   restricted-bit x k l = bit-set (λ k. U .origins x (publics w + k)) (bounds w) k l
 
   -- the publics below v in a reach

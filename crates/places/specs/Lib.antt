@@ -10,5 +10,6 @@ pub mod Image
 pub mod Plan
 pub mod Answers
 pub mod Reaches
+pub mod Starts
 pub mod Sides
 pub mod Inner

@@ -1,61 +1,56 @@
--- The plan of a table: one list of 1285 words, its index and behind it the reaches of names, where the rows of names and the control places of nodes start, N,
--- where [*≠n] starts, and how many places and initial tokens the net has (document 01, Places; document 02, Items 3 and 4).
+-- The plan of a table: one list of 1221 words, its index and behind it the reaches of names, where the control places of nodes start, N, where [*≠n]
+-- starts, and how many places and initial tokens the net has (document 01, Places; document 02, Items 3 and 4). Where rows start is told from the reaches
+-- (specs/Starts.antt).
 use mathlib.Core.Path.{_≡_}
 use mathlib.Core.List.{List, [], _∷_, _++_, map}
 use Prim.Native.Nat.{ℕ}
 use lib.ListN.{length, take}
 use lib.Seq.{slice}
 use Rattle.lists.specs.Lists.{word, range}
-use Rattle.scheme.specs.Words.{names, nodes}
+use Rattle.scheme.specs.Words.{nodes}
 use Rattle.scheme.specs.Scheme.{scheme}
 use Rattle.scheme.specs.Index.{indexWords}
 use Rattle.table.specs.Causes.{cause}
 use Rattle.places.specs.Reach.{valuesFor}
-use Rattle.places.specs.Rows.{rowStart, freeStart, controlStart}
+use Rattle.places.specs.Rows.{freeStart, controlStart}
 use Rattle.places.specs.Image.{netOf}
 use Rattle.places.specs.Reaches.{reach, publicWord, restrictedWord, least}
 use Rattle.places.specs.declared.reach.Reach.{Reach}
 
--- where the two sets of reaches, the starts of rows, the starts of control places and each count stand, and where the plan ends; the index stands at 0
+-- where the two sets of reaches, the starts of control places and each count stand, and where the plan ends; the index stands at 0
 abbrev pub publicsAt : ℕ
 publicsAt = 832
 
 abbrev pub restrictedAt : ℕ
 restrictedAt = 896
 
-abbrev pub rowsAt : ℕ
-rowsAt = 960
-
 abbrev pub nodesAt : ℕ
-nodesAt = 1024
+nodesAt = 960
 
 abbrev pub privatesAt : ℕ
-privatesAt = 1281
+privatesAt = 1217
 
 abbrev pub freeAt : ℕ
-freeAt = 1282
+freeAt = 1218
 
 abbrev pub placesAt : ℕ
-placesAt = 1283
+placesAt = 1219
 
 abbrev pub tokensAt : ℕ
-tokensAt = 1284
+tokensAt = 1220
 
 abbrev pub planEnd : ℕ
-planEnd = 1285
+planEnd = 1221
 
--- the parts of lent words that tell the reaches, where rows and where control places start
+-- the parts of lent words that tell the reaches and where control places start
 unfoldable pub publicsIn : List ℕ → List ℕ
 publicsIn x = slice publicsAt restrictedAt x
 
 unfoldable pub restrictedIn : List ℕ → List ℕ
-restrictedIn x = slice restrictedAt rowsAt x
+restrictedIn x = slice restrictedAt nodesAt x
 
 abbrev pub reachIn : List ℕ → ℕ → Reach
 reachIn x name = reach (word (publicsIn x) name) (word (restrictedIn x) name)
-
-unfoldable pub rowsIn : List ℕ → List ℕ
-rowsIn x = slice rowsAt nodesAt x
 
 unfoldable pub nodesIn : List ℕ → List ℕ
 nodesIn x = slice nodesAt privatesAt x
@@ -67,13 +62,6 @@ module _ (w : List ℕ) where
 
   unfoldable pub restrictedWords : List ℕ
   restrictedWords = map (restrictedWord w) (range 64)
-
-  -- "Per bound name in order": where a name's row starts; 0 for a public name, past the names where the last row ends
-  abbrev pub rowWord : ℕ → ℕ
-  rowWord x = rowStart (scheme w) (valuesFor (scheme w)) (least x (names w))
-
-  unfoldable pub rowWords : List ℕ
-  rowWords = map rowWord (range 64)
 
   -- "Then control places by node": where a node's control places start; past the nodes where they end
   abbrev pub nodeWord : ℕ → ℕ
@@ -96,12 +84,12 @@ module _ (w : List ℕ) where
   reachedWords = indexWords w ++ publicWords ++ restrictedWords
 
   unfoldable pub planWords : List ℕ
-  planWords = reachedWords ++ rowWords ++ nodeWords ++ countWords
+  planWords = reachedWords ++ nodeWords ++ countWords
 
 -- the table is accepted, and the words begin with its index and the reaches
 pub record Reached (w index : List ℕ) : Type 0 where
   pub accepted : cause w ≡ 0
-  pub front : take rowsAt index ≡ reachedWords w
+  pub front : take nodesAt index ≡ reachedWords w
 
 -- the table is accepted, and the words begin with its plan
 pub record Laid (w index : List ℕ) : Type 0 where

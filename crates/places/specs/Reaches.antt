@@ -34,3 +34,6 @@ isEmpty r = pick (same (r .publics) 0) (same (r .restricted) 0) false
 
 abbrev pub least : ℕ → ℕ → ℕ
 least a b = pick (ltb a b) a b
+
+abbrev pub most : ℕ → ℕ → ℕ
+most a b = pick (ltb a b) b a

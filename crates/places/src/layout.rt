@@ -1,4 +1,4 @@
-// Where places stand: rows of names, control places of nodes, [*≠n].
+// Where places stand: control places of nodes, [*≠n], and how many there are.
 ghost use mathlib.Core.Path.{_≡_};
 ghost use mathlib.Core.Bool.{not, _&&_};
 ghost use mathlib.Core.List.{_++_};
@@ -10,23 +10,21 @@ ghost use Rattle.scheme.specs.Words.{bounds, nodes};
 ghost use Rattle.scheme.specs.Scheme.{scheme};
 ghost use Rattle.table.specs.Causes.{cause};
 ghost use Rattle.table.specs.Known.{Known};
-ghost use Rattle.places.specs.Rows.{freeStart};
-ghost use Rattle.places.specs.Plan.{rowsAt, nodesAt, planEnd, rowWord, rowWords, nodeWord, nodeWords, planWords};
+ghost use Rattle.places.specs.Plan.{nodesAt, planEnd, nodeWord, nodeWords, planWords};
 ghost use Rattle.places.specs.Plan.{restrictedIn, Reached};
 ghost use Rattle.places.specs.Inner.Holding.{HeldBelow};
-ghost use Rattle.places.specs.Inner.Plan.{today, privatesOf, controlOf, freeNames, readNames};
+ghost use Rattle.places.specs.Inner.Plan.{controlOf, freeNames, readNames};
 use crate::lookup::FREE;
 use crate::lookup::NODES;
 use crate::lookup::PLACES;
 use crate::lookup::PRIVATES;
-use crate::lookup::ROWS;
 use crate::lookup::TOKENS;
 use crate::privates::hold_all;
 use crate::privates::private_values;
 use crate::reach::has_privates;
-use crate::reach::rank;
 use crate::reach::reach_of;
 use crate::rounds::fill_reaches;
+use crate::row::places_with;
 use lists::store32;
 use lists::word16;
 use lists::word32;
@@ -49,30 +47,6 @@ pub(crate) fn is_restricted(table: &[u16], name: usize) -> bool
     field1(table, 7, name - publics) == 0
 }
 
-// How many places the row of a name has, none where the name is not bound: so far from its start the next row starts.
-fn row_length(table: &[u16], index: &[u32], privates: usize, name: usize) -> usize
-    requires { ⌜ Reached (now table) (now index) × (privates ≡ privatesOf (now table)) × (privates ≤ 32)
-        × (name < 64) ⌝ }
-    ensures { λ r. ⌜ rowWord (now (table .entry)) (name + 1) ≡ rowWord (now (table .entry)) name + r ⌝ }
-{
-    let publics = word16(table, 0);
-    if name < publics {
-        return 0;
-    }
-    if publics + word16(table, 1) <= name {
-        return 0;
-    }
-    if is_restricted(table, name) {
-        return privates;
-    }
-    let r = reach_of(index, name);
-    let count = rank(r.publics, publics);
-    if has_privates(r) {
-        return count + 2 * privates;
-    }
-    count
-}
-
 // Sets every word to v.
 pub(crate) fn repeat(out: &mut [u32], v: u32)
     ensures { λ r. ⌜ now (out .exit) ≡ replicate (length (now (out .entry))) v ⌝ }
@@ -82,25 +56,6 @@ pub(crate) fn repeat(out: &mut [u32], v: u32)
         out[i] = v;
         i += 1;
     }
-}
-
-// Fills in where each row starts, past the names where the last one ends, and returns that.
-fn fill_rows(table: &[u16], privates: usize, index: &mut [u32]) -> usize
-    requires { ⌜ Reached (now table) (now index) × (privates ≡ privatesOf (now table))
-        × (planEnd ≤ length (now index)) ⌝ }
-    ensures { λ r. ⌜ (r ≡ freeStart (scheme (now (table .entry))) (today (now (table .entry))))
-        × (now (index .exit) ≡ sets (now (index .entry)) rowsAt (rowWords (now (table .entry)))) ⌝ }
-{
-    let end = word16(table, 0) + word16(table, 1);
-    let mut at = 0;
-    let mut x = 0;
-    while x < end {
-        store32(index, ROWS + x, at as u32);
-        at += row_length(table, index, privates, x);
-        x += 1;
-    }
-    repeat(&mut index[ROWS + end..NODES], at as u32);
-    at
 }
 
 // How many control places a node has that holds so many names: so far from their start those of the next node start.
@@ -195,7 +150,8 @@ pub(crate) fn lay_out(table: &[u16], index: &mut [u32])
     hold_all(table, index, &mut held);
     let privates = private_values(table, index, &held);
     fill_reaches(table, index);
-    let free = fill_rows(table, privates, index);
+    let names = word16(table, 0) + word16(table, 1);
+    let free = places_with(table, index, privates as u32, 0, names);
     let places = fill_nodes(table, &held, free + privates, index);
     let tokens = reading_names(table, index) * privates + privates + word16(table, 3);
     store32(index, PRIVATES, privates as u32);

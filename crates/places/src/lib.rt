@@ -9,6 +9,7 @@ pub mod pairs;
 mod privates;
 pub mod reach;
 mod rounds;
+pub mod row;
 
 use count::Totals;
 use lookup::SIZE;

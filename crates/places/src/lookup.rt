@@ -1,38 +1,26 @@
-// What the plan of a table tells: where a name's row, a node's control places and [*≠n] start, N, and how many places
-// and initial tokens the net has. Exact on any words: what the plan has no word for reads 0.
+// What the plan of a table tells: where a node's control places and [*≠n] start, N, and how many places and initial
+// tokens the net has. Exact on any words: what the plan has no word for reads 0.
 ghost use Rattle.lists.specs.Lists.{Word};
-ghost use Rattle.places.specs.Plan.{rowsIn, nodesIn, privatesAt, freeAt, placesAt, tokensAt};
+ghost use Rattle.places.specs.Plan.{nodesIn, privatesAt, freeAt, placesAt, tokensAt};
 use lists::word32;
 
-// Where the two sets of reaches, the starts of rows, the starts of control places and each count stand in a plan, and
-// its size; the index of the table stands at 0.
+// Where the two sets of reaches, the starts of control places and each count stand in a plan, and its size; the index
+// of the table stands at 0.
 pub const PUBLICS: usize = 832;
 
 pub const RESTRICTED: usize = 896;
 
-pub const ROWS: usize = 960;
+pub const NODES: usize = 960;
 
-pub const NODES: usize = 1024;
+pub const PRIVATES: usize = 1217;
 
-pub const PRIVATES: usize = 1281;
+pub const FREE: usize = 1218;
 
-pub const FREE: usize = 1282;
+pub const PLACES: usize = 1219;
 
-pub const PLACES: usize = 1283;
+pub const TOKENS: usize = 1220;
 
-pub const TOKENS: usize = 1284;
-
-pub const SIZE: usize = 1285;
-
-// Where the row of a name starts; 0 for a public name, past the names where the last row ends.
-pub fn row_start(index: &[u32], name: usize) -> usize
-    ensures { λ r. ⌜ Word 4294967296 (rowsIn (now (index .entry))) name r ⌝ }
-{
-    if name < NODES - ROWS {
-        return word32(index, ROWS + name);
-    }
-    0
-}
+pub const SIZE: usize = 1221;
 
 // Where the control places of a node start; past the nodes where they end.
 pub fn node_start(index: &[u32], node: usize) -> usize

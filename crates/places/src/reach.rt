@@ -7,9 +7,9 @@ ghost use Rattle.lists.specs.Lists.{Word, word, same, range, keep};
 ghost use Rattle.places.specs.Sets.{bitAt};
 ghost use Rattle.places.specs.Plan.{publicsIn, restrictedIn, reachIn};
 ghost use Rattle.places.specs.Reaches.{commonReach};
+use crate::lookup::NODES;
 use crate::lookup::PUBLICS;
 use crate::lookup::RESTRICTED;
-use crate::lookup::ROWS;
 use lists::word32;
 
 // A set has number k at bit k: public names by their numbers, restricted ones counted from the first bound name.
@@ -31,7 +31,7 @@ pub(crate) fn public_word(index: &[u32], name: usize) -> usize
 pub(crate) fn restricted_word(index: &[u32], name: usize) -> usize
     ensures { λ r. ⌜ Word 4294967296 (restrictedIn (now (index .entry))) name r ⌝ }
 {
-    if name < ROWS - RESTRICTED {
+    if name < NODES - RESTRICTED {
         return word32(index, RESTRICTED + name);
     }
     0

@@ -10,6 +10,7 @@ pub mod Noting
 pub mod Marking
 pub mod Holding
 pub mod Valuing
+pub mod Freeing
 pub mod Owning
 pub mod Settling
 pub mod Answering

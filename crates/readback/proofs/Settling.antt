@@ -5,7 +5,9 @@ use mathlib.Core.List.{List}
 use Prim.Native.Nat.{ℕ, zero, suc}
 use native.Mathlib.Omega.{arith}
 use lib.ListN.{length, replicate}
-use Rattle.lists.specs.Lists.{word}
+use Rattle.lists.specs.Lists.{word, member}
+use Rattle.lists.proofs.Tests.{bit-small, same-true}
+use Rattle.lists.proofs.Ranges.{every-at}
 use Rattle.scheme.specs.Words.{names}
 use Rattle.scheme.specs.Scheme.{Scheme, scheme}
 use Rattle.net.specs.Firing.{isMarking, put}
@@ -14,12 +16,14 @@ use Rattle.places.specs.Plan.{placesAt, Laid}
 use Rattle.places.specs.Inner.Plan.{today, controlOf}
 use Rattle.places.proofs.Rows.{places-length}
 use Rattle.table.proofs.Accepted.{accepted}
-use Rattle.places.proofs.Controls.{nodes-are}
+use Rattle.places.proofs.Controls.{publics-are, bounds-are, nodes-are}
 use Rattle.places.proofs.Plans.{places-are}
-use Rattle.readback.specs.Inner.Standing.{spotsRight, valuesRight, heldBit, opposedAll, freedAll}
+use Rattle.readback.specs.Configurations.{heldHere}
+use Rattle.readback.specs.Inner.Standing.{firstOf, spotsAt, valuesAt, spotsRight, valueRight, valuesRight, heldBit, opposedAll, freedAll}
 use Rattle.readback.specs.Inner.Noting.{Seeking, SpotsFound}
 use Rattle.readback.specs.Inner.Showing.{AtNodes}
 use Rattle.readback.specs.Inner.Holding.{heldAll, ValuesBelow}
+use Rattle.readback.specs.Inner.Freeing.{ValuesOnce}
 use Rattle.readback.specs.Inner.Settling.{standsIn, Settles}
 use Rattle.readback.proofs.Stands.{stands-is}
 use Rattle.readback.proofs.Owning.{at-nodes, held-bits}
@@ -65,6 +69,21 @@ module _ (w index : List ℕ) (L : Laid w index) where
 
         pub no-values : (values : List ℕ) (b : Bool) → b ≡ valuesRight S m (word held) → b ≡ false → Settles w m false places indexes values
         no-values values b q z = (sym (tests ∙ rw (e, right-values b q, z)), λ q. absurd (false≢true q))
+
+        -- no bound name has two values
+        pub values-once : (values : List ℕ) (b : Bool) → b ≡ valuesRight S m (word held) → b ≡ true → ValuesBelow w m values (names w) → ValuesOnce w m values
+        unfolding valuesRight
+        values-once values b q z v = record {
+          are = v;
+          once = λ x nm.
+              let r = every-at (valueRight S m (heldBit S m)) (S .publics) (S .bounds) (right-values b q ∙ z) x
+              (omega (arith, nm .0, publics-are w)) (omega (arith, nm .1, publics-are w, bounds-are w)) in
+              omega (
+                arith,
+                same-true (length (valuesAt S m x)) (heldBit S m x) r,
+                bit-small (member x (heldHere S (firstOf (spotsAt S m (S .nameThread x))))),
+              );
+        }
 
         pub not-opposed : (values : List ℕ) (b c : Bool) → b ≡ valuesRight S m (word held) → b ≡ true → c ≡ opposedAll S m → c ≡ false
             → Settles w m false places indexes values

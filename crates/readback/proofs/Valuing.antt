@@ -1,6 +1,6 @@
 -- The marked value of a bound name, as it is found in the name's row and put into a word.
 use mathlib.Core.Path.{_≡_, refl, sym, ap, _∙_}
-use mathlib.Core.Bool.{Bool, true, false, not}
+use mathlib.Core.Bool.{true, false, not}
 use mathlib.Core.Option.{none, some}
 use mathlib.Core.List.{List, [], _∷_, map}
 use Prim.Native.Nat.{ℕ, _+_, _-_, _≤_, _<_}
@@ -8,9 +8,8 @@ use native.Mathlib.Omega.{arith}
 use native.Mathlib.Decide.{ℕ-discrete}
 use lib.ListN.{length, set, length-map}
 use lib.Seq.{getD-set-same, getD-set-other}
-use Rattle.lists.specs.Lists.{pick, bit, same, word, from, range, every, keep}
+use Rattle.lists.specs.Lists.{pick, same, word, from, range, every, keep}
 use Rattle.lists.proofs.Tests.{same-self, same-yes, same-no}
-use Rattle.lists.proofs.Ranges.{from-more, from-done}
 use Rattle.lists.proofs.Members.{member-getD}
 use Rattle.scheme.specs.Words.{publics, bounds}
 use Rattle.scheme.specs.Scheme.{Scheme, scheme}
@@ -21,11 +20,13 @@ use Rattle.places.specs.Values.{valuesOf}
 use Rattle.places.specs.Reach.{valuesFor}
 use Rattle.places.specs.Sets.{bitAt}
 use Rattle.places.specs.Rows.{rowStart}
-use Rattle.places.specs.Plan.{privatesAt, freeAt, rowsIn, reachIn, Laid}
-use Rattle.places.specs.Inner.Plan.{privatesOf, reached}
+use Rattle.places.specs.Plan.{privatesAt, reachIn, Laid}
+use Rattle.places.specs.Starts.{spanIn}
+use Rattle.places.specs.Inner.Plan.{privatesOf, rowOf, reached}
 use Rattle.places.specs.declared.reach.Reach.{Reach}
 use Rattle.places.proofs.Controls.{publics-are, bounds-are, few-publics, few-bounds}
-use Rattle.places.proofs.Plans.{row-is, reach-is, privates-are, free-is, few-counted}
+use Rattle.places.proofs.Plans.{reach-is, privates-are, few-counted, row-small}
+use Rattle.places.proofs.Starts.{row-goes-on}
 use Rattle.places.proofs.ReachRows
 use Rattle.places.proofs.ReachRows.{publics-few}
 use Rattle.places.proofs.Reaches.{publics-kept, privates-told}
@@ -33,7 +34,6 @@ use Rattle.places.proofs.Names.{reached-count}
 use Rattle.places.proofs.NodeCounts.{values-read, privates-small}
 use Rattle.readback.specs.Inner.Hits.{token, hits, FoundOf}
 use Rattle.readback.specs.Inner.Standing.{valueOf, justOne, publicCount, privateCount, valuesAt, valueRight, valuesRight, opposedFor, opposedAll}
-use Rattle.readback.specs.Inner.Standing.{holdsAt, holdersAt, wantedAt, freedFor, freedAll}
 use Rattle.readback.specs.Inner.Holding.{IsName, ValueAt, Filled, ValuesBelow}
 use Rattle.readback.specs.declared.found.Found.{Found}
 use Rattle.readback.proofs.Finding.{hits-below}
@@ -78,12 +78,12 @@ module _ (w index m held : List ℕ) (L : Laid w index) (x : ℕ) (nm : IsName w
       k-is ∙ ap (λ (z : Reach). pick (not (same (z .restricted) 0)) (word index privatesAt) 0) (r-is ∙ reach-is w index L x)
       ∙ rw (privates-told w (L .accepted) x, privates-are w index L)
 
-  module _ (start : ℕ) (start-is : start ≡ word (rowsIn index) x) (f : Found) (F : FoundOf (hits m start (c + k)) f) where
+  module _ (start : ℕ) (start-is : start ≡ rowOf w x) (f : Found) (F : FoundOf (hits m start (c + k)) f) where
     abbrev hs : List ℕ
     hs = hits m (rowStart S (valuesFor S) x) (length vs)
 
     found-here : FoundOf hs f
-    found-here = rw (start-is ∙ row-is w index L x (nm .0) (nm .1), count-is) at F
+    found-here = rw (start-is, count-is) at F
 
     length-is : length (valuesAt S m x) ≡ f .count
     unfolding valuesAt
@@ -149,9 +149,9 @@ module _ (w index m held : List ℕ) (L : Laid w index) (x : ℕ) (nm : IsName w
             ∙ rw (same-no v 65535 (λ q. omega (arith, value-small d)), value-is d, found-here .first-is);
       }
 
-  pub opposed-is : (row : ℕ) → row ≡ word (rowsIn index) x → S .restricted x ≡ false
+  pub opposed-is : (row : ℕ) → row ≡ rowOf w x → S .restricted x ≡ false
       → every (λ i. justOne (token m (row + c + i)) (token m (row + c + k + i))) (range k) ≡ opposedFor S m x
-  opposed-is row e q = rw (e ∙ row-is w index L x (nm .0) (nm .1), publics-counted, privates-counted, q)
+  opposed-is row e q = rw (e, publics-counted, privates-counted, q)
 
 -- one name more
 pub values-more : (w m before after : List ℕ) (x : ℕ) → x < length before → ValuesBelow w m before x → Filled w m x before after
@@ -172,7 +172,7 @@ module _ (w m : List ℕ) (P B : ℕ) (P-is : P ≡ publics w) (B-is : B ≡ bou
   is-name x l h = (omega (arith, P-is), omega (arith, P-is, B-is))
 
   -- the bound names from the first on
-  from-first : from (scheme w .publics) (scheme w .bounds) ≡ from P (P + B - P)
+  pub from-first : from (scheme w .publics) (scheme w .bounds) ≡ from P (P + B - P)
   from-first =
       let a : scheme w .publics ≡ P = omega (arith, P-is, publics-are w) in
       let b : scheme w .bounds ≡ P + B - P = omega (arith, B-is, bounds-are w) in
@@ -186,44 +186,10 @@ module _ (w m : List ℕ) (P B : ℕ) (P-is : P ≡ publics w) (B-is : B ≡ bou
   unfolding opposedAll
   opposed-start = ap (every (opposedFor (scheme w) m)) from-first
 
-  pub holders-start : (n : ℕ) → length (holdersAt (scheme w) m n) ≡ 0 + length (keep (holdsAt (scheme w) m n) (from P (P + B - P)))
-  holders-start n = rw from-first (omega arith)
-
-module _ (w index : List ℕ) (L : Laid w index) (m : List ℕ) (N : ℕ) (N-is : N ≡ word index privatesAt) where
-  pub freed-start : freedAll (scheme w) m ≡ every (freedFor (scheme w) m) (from 0 (N - 0))
-  unfolding freedAll
-  freed-start = let b : valuesFor (scheme w) .privates ≡ N - 0 = omega (arith, N-is, privates-are w index L) in rw b
-
-  pub private-few : N ≤ 32
-  private-few = omega (arith, N-is, few-counted w index L)
-
-  pub wanted-is : (n : ℕ) → pick (token m (word index freeAt + n)) 0 1 ≡ wantedAt (scheme w) m n
-  wanted-is n = rw (free-is w index L)
-
-module _ (w m : List ℕ) where
-  -- one name more
-  pub holders-more : (n x e count next : ℕ) → x < e → next ≡ count + bit (holdsAt (scheme w) m n x)
-      → count + length (keep (holdsAt (scheme w) m n) (from x (e - x))) ≡ next + length (keep (holdsAt (scheme w) m n) (from (x + 1) (e - (x + 1))))
-  unfolding keep
-  holders-more n x e count next h q = rw (from-more x e h, q) (go (holdsAt (scheme w) m n x))
-    where
-      left : List ℕ
-      left = keep (holdsAt (scheme w) m n) (from (x + 1) (e - (x + 1)))
-
-      go : (b : Bool) → count + length (pick b (x ∷ left) left) ≡ count + bit b + length left
-      go true = omega arith
-      go false = omega arith
-
-  pub holders-done : (n x e count : ℕ) → e ≤ x → count + length (keep (holdsAt (scheme w) m n) (from x (e - x))) ≡ count
-  unfolding keep
-  holders-done n x e count h = rw (from-done x e h) (omega arith)
-
-pub bit-few : (b : Bool) → bit b ≤ 1
-bit-few true = omega arith
-bit-few false = omega arith
-
-pub differ-same : (a b c d : ℕ) → a ≡ c → b ≡ d → (a ≡ b → ⊥) → same c d ≡ false
-differ-same a b c d e f n = same-no c d (λ q. n (e ∙ q ∙ sym f))
-
-pub equal-same : (a b c d : ℕ) → a ≡ c → b ≡ d → a ≡ b → same c d ≡ true
-equal-same a b c d e f q = same-yes c d (sym e ∙ q ∙ f)
+-- from where one row starts to where the next one does
+pub row-on : (w index : List ℕ) → Laid w index → (P B : ℕ) → P ≡ publics w → B ≡ bounds w → (x row r : ℕ) → P ≤ x → x < P + B → row ≡ rowOf w x
+    → r ≡ spanIn w index (word index privatesAt) x (x + 1) → (row + r ≡ rowOf w (x + 1)) × (rowOf w (x + 1) ≤ 3072)
+row-on w index L P B p b x row r l h e q = (
+  omega (arith, e, q, row-goes-on w index L x (omega (arith, p)) (omega (arith, p, b))),
+  row-small w (L .accepted) (x + 1) (omega (arith, p, b)),
+)

@@ -4,4 +4,5 @@ pub mod Standing
 pub mod Noting
 pub mod Showing
 pub mod Holding
+pub mod Freeing
 pub mod Settling

@@ -48,7 +48,7 @@ fn stands_for(
     if !names::opposed(table, index, marking) {
         return false;
     }
-    names::freed(table, index, marking)
+    names::freed(table, index, marking, values)
 }
 
 // Reads a marking of a table that is laid out.

@@ -6,18 +6,20 @@ ghost use lib.ListN.{length, take};
 ghost use lib.Seq.{slice};
 ghost use lib.Dec.{ltb};
 ghost use mathlib.Core.Bool.{true};
-ghost use Rattle.lists.specs.Lists.{pick, bit, word, from, range, every};
+ghost use Rattle.lists.specs.Lists.{pick, word, from, range, every};
 ghost use Rattle.scheme.specs.Words.{publics, names, nodes, nodeFirst, formalCount, formals};
 ghost use Rattle.scheme.specs.Scheme.{scheme};
 ghost use Rattle.net.specs.Firing.{put};
 ghost use Rattle.table.specs.Known.{Known};
-ghost use Rattle.places.specs.Plan.{freeAt, Laid};
+ghost use Rattle.places.specs.Plan.{privatesAt, freeAt, Laid};
+ghost use Rattle.places.specs.Inner.Plan.{rowOf};
 ghost use Rattle.readback.specs.Configurations.{spot, heldHere};
 ghost use Rattle.readback.specs.Inner.Hits.{token};
 ghost use Rattle.readback.specs.Inner.Standing.{justOne, valueRight, valuesRight};
-ghost use Rattle.readback.specs.Inner.Standing.{opposedFor, opposedAll, holdsAt, holdersAt, freedAll};
+ghost use Rattle.readback.specs.Inner.Standing.{opposedFor, opposedAll, freedAll};
 ghost use Rattle.readback.specs.Inner.Showing.{AtNodes};
 ghost use Rattle.readback.specs.Inner.Holding.{heldAll, IsName, ValueAt, Filled, ValuesBelow};
+ghost use Rattle.readback.specs.Inner.Freeing.{ValuesOnce, PrivateWord, takenBy, With, MarkedSet};
 use crate::found::find;
 use crate::found::is_marked;
 use lists::store8;
@@ -29,10 +31,12 @@ use places::count::privates_of;
 use places::count::publics_of;
 use places::lookup::free_start;
 use places::lookup::privates;
-use places::lookup::row_start;
 use places::reach::Reach;
+use places::reach::has;
 use places::reach::nth;
+use places::reach::rank;
 use places::reach::reach_of;
+use places::row::row_places;
 use scheme::fields::field3;
 use scheme::fields::field4;
 use scheme::fields::name_kind;
@@ -155,16 +159,18 @@ fn value_at(table: &[u16], reach: Reach, k: usize) -> usize
     publics + (k - count)
 }
 
-// Fills in a name's marked value, 65535 where it has none. Whether it has one just if it is held.
+// Fills in the marked value of a name whose row starts at `row`, 65535 where it has none. Whether it has one just if it
+// is held.
 fn find_value(
     table: &[u16],
     index: &[u32],
     marking: &[u8],
     held: &[u8],
     values: &mut [u16],
+    row: usize,
     name: usize,
 ) -> bool
-    requires { ⌜ Laid (now table) (now index) × IsName (now table) name ⌝ }
+    requires { ⌜ Laid (now table) (now index) × IsName (now table) name × (row ≡ rowOf (now table) name) ⌝ }
     ensures { λ r. ⌜ (r ≡ valueRight (scheme (now (table .entry))) (now (marking .entry)) (word (now (held .entry)))
         name)
         × (r ≡ true → Filled (now (table .entry)) (now (marking .entry)) name (now (values .entry))
@@ -172,7 +178,7 @@ fn find_value(
 {
     let reach = reach_of(index, name);
     let count = publics_of(table, reach) + privates_of(index, reach);
-    let f = find(marking, row_start(index, name), count);
+    let f = find(marking, row, count);
     if f.count != word8(held, name) {
         return false;
     }
@@ -214,28 +220,6 @@ fn opposite(marking: &[u8], first: usize, second: usize, count: usize) -> bool
     true
 }
 
-// One more where the test holds.
-fn plus(count: usize, more: bool) -> usize
-    requires { ⌜ count < 65536 ⌝ }
-    ensures { λ r. ⌜ r ≡ count + bit more ⌝ }
-{
-    if more {
-        return count + 1;
-    }
-    count
-}
-
-// How many restricted names are to have private value n: none where [*≠n] is marked, else one.
-fn wanted(index: &[u32], marking: &[u8], n: usize) -> usize
-    requires { ⌜ n < 65536 ⌝ }
-    ensures { λ r. ⌜ r ≡ pick (token (now (marking .entry)) (word (now (index .entry)) freeAt + n)) 0 1 ⌝ }
-{
-    if is_marked(marking, free_start(index) + n) {
-        return 0;
-    }
-    1
-}
-
 // The marked value of each bound name. Whether each has one just if it is held.
 pub(crate) fn find_values(
     table: &[u16],
@@ -251,26 +235,28 @@ pub(crate) fn find_values(
 {
     let publics = word16(table, 0);
     let end = publics + word16(table, 1);
+    let mut row = 0;
     let mut x = publics;
     while x < end {
-        if !find_value(table, index, marking, held, values, x) {
+        if !find_value(table, index, marking, held, values, row, x) {
             return false;
         }
+        row += row_places(table, index, x, x + 1);
         x += 1;
     }
     true
 }
 
-// Whether [x≠n] is marked just without [x=n], for a name that is not restricted.
-fn opposed_for(table: &[u16], index: &[u32], marking: &[u8], name: usize) -> bool
-    requires { ⌜ Laid (now table) (now index) × IsName (now table) name ⌝ }
+// Whether [x≠n] is marked just without [x=n], for a name that is not restricted; its row starts at `row`.
+fn opposed_for(table: &[u16], index: &[u32], marking: &[u8], row: usize, name: usize) -> bool
+    requires { ⌜ Laid (now table) (now index) × IsName (now table) name × (row ≡ rowOf (now table) name) ⌝ }
     ensures { λ r. ⌜ r ≡ opposedFor (scheme (now (table .entry))) (now (marking .entry)) name ⌝ }
 {
     if is_restricted(table, name) {
         return true;
     }
     let reach = reach_of(index, name);
-    let private = row_start(index, name) + publics_of(table, reach);
+    let private = row + publics_of(table, reach);
     let count = privates_of(index, reach);
     opposite(marking, private, private + count, count)
 }
@@ -282,55 +268,76 @@ pub(crate) fn opposed(table: &[u16], index: &[u32], marking: &[u8]) -> bool
 {
     let publics = word16(table, 0);
     let end = publics + word16(table, 1);
+    let mut row = 0;
     let mut x = publics;
     while x < end {
-        if !opposed_for(table, index, marking, x) {
+        if !opposed_for(table, index, marking, row, x) {
             return false;
         }
+        row += row_places(table, index, x, x + 1);
         x += 1;
     }
     true
 }
 
-// Whether a bound name is restricted and has private value n.
-fn holds(table: &[u16], index: &[u32], marking: &[u8], name: usize, n: usize) -> bool
-    requires { ⌜ Laid (now table) (now index) × IsName (now table) name × (n < 65536) ⌝ }
-    ensures { λ r. ⌜ r ≡ holdsAt (scheme (now (table .entry))) (now (marking .entry)) n name ⌝ }
+// The private value of a restricted name, counted from 0; 64 or more where it has none, and for other names.
+fn private_value(table: &[u16], values: &[u16], name: usize) -> usize
+    requires { ⌜ IsName (now table) name × PrivateWord (now table) (now values) name ⌝ }
+    ensures { λ r. ⌜ r ≡ takenBy (now (table .entry)) (now (values .entry)) name ⌝ }
 {
     if !is_restricted(table, name) {
-        return false;
+        return 64;
     }
-    is_marked(marking, row_start(index, name) + n)
+    word16(values, name) - word16(table, 0)
 }
 
-// How many restricted names have private value n.
-fn holders(table: &[u16], index: &[u32], marking: &[u8], n: usize) -> usize
-    requires { ⌜ Laid (now table) (now index) × (n < 65536) ⌝ }
-    ensures { λ r. ⌜ r ≡ length (holdersAt (scheme (now (table .entry))) (now (marking .entry)) n) ⌝ }
+// A set with number n too; no set has one from 64 on.
+fn with_number(set: u64, n: usize) -> u64
+    ensures { λ r. ⌜ With set n r ⌝ }
 {
-    let publics = word16(table, 0);
-    let end = publics + word16(table, 1);
-    let mut count = 0;
-    let mut x = publics;
-    while x < end {
-        count = plus(count, holds(table, index, marking, x, n));
-        x += 1;
+    if n < 64 {
+        return set | 1u64 << n;
     }
-    count
+    set
 }
 
-// Whether [*≠n] is marked just where no restricted name has n, and no two have it.
-pub(crate) fn freed(table: &[u16], index: &[u32], marking: &[u8]) -> bool
-    requires { ⌜ Laid (now table) (now index) ⌝ }
-    ensures { λ r. ⌜ r ≡ freedAll (scheme (now (table .entry))) (now (marking .entry)) ⌝ }
+// The private values n whose [*≠n] is marked.
+fn free_values(index: &[u32], marking: &[u8]) -> u64
+    requires { ⌜ word (now index) privatesAt ≤ 64 ⌝ }
+    ensures { λ r. ⌜ MarkedSet (now (marking .entry)) (word (now (index .entry)) freeAt)
+        (word (now (index .entry)) privatesAt) r ⌝ }
 {
+    let start = free_start(index);
     let count = privates(index);
+    let mut set = 0;
     let mut n = 0;
     while n < count {
-        if holders(table, index, marking, n) != wanted(index, marking, n) {
-            return false;
+        if is_marked(marking, start + n) {
+            set = with_number(set, n);
         }
         n += 1;
     }
-    true
+    set
+}
+
+// Whether [*≠n] is marked just where no restricted name has n, and no two have it: each n comes once, by its mark or by
+// a name.
+pub(crate) fn freed(table: &[u16], index: &[u32], marking: &[u8], values: &[u16]) -> bool
+    requires { ⌜ Laid (now table) (now index) × ValuesOnce (now table) (now marking) (now values) ⌝ }
+    ensures { λ r. ⌜ r ≡ freedAll (scheme (now (table .entry))) (now (marking .entry)) ⌝ }
+{
+    let publics = word16(table, 0);
+    let end = publics + word16(table, 1);
+    let mut set = free_values(index, marking);
+    let mut x = publics;
+    while x < end {
+        let n = private_value(table, values, x);
+        if has(set, n) {
+            return false;
+        }
+        set = with_number(set, n);
+        x += 1;
+    }
+    let count = privates(index);
+    rank(set, count) == count
 }

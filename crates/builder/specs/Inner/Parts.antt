@@ -3,10 +3,10 @@ use mathlib.Core.Path.{_≡_}
 use mathlib.Core.Bool.{true, not}
 use mathlib.Core.Logic.{_⊎_}
 use mathlib.Core.List.{List, [], _∷_, map}
-use Prim.Native.Nat.{ℕ, _+_, _≤_, _<_}
+use Prim.Native.Nat.{ℕ, _+_, _*_, _≤_, _<_}
 use lib.ListN.{length, take}
 use Rattle.lists.specs.Lists.{pick, same, word, from, range, flat, member, ascends}
-use Rattle.scheme.specs.Words.{publics, bounds, nodes, branches, channel, branchName, next, nodeFirst, nodeSecond, argument, isSend, isReceive}
+use Rattle.scheme.specs.Words.{publics, bounds, names, nodes, branches, channel, branchName, next, nodeFirst, nodeSecond, argument, isSend, isReceive}
 use Rattle.scheme.specs.Owners.{home, branchThread}
 use Rattle.scheme.specs.Scheme.{scheme}
 use Rattle.net.specs.Image.{labelOf}
@@ -16,8 +16,8 @@ use Rattle.places.specs.Places.{Place, equals, differs, controls, common}
 use Rattle.places.specs.Rows.{numberOf}
 use Rattle.places.specs.Transitions.{Description, making, communicating, sentOn, ofPair}
 use Rattle.places.specs.Image.{transitionOf}
-use Rattle.places.specs.Inner.Arcs.{insert, exists, numbersOf, startsAt}
-use Rattle.places.specs.Inner.Plan.{today, values, controlOf, rowOf, reached, Reads}
+use Rattle.places.specs.Inner.Arcs.{insert, exists, numbersOf, startsAt, allDiffer}
+use Rattle.places.specs.Inner.Plan.{today, privatesOf, values, controlOf, rowOf, reached, Reads}
 use Rattle.builder.specs.Inner.Writing
 use Rattle.builder.specs.Inner.Writing.{heads, putAll, rise}
 use Rattle.builder.specs.Inner.Spans.{Narrow, Parted, valuesIn}
@@ -26,6 +26,7 @@ use Rattle.places.specs.declared.count.Side.{Side}
 use Rattle.builder.specs.declared.write.Heads.{Heads}
 use Rattle.builder.specs.declared.write.Arcs.{Arcs}
 use Rattle.builder.specs.declared.write.Risers.{Risers}
+use Rattle.builder.specs.declared.communications.Starts.{Starts}
 use Rattle.builder.specs.declared.spans.Values.{Values}
 use Rattle.builder.specs.declared.chain.Chain.{Chain}
 use Rattle.builder.specs.declared.communications.Pair.{Pair}
@@ -81,7 +82,16 @@ withAll w s = flat (withBranch w s) (range (branches w))
 abbrev pub allTold : List ℕ → List Description
 allTold w = flat (withAll w) (range (branches w))
 
--- a send and a receive, the names that they use, and the places before and after them
+-- where the row of a name starts, if it is bound
+abbrev pub Begins : List ℕ → ℕ → ℕ → Type 0
+Begins w x row = publics w ≤ x → x < names w → row ≡ rowOf w x
+
+-- where the rows of the channel and of the name of each of the branches start, in two words each, 32 at the most
+abbrev pub StartsOf : List ℕ → List ℕ → List ℕ → Type 0
+StartsOf w rows bs = (k : ℕ) → k < length bs → k < 32
+    → Begins w (channel w (word bs k)) (word rows (2 * k)) × Begins w (branchName w (word bs k)) (word rows (2 * k + 1))
+
+-- a send and a receive, the names that they use, the places before and after them, and where the rows of the names start
 pub record Paired (w : List ℕ) (p : Pair) : Type 0 where
   pub send-inside : p .send < branches w
   pub receive-inside : p .receive < branches w
@@ -96,6 +106,10 @@ pub record Paired (w : List ℕ) (p : Pair) : Type 0 where
   pub onsend-is : p .onsend ≡ controlOf w (next w (p .send))
   pub receiver-is : p .receiver ≡ controlOf w (home w (p .receive))
   pub onreceive-is : p .onreceive ≡ controlOf w (next w (p .receive))
+  pub channel-row : Begins w (p .channel) (p .own .channel)
+  pub sent-row : Begins w (p .sent) (p .own .name)
+  pub heard-row : Begins w (p .heard) (p .other .channel)
+  pub bound-row : Begins w (p .bound) (p .other .name)
 
 -- a transition by its label and arcs
 abbrev pub arrow : ℕ → ℕ → ℕ → List ℕ → List ℕ → Transition
@@ -208,8 +222,8 @@ pub record Coursed (w : List ℕ) (a z : ℕ) (c : Course) : Type 0 where
   pub others : (z ≡ a → ⊥) → (c .sents ≡ not (c .channels)) × Parted (publics w) (c .values) × (valuesIn (c .values) ≡ values w z)
 
 -- a pair by what is told of both branches
-abbrev pub pairOf : Side → Side → Pair
-pairOf s r = record {
+abbrev pub pairOf : Side → Starts → Side → Starts → Pair
+pairOf s own r other = record {
   send = s .branch;
   receive = r .branch;
   channel = s .channel;
@@ -220,6 +234,8 @@ pairOf s r = record {
   onsend = s .on;
   receiver = r .place;
   onreceive = r .on;
+  own = own;
+  other = other;
 }
 
 -- formal f may hold what argument a may hold; so each of `count` formals
@@ -248,6 +264,11 @@ pub record Entered (x count : ℕ) (before : List ℕ) (r : ℕ) (after : List �
 pub record Filled (w list : List ℕ) (count : ℕ) (ps : List Place) : Type 0 where
   pub holds : take count list ≡ numbersOf (scheme w) (today w) ps
   pub size : count ≡ length (numbersOf (scheme w) (today w) ps)
+
+-- the list has the numbers of every [x≠v] for the first private value, if there is one
+pub record ReadsAll (w list : List ℕ) (count : ℕ) : Type 0 where
+  pub room : 40 ≤ length list
+  pub filled : 0 < privatesOf w → Filled w list count (allDiffer (scheme w) (publics w))
 
 -- place p put in besides any such places
 abbrev pub Placed : List ℕ → Place → ℕ → List ℕ → ℕ → List ℕ → Type 0

@@ -1,7 +1,7 @@
 -- `readback::stands_for` meets its contract.
 use mathlib.Core.Path.{sym, _∙_}
 use borrow.Author.Tests.{not-true, not-false}
-use Rattle.readback.proofs.Settling.{no-spots, stand-at, no-values, not-opposed, settles}
+use Rattle.readback.proofs.Settling.{no-spots, stand-at, no-values, values-once, not-opposed, settles}
 use Rattle.places.proofs.Plans.{known}
 use borrow.Author.Needs.{needs}
 use Rattle.readback.proofs.stands_for.Statement.{statement}
@@ -102,9 +102,20 @@ returns-3 c =
 
 freed-requires : tie.Need-freed-requires
 freed-requires c κs =
-    let half = c .before .before .before .before .before .before .before .before .before .before .before .before .before in
-    let s = half .before .before .before .before .before .before .before .before .before .before .before .before .before .before in
-    s .pre .seeking .laid
+    let at-if2 = c .before .before .before in
+    let at-find-values = at-if2 .before .before .before in
+    let at-mark-all = at-find-values .before .before .before .before in
+    let at-if1 = at-mark-all .before .before .before .before in
+    let at-find-spots = at-if1 .before .before .before .before .before in
+    let s = at-find-spots .before .before .before .before .before .before .before .before .before in
+    let found = not-false _ (at-if2 .if2 .left) in (
+      s .pre .seeking .laid,
+      values-once (s .args .table .now) (s .args .index .now) (s .pre .seeking .laid)
+          (s .args .marking .now) (s .pre .marking) _ _ (sym (at-find-spots .find-spots .ensures .0) ∙ not-false _ (at-if1 .if1 .left))
+          (at-find-spots .find-spots .ensures .1)
+          _ (at-mark-all .mark-all .ensures) _ (at-find-values .find-values .result) (at-find-values .find-values .ensures .0) found
+          (at-find-values .find-values .ensures .1 found),
+    )
 
 same-length-9 : tie.Need-same-length-9
 same-length-9 c = search needs
@@ -117,7 +128,7 @@ same-length-11 c = search needs
 
 returns-4 : tie.Need-returns-4
 returns-4 c =
-    let at-opposed = c .before .before in
+    let at-opposed = c .before .before .before in
     let at-if2 = at-opposed .before in
     let at-find-values = at-if2 .before .before .before in
     let at-mark-all = at-find-values .before .before .before .before in
@@ -129,7 +140,7 @@ returns-4 c =
     (at-find-spots .find-spots .ensures .1)
     _ (at-mark-all .mark-all .ensures) _ (at-find-values .find-values .result) (at-opposed .opposed .result) (c .freed .result)
     (at-find-values .find-values .ensures .0) (not-false _ (at-if2 .if2 .left))
-    (at-opposed .opposed .ensures) (not-false _ (c .before .if3 .left)) (c .freed .ensures)
+    (at-opposed .opposed .ensures) (not-false _ (c .before .before .if3 .left)) (c .freed .ensures)
     (at-find-values .find-values .ensures .1 (not-false _ (at-if2 .if2 .left)))
 
 pub stands-for-spec : {M : Type 1} → statement M

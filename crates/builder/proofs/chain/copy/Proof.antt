@@ -31,7 +31,7 @@ abbrev start3 : tie.After-insert → tie.Start
 start3 c = start2 (c .before .before .before .before)
 
 abbrev start4 : tie.Joined1 → tie.Start
-start4 c = start3 (c .before .before)
+start4 c = start3 (c .before .before .before)
 
 abbrev start5 : tie.After-insert3 → tie.Start
 start5 c = start4 (c .before .before .before .before)
@@ -42,18 +42,18 @@ table s = s .args .table .now
 -- ---- the places that are put in
 
 abbrev read : tie.Start → List Place
-read s = equals (s .args .x .argument) (s .args .v) ∷ []
+read s = equals (s .args .x .argument) (s .args .v .value) ∷ []
 
 abbrev given : tie.Start → List Place
-given s = equals (s .args .x .formal) (s .args .v) ∷ read s
+given s = equals (s .args .x .formal) (s .args .v .value) ∷ read s
 
 abbrev taken : tie.Start → List Place
-taken s = differs (s .args .x .formal) (s .args .v) ∷ read s
+taken s = differs (s .args .x .formal) (s .args .v .value) ∷ read s
 
 abbrev next : (s : tie.Start) → Next (table s) (s .args .c) (s .args .x .k)
 next s = next-place (table s) (s .args .c) (s .pre .1) (s .args .x .k) (s .pre .2)
 
-holds : (s : tie.Start) → Holds (table s) (s .args .x .formal) (s .args .v)
+holds : (s : tie.Start) → Holds (table s) (s .args .x .formal) (s .args .v .value)
 holds s = s .pre .7
 
 -- how many public names there are, as it is read
@@ -81,20 +81,20 @@ met c =
     let a = s .args in
     let p = s .pre in
     let w = table s in
-    let b = c .before .before .before .before .before .before .before .before .before in
+    let b = c .before .before .before .before .before .before .before .before .before .before in
     let l = b .insert-equals .last .1 .1 .0 in
     let k = b .insert-equals .kept .1 .1 .0 in
     ⊎-elim
     (λ x. rw (x .5, x .6) (
-      fill-with w l _ (b .insert-equals .result) _ (x .2 .result) (differs (a .x .formal) (a .v)) (read s)
-          (has-difference w (a .x .formal) (a .v)
-          (holds-differs w (p .0 .accepted) (a .x .formal) (a .v) (p .5) (p .7) (omega (arith, known b, x .0 .taken))))
+      fill-with w l _ (b .insert-equals .result) _ (x .2 .result) (differs (a .x .formal) (a .v .value)) (read s)
+          (has-difference w (a .x .formal) (a .v .value)
+          (holds-differs w (p .0 .accepted) (a .x .formal) (a .v .value) (p .5) (p .7) (omega (arith, known b, x .0 .taken))))
           (x .2 .ensures) (x .3 .ensures) (first b),
       x .3 .kept .0 ∙ k,
     ))
     (λ x. rw (x .1, x .2) (
-      fill-without w l (b .insert-equals .result) (differs (a .x .formal) (a .v)) (read s)
-          (no-difference w (a .x .formal) (a .v) (omega (arith, known b, x .0 .left))) (first b),
+      fill-without w l (b .insert-equals .result) (differs (a .x .formal) (a .v .value)) (read s)
+          (no-difference w (a .x .formal) (a .v .value) (omega (arith, known b, x .0 .left))) (first b),
       k,
     ))
     (c .if1 .came)
@@ -113,14 +113,14 @@ inputs c =
 arrow-is : (c : tie.After-insert3)
     → let s = start5 c in
     let a = s .args in
-    let o = c .before .before .before .before .before .before .insert in
-    ofTable (table s) (copying (scheme (table s)) (today (table s)) (a .c .node) (a .c .to) (a .x .k) (a .x .formal) (a .x .argument) (a .v))
+    let o = c .before .before .before .before .before .before .before .insert in
+    ofTable (table s) (copying (scheme (table s)) (today (table s)) (a .c .node) (a .c .to) (a .x .k) (a .x .formal) (a .x .argument) (a .v .value))
     ≡ arrow 0 (a .c .node) (a .x .formal) (take (c .insert3 .result) (c .insert3 .last .0)) (take (o .result) (o .last .0))
 arrow-is c =
     let s = start5 c in
     let a = s .args in
-    copy-arrow (table s) (a .c) (s .pre .1) (a .x .k) (s .pre .2) (a .x .formal) (a .x .argument) (a .v) (s .pre .5) _ _ _ _ (inputs c)
-    (outputs (c .before .before .before .before .before .before))
+    copy-arrow (table s) (a .c) (s .pre .1) (a .x .k) (s .pre .2) (a .x .formal) (a .x .argument) (a .v .value) (s .pre .5) _ _ _ _ (inputs c)
+    (outputs (c .before .before .before .before .before .before .before))
 
 -- ---- what the calls ask
 
@@ -133,7 +133,7 @@ slice-aggregate-insert-equals c = search needs
 insert-equals-requires : tie.Need-insert-equals-requires
 insert-equals-requires c κs =
     let s = c .before .before .before .before .before in
-    (s .pre .0, s .pre .6, fill-rising (table s) (s .pre .0 .accepted) _ 0 [] (omega arith) (fill-none (table s) _))
+    (s .pre .0, s .pre .6, fill-rising (table s) (s .pre .0 .accepted) _ 0 [] (omega arith) (fill-none (table s) _), s .pre .9)
 
 slice-aggregate-insert-equals-2 : tie.Need-slice-aggregate-insert-equals-2
 slice-aggregate-insert-equals-2 c = search needs
@@ -146,6 +146,7 @@ insert-equals-requires-2 c κs =
       s .pre .0,
       record { high = h .high; value = h .value },
       fill-rising (table s) (s .pre .0 .accepted) _ _ (read s) (omega (arith, b .insert-equals .kept .1 .1 .0)) (first b),
+      s .pre .10,
     )
 
 slice-aggregate-insert : tie.Need-slice-aggregate-insert
@@ -169,16 +170,17 @@ slice-aggregate-insert-2 c = search needs
 
 differs-requires : tie.Need-differs-requires
 differs-requires c κs =
-    let s = start3 (c .before .before .before) in
+    let s = start3 (c .before .before .before .before) in
     let p = s .pre in (
       p .0,
-      holds-differs (table s) (p .0 .accepted) (s .args .x .formal) (s .args .v) (p .5) (p .7)
-          (omega (arith, known (c .before .before .before .before .before .before .before .before .before .before), c .before .if1 .taken)),
+      holds-differs (table s) (p .0 .accepted) (s .args .x .formal) (s .args .v .value) (p .5) (p .7)
+          (omega (arith, known (c .before .before .before .before .before .before .before .before .before .before .before), c .before .if1 .taken)),
+      p .10 (p .7 .low) (p .7 .high),
     )
 
 insert-requires-2 : tie.Need-insert-requires-2
 insert-requires-2 c κs =
-    let b = c .before .before .before .before .before .before .before .before .before .before .before in
+    let b = c .before .before .before .before .before .before .before .before .before .before .before .before in
     let s = start1 b in
     fill-rising (table s) (s .pre .0 .accepted) _ _ (read s) (omega (arith, b .insert-equals .kept .1 .1 .0)) (first b)
 
@@ -212,7 +214,7 @@ transition-requires : tie.Need-transition-requires
 transition-requires c κs =
     let b = c .before .before .before .before in
     let j = b .before .before .before .before in
-    let o = j .before .before in
+    let o = j .before .before .before in
     let g = o .before .before .before .before in
     let s = start5 b in
     let a = s .args in

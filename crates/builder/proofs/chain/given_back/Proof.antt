@@ -2,7 +2,7 @@
 use mathlib.Core.Path.{_∙_}
 use native.Mathlib.Omega.{arith}
 use Rattle.places.proofs.Names.{kind-restricted, kind-free}
-use Rattle.places.proofs.Plans.{row-is, free-is, privates-are}
+use Rattle.places.proofs.Plans.{row-small, free-is, privates-are}
 use borrow.Author.Needs.{needs}
 use Rattle.builder.proofs.chain.given_back.Statement.{statement}
 use Rattle.builder.proofs.chain.given_back.Tie as tie
@@ -21,29 +21,35 @@ returns c =
     rw (kind-restricted w (s .args .z) (k .result) (s .pre .1) (s .pre .2) (k .ensures .is) (c .before .if1 .taken))
     (c .free-start .ensures .is ∙ free-is w (s .args .index .now) (s .pre .0))
 
-row-start-requires : tie.Need-row-start-requires
-row-start-requires c κs = search needs
-
 add-result : tie.Need-add-result
-add-result c = search needs
+add-result c =
+    let s = c .before .before .before .before in
+    omega (arith, s .pre .4, row-small (s .args .table .now) (s .pre .0 .accepted) (s .args .z) (omega (arith, s .pre .2)), s .pre .3)
 
 privates-requires : tie.Need-privates-requires
 privates-requires c κs = search needs
 
 add-result-2 : tie.Need-add-result-2
-add-result-2 c = search needs
+add-result-2 c =
+    let s = c .before .before .before .before .before in
+    omega (
+      arith,
+      s .pre .4,
+      row-small (s .args .table .now) (s .pre .0 .accepted) (s .args .z) (omega (arith, s .pre .2)),
+      s .pre .3,
+      c .privates .ensures .small,
+    )
 
 returns-2 : tie.Need-returns-2
 returns-2 c =
-    let k = c .before .before .before .name-kind in
-    let s = c .before .before .before .before .before .before in
+    let k = c .before .before .name-kind in
+    let s = c .before .before .before .before .before in
     let w = s .args .table .now in
     let x = s .args .index .now in
-    rw (kind-free w (s .args .z) (k .result) (s .pre .1) (s .pre .2) (k .ensures .is) (c .before .before .if1 .left))
+    rw (kind-free w (s .args .z) (k .result) (s .pre .1) (s .pre .2) (k .ensures .is) (c .before .if1 .left))
     (omega (
       arith,
-      c .before .row-start .ensures .is,
-      row-is w x (s .pre .0) (s .args .z) (s .pre .1) (s .pre .2),
+      s .pre .4,
       c .privates .ensures .is,
       privates-are w x (s .pre .0),
     ))
@@ -55,7 +61,6 @@ given-back-spec =
     name-kind-requires
     free-start-requires
     returns
-    row-start-requires
     add-result
     privates-requires
     add-result-2

@@ -9,11 +9,13 @@ use lib.Seq.{length-take-le}
 use Rattle.lists.specs.Lists.{member}
 use Rattle.scheme.specs.Owners.{held}
 use Rattle.scheme.specs.Scheme.{scheme}
+use Rattle.places.specs.Starts.{Right}
 use Rattle.places.specs.Transitions.{releases}
 use Rattle.places.specs.Inner.Plan.{today}
 use Rattle.places.proofs.Controls.{few-nodes}
 use Rattle.places.proofs.Plans.{known}
 use Rattle.places.proofs.NodeCounts.{names-fit, names-taken}
+use Rattle.places.proofs.Starts.{right-first, counted-on, on-row}
 use Rattle.builder.specs.Inner.Writing.{Inside}
 use Rattle.builder.specs.Inner.Parts.{put, state, ofTable}
 use Rattle.builder.proofs.Writing.{put-none}
@@ -25,13 +27,13 @@ use Rattle.builder.proofs.chain.release_all.Statement.{statement}
 use Rattle.builder.proofs.chain.release_all.Tie as tie
 
 abbrev Inv-loop : tie.InvT-loop
-Inv-loop table index out₀ c k names count q₀ i₀ out q i =
+Inv-loop table index out₀ c k names count q₀ s₀ i₀ out q s i =
     (put table out₀ q₀ (releases (scheme table) (today table) (c .node) (c .to) k (take count names))
     ≡ put table out q (releases (scheme table) (today table) (c .node) (c .to) (k + i) (drop i (take count names))))
-    × (length out ≡ length out₀) × (i ≤ count)
+    × (length out ≡ length out₀) × (i ≤ count) × Right table index s
 
 abbrev μ-loop : tie.MeasureT-loop
-μ-loop table index out₀ c k names count q₀ i₀ out q i = count - i
+μ-loop table index out₀ c k names count q₀ s₀ i₀ out q s i = count - i
 
 -- ---- the held names
 
@@ -84,41 +86,46 @@ held-names-requires c κs = search needs
 
 loop-holds : tie.Need-loop-holds Inv-loop μ-loop
 loop-holds c =
-    let a = c .before .before .before .before .before .before .before .args in
+    let m = c .before in
+    let a = start m .args in
     let w = a .table .now in (
-      ap (put w (a .out .now) (a .h)) (releases-start (scheme w) (today w) (a .c .node) (a .c .to) (a .k) (take (c .before .held-names .result) (names
-          (c .before)))),
+      ap (put w (a .out .now) (a .h)) (releases-start (scheme w) (today w) (a .c .node) (a .c .to) (a .k) (take (m .held-names .result) (names m))),
       refl,
       omega arith,
-    )
-
-add-release-name : tie.Need-add-release-name Inv-loop μ-loop
-add-release-name c =
-    let s = c .before .before .before .before .before .before .before .before .before .before in
-    omega (
-      arith,
-      chain-few (s .args .table .now) (s .pre .0 .accepted) (s .args .c) (s .pre .1) .0,
-      few (c .before .before .before .before),
-      c .before .loop-test .taken,
+      right-first w (a .index .now) (start m .pre .0),
     )
 
 slice-aggregate-word32 : tie.Need-slice-aggregate-word32 Inv-loop μ-loop
-slice-aggregate-word32 c = sym (c .before .before .before .before .before .held-names .kept .1 .1 .1 .0)
+slice-aggregate-word32 c = sym (c .before .before .before .before .held-names .kept .1 .1 .1 .0)
 
 word32-requires : tie.Need-word32-requires Inv-loop μ-loop
 word32-requires c κs = search needs
 
+row-on-requires : tie.Need-row-on-requires Inv-loop μ-loop
+row-on-requires c κs = search needs
+
+add-release-name : tie.Need-add-release-name Inv-loop μ-loop
+add-release-name c =
+    let c4 = c .before .before .before .before in
+    let m = c4 .before .before .before in
+    let s = start m in
+    omega (arith, chain-few (s .args .table .now) (s .pre .0 .accepted) (s .args .c) (s .pre .1) .0, few m, c4 .loop-test .taken)
+
 release-name-requires : tie.Need-release-name-requires Inv-loop μ-loop
 release-name-requires c κs =
-    let a = c .before .before .before .before .before .before .before .before .before .before .before .before .args in
-    let p = c .before .before .before .before .before .before .before .before .before .before .before .before .pre in
+    let c2 = c .before .before in
+    let c4 = c2 .before .before in
+    let l = c4 .before .loop in
+    let m = c4 .before .before .before in
+    let a = start m .args in
+    let p = start m .pre in
     let w = a .table .now in
-    let l = c .before .before .before .before .loop in
-    let m = c .before .before .before .before .before .before in
+    let x = a .index .now in
     let n = m .held-names .result in
-    let z = c .word32 in
-    let u = c .before .before .before .loop-test .taken in
-    let b = held-bounded w (a .index .now) (p .0) (a .c .node) (p .1 .node-inside) (z .result)
+    let z = c2 .word32 in
+    let s = c .before .row-on in
+    let u = c4 .loop-test .taken in
+    let b = held-bounded w x (p .0) (a .c .node) (p .1 .node-inside) (z .result)
     (subst (λ (zs : List ℕ). member (z .result) zs ≡ true) (taken m) (taken-member (names m) n (l .i) u (fit m) (z .result) (z .ensures .is))) in
     let e = releases-more (scheme w) (today w) (a .c .node) (a .c .to) (a .k) (names m) n (l .i) (z .result) u (fit m) (z .ensures .is) in (
       p .0,
@@ -126,6 +133,7 @@ release-name-requires c κs =
       omega (arith, few m, u),
       b .0,
       b .1,
+      on-row w x (p .0) (l .s) (l .inv .3) (s .result) (z .result) (s .ensures) (b .0) (b .1),
       part-inside (ofTable w) _ (state (l .out) (l .q)) _ _ (l .inv .0 ∙ ap (put w (l .out) (l .q)) e) (inside m),
     )
 
@@ -137,17 +145,23 @@ loop-less c = omega arith
 
 loop-again : tie.Need-loop-again Inv-loop μ-loop
 loop-again c =
-    let a = c .before .before .before .before .before .before .before .before .before .before .before .before .before .before .before .args in
+    let c2 = c .before .before in
+    let c4 = c2 .before .before in
+    let c7 = c4 .before .before .before in
+    let l = c7 .before .loop in
+    let m = c7 .before .before .before in
+    let a = start m .args in
     let w = a .table .now in
-    let l = c .before .before .before .before .before .before .before .loop in
-    let m = c .before .before .before .before .before .before .before .before .before in
-    let z = c .before .before .before .word32 in
-    let u = c .before .before .before .before .before .before .loop-test .taken in
+    let z = c4 .before .word32 in
+    let s = c4 .row-on in
+    let u = c7 .loop-test .taken in
+    let r = c2 .release-name .ensures in
     let e = releases-more (scheme w) (today w) (a .c .node) (a .c .to) (a .k) (names m) (m .held-names .result) (l .i) (z .result) u (fit m)
     (z .ensures .is) in (
-      part-more (ofTable w) _ (state (l .out) (l .q)) _ _ (l .inv .0 ∙ ap (put w (l .out) (l .q)) e) _ (c .before .before .release-name .ensures),
-      state-length w (l .out) _ (l .q) _ _ (c .before .before .release-name .ensures) ∙ l .inv .1,
+      part-more (ofTable w) _ (state (l .out) (l .q)) _ _ (l .inv .0 ∙ ap (put w (l .out) (l .q)) e) _ r,
+      state-length w (l .out) _ (l .q) _ _ r ∙ l .inv .1,
       omega (arith, u),
+      counted-on w (a .index .now) (start m .pre .0) (l .s) (l .inv .3) (s .result) (z .result) (s .ensures),
     )
 
 same-length : tie.Need-same-length Inv-loop μ-loop
@@ -174,9 +188,10 @@ release-all-spec =
     slice-aggregate-held-names
     held-names-requires
     loop-holds
-    add-release-name
     slice-aggregate-word32
     word32-requires
+    row-on-requires
+    add-release-name
     release-name-requires
     add-i
     loop-less

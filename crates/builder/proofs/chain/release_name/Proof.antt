@@ -1,7 +1,8 @@
 -- `builder::chain::release_name` meets its contract.
 use mathlib.Core.Path.{sym, _∙_}
+use native.Mathlib.Omega.{arith}
 use borrow.Author.Tests.{not-true, not-false}
-use Rattle.places.proofs.Plans.{privates-are}
+use Rattle.places.proofs.Plans.{privates-are, row-small}
 use Rattle.builder.specs.Inner.Parts.{state}
 use Rattle.builder.proofs.Released.{Listed, releasable, publics-fit, privates-fit, publics-inside, publics-only, privates-inside, privates-too}
 use borrow.Author.Needs.{needs}
@@ -10,26 +11,24 @@ use Rattle.builder.proofs.chain.release_name.Tie as tie
 
 -- the values of the name, as they are read
 listed : (c : tie.After-publics-of)
-    → let a = c .before .before .before .before .before .before .args in
-    Listed (a .table .now) (a .index .now) (a .c) (a .k) (a .z) (c .before .before .reach-of .result) (c .before .row-start .result) (c .publics-of .result)
+    → let a = c .before .before .before .before .before .args in
+    Listed (a .table .now) (a .index .now) (a .c) (a .k) (a .z) (c .before .reach-of .result) (a .row) (c .publics-of .result)
 listed c =
-    let p = c .before .before .before .before .before .before .pre in
+    let s = c .before .before .before .before .before in
+    let p = s .pre in
     record {
       laid = p .0;
       chained = p .1;
       inside = p .2;
       low = p .3;
       high = p .4;
-      reach-told = c .before .before .reach-of .ensures;
-      row-told = c .before .row-start .ensures .is;
+      reach-told = c .before .reach-of .ensures;
+      row-told = p .5;
       count-told = c .publics-of .ensures .0;
     }
 
 reach-of-requires : tie.Need-reach-of-requires
 reach-of-requires c κs = search needs
-
-row-start-requires : tie.Need-row-start-requires
-row-start-requires c κs = search needs
 
 publics-of-requires : tie.Need-publics-of-requires
 publics-of-requires c κs = search needs
@@ -37,12 +36,12 @@ publics-of-requires c κs = search needs
 release-publics-requires : tie.Need-release-publics-requires
 release-publics-requires c κs =
     let c1 = c .before in
-    let a = c1 .before .before .before .before .before .before .args in
-    let p = c1 .before .before .before .before .before .before .pre in
+    let a = c1 .before .before .before .before .before .args in
+    let p = c1 .before .before .before .before .before .pre in
     let q = listed c1 in (
       releasable q,
       publics-fit q,
-      publics-inside q (state (a .out .now) (a .h)) (p .5),
+      publics-inside q (state (a .out .now) (a .h)) (p .6),
     )
 
 has-privates-requires : tie.Need-has-privates-requires
@@ -54,16 +53,27 @@ same-length c = search needs
 returns : tie.Need-returns
 returns c =
     let c6 = c .before .before .before .before .before .before in
-    let a = c6 .before .before .before .before .before .before .args in
+    let a = c6 .before .before .before .before .before .args in
     let q = listed c6 in
     publics-only q (state (a .out .now) (a .h)) _ (c .before .before .before .before .release-publics .ensures)
     (sym (c .before .has-privates .ensures) ∙ not-true _ (c .if1 .taken))
 
 add-first : tie.Need-add-first
-add-first c = search needs
+add-first c =
+    let c6 = c .before .before .before .before .before .before in
+    let s = c6 .before .before .before .before .before in
+    omega (
+      arith,
+      s .pre .5,
+      row-small (s .args .table .now) (s .pre .0 .accepted) (s .args .z) (omega (arith, s .pre .4)),
+      c6 .publics-of .ensures .1,
+    )
 
 given-back-requires : tie.Need-given-back-requires
-given-back-requires c κs = search needs
+given-back-requires c κs =
+    let c6 = c .before .before .before .before .before .before in
+    let p = c6 .before .before .before .before .before .pre in
+    (p .0, p .3, p .4, c6 .publics-of .ensures .1, p .5)
 
 privates-requires : tie.Need-privates-requires
 privates-requires c κs = search needs
@@ -71,8 +81,8 @@ privates-requires c κs = search needs
 release-privates-requires : tie.Need-release-privates-requires
 release-privates-requires c κs =
     let c9 = c .before .before .before .before .before .before .before .before .before in
-    let a = c9 .before .before .before .before .before .before .args in
-    let p = c9 .before .before .before .before .before .before .pre in
+    let a = c9 .before .before .before .before .before .args in
+    let p = c9 .before .before .before .before .before .pre in
     let q = listed c9 in
     let g = c .before .before .given-back in
     let e = c .privates .ensures .is ∙ privates-are (a .table .now) (a .index .now) (p .0) in
@@ -82,7 +92,7 @@ release-privates-requires c κs =
       f .1,
       privates-inside q (state (a .out .now) (a .h)) _ (c .before .before .before .before .before .before .before .release-publics .ensures)
           (sym (c .before .before .before .before .has-privates .ensures) ∙ not-false _ (c .before .before .before .if1 .left)) (g .result) (g .ensures)
-          (c .privates .result) e (p .5),
+          (c .privates .result) e (p .6),
     )
 
 same-length-2 : tie.Need-same-length-2
@@ -93,7 +103,7 @@ returns-2 c =
     let c6 = c .before .before .before .before .before .before in
     let c10 = c6 .before .before .before .before in
     let c12 = c10 .before .before in
-    let s = c12 .before .before .before .before .before .before in
+    let s = c12 .before .before .before .before .before in
     let a = s .args in
     let g = c .before .before .before .before .before .given-back in
     let n = c .before .before .before .privates in
@@ -106,7 +116,6 @@ release-name-spec =
     tie.close
     (tie.spec
     reach-of-requires
-    row-start-requires
     publics-of-requires
     release-publics-requires
     has-privates-requires

@@ -22,7 +22,8 @@ returns c =
 differs-requires : tie.Need-differs-requires
 differs-requires c κs =
     let s = c .before .before .before .before in
-    (s .pre .0, s .pre .1 (omega (arith, c .if1 .left, c .before .word16 .ensures .is)))
+    let d = s .pre .1 (omega (arith, c .if1 .left, c .before .word16 .ensures .is)) in
+    (s .pre .0, d, s .pre .2 (d .low) (d .high))
 
 returns-2 : tie.Need-returns-2
 returns-2 c =

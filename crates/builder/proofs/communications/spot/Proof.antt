@@ -1,6 +1,8 @@
 -- `builder::communications::spot` meets its contract: a public name has no place.
 use mathlib.Core.Path.{sym, _∙_}
+use Prim.Native.Nat.{_≤_}
 use native.Mathlib.Omega.{arith}
+use Rattle.scheme.specs.Words.{publics}
 use Rattle.places.specs.Places.{equals}
 use Rattle.builder.proofs.Pairs.{spot-none, spot-there, public-none, reads-holds, holds-exists}
 use borrow.Author.Needs.{needs}
@@ -20,7 +22,11 @@ returns c =
     sym (spot-none w (equals (a .name) (a .v)) (public-none w (a .name) (a .v) (omega (arith, c .if1 .taken, c .before .word16 .ensures .is))))
 
 equals-requires : tie.Need-equals-requires
-equals-requires c κs = search needs
+equals-requires c κs =
+    let s = c .before .before .before .before in
+    let a = s .args in
+    let low : publics (a .table .now) ≤ a .name = omega (arith, c .if1 .left, c .before .word16 .ensures .is) in
+    (s .pre .0, reads-holds (a .table .now) (a .name) (a .v) (s .pre .1) low, s .pre .2 low (s .pre .1 .high))
 
 returns-2 : tie.Need-returns-2
 returns-2 c =

@@ -1,5 +1,7 @@
 -- `builder::insertion::insert_equals` meets its contract.
+use Prim.Native.Nat.{_≤_}
 use native.Mathlib.Omega.{arith}
+use Rattle.scheme.specs.Words.{publics}
 use Rattle.places.specs.Places.{equals}
 use Rattle.builder.proofs.Chains.{has-value}
 use Rattle.builder.proofs.Copying.{read-holds, no-value}
@@ -21,7 +23,8 @@ equals-requires : tie.Need-equals-requires
 equals-requires c κs =
     let s = c .before .before .before .before .before .before in
     let a = s .args in
-    (s .pre .0, read-holds (a .table .now) (a .name) (a .v) (omega (arith, c .before .before .word16 .ensures .is, c .before .if1 .left)) (s .pre .1))
+    let low : publics (a .table .now) ≤ a .name = omega (arith, c .before .before .word16 .ensures .is, c .before .if1 .left) in
+    (s .pre .0, read-holds (a .table .now) (a .name) (a .v) low (s .pre .1), s .pre .3 low (s .pre .1 .high))
 
 insert-requires : tie.Need-insert-requires
 insert-requires c κs = search needs

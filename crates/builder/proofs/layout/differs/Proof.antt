@@ -8,7 +8,7 @@ use Rattle.scheme.specs.Words.{publics}
 use Rattle.places.specs.Sets.{bitAt}
 use Rattle.places.specs.declared.reach.Reach.{Reach}
 use Rattle.places.proofs.Controls.{few-publics, few-privates}
-use Rattle.places.proofs.Plans.{row-is, row-few, reach-is, few-counted, privates-are}
+use Rattle.places.proofs.Plans.{row-small, reach-is, few-counted, privates-are}
 use Rattle.places.proofs.Names.{differs-of}
 use borrow.Author.Needs.{needs}
 use Rattle.builder.proofs.layout.differs.Statement.{statement}
@@ -17,16 +17,13 @@ use Rattle.builder.proofs.layout.differs.Tie as tie
 reach-of-requires : tie.Need-reach-of-requires
 reach-of-requires c κs = search needs
 
-row-start-requires : tie.Need-row-start-requires
-row-start-requires c κs = search needs
-
 publics-of-requires : tie.Need-publics-of-requires
 publics-of-requires c κs = search needs
 
 add-first : tie.Need-add-first
 add-first c =
-    let c1 = c .before in
-    omega (arith, c1 .row-start .ensures .small, c .publics-of .ensures .1)
+    let s = c .before .before .before .before in
+    omega (arith, s .pre .2, row-small (s .args .table .now) (s .pre .0 .accepted) (s .args .name) (omega (arith, s .pre .1 .high)), c .publics-of .ensures .1)
 
 privates-requires : tie.Need-privates-requires
 privates-requires c κs = search needs
@@ -34,15 +31,14 @@ privates-requires c κs = search needs
 add-first-2 : tie.Need-add-first-2
 add-first-2 c =
     let c1 = c .before in
-    let c2 = c1 .before in
-    let c6 = c2 .before .before .before .before in
+    let s = c1 .before .before .before .before in
     omega (
       arith,
-      c2 .row-start .ensures .small,
+      s .pre .2,
+      row-small (s .args .table .now) (s .pre .0 .accepted) (s .args .name) (omega (arith, s .pre .1 .high)),
       c1 .publics-of .ensures .1,
       c .privates .ensures .is,
-      few-counted (c6 .args .table .now)
-          (c6 .args .index .now) (c6 .pre .0),
+      few-counted (s .args .table .now) (s .args .index .now) (s .pre .0),
     )
 
 word16-requires : tie.Need-word16-requires
@@ -50,17 +46,16 @@ word16-requires c κs = search needs
 
 sub-result : tie.Need-sub-result
 sub-result c =
-    let c7 = c .before .before .before .before .before .before .before in
-    omega (arith, c7 .pre .1 .private, c .word16 .ensures .is)
+    let s = c .before .before .before .before .before .before in
+    omega (arith, s .pre .1 .private, c .word16 .ensures .is)
 
 add-result : tie.Need-add-result
 add-result c =
     let c1 = c .before in
     let c2 = c1 .before in
-    let c3 = c2 .before in
-    let c7 = c3 .before .before .before .before in
-    let a = c7 .args in
-    let p = c7 .pre in
+    let s = c2 .before .before .before .before in
+    let a = s .args in
+    let p = s .pre in
     let w = a .table .now in
     let x = a .index .now in
     omega (
@@ -68,7 +63,8 @@ add-result c =
       p .1 .value,
       few-publics w (p .0 .accepted),
       few-privates w (p .0 .accepted),
-      c3 .row-start .ensures .small,
+      p .2,
+      row-small w (p .0 .accepted) (a .name) (omega (arith, p .1 .high)),
       c2 .publics-of .ensures .1,
       c1 .privates .ensures .is,
       few-counted w x (p .0),
@@ -78,10 +74,9 @@ cast-result : tie.Need-cast-result
 cast-result c =
     let c1 = c .before in
     let c2 = c1 .before in
-    let c3 = c2 .before in
-    let c7 = c3 .before .before .before .before in
-    let a = c7 .args in
-    let p = c7 .pre in
+    let s = c2 .before .before .before .before in
+    let a = s .args in
+    let p = s .pre in
     let w = a .table .now in
     let x = a .index .now in
     omega (
@@ -89,8 +84,8 @@ cast-result c =
       p .1 .value,
       few-publics w (p .0 .accepted),
       few-privates w (p .0 .accepted),
-      row-few w x (p .0) (a .name) (p .1 .low) (p .1 .high),
-      c3 .row-start .ensures .is,
+      p .2,
+      row-small w (p .0 .accepted) (a .name) (omega (arith, p .1 .high)),
       c2 .publics-of .ensures .1,
       c1 .privates .ensures .is,
       few-counted w x (p .0),
@@ -101,19 +96,16 @@ returns c =
     let c1 = c .before in
     let c2 = c1 .before in
     let c3 = c2 .before in
-    let c4 = c3 .before in
-    let c7 = c4 .before .before .before in
-    let a = c7 .args in
-    let p = c7 .pre in
+    let s = c3 .before .before .before in
+    let a = s .args in
+    let p = s .pre in
     let w = a .table .now in
     let x = a .index .now in
-    let row = c3 .row-start in
     let k = c2 .publics-of in
     let n = c1 .privates in
-    ap (λ (q : ℕ). row .result + k .result + n .result + (a .v - q)) (c .word16 .ensures .is)
-    ∙ differs-of w (p .0 .accepted) (a .name) (a .v) (row .result) (k .result) (n .result)
-    (row .ensures .is ∙ row-is w x (p .0) (a .name) (p .1 .low) (p .1 .high))
-    (k .ensures .0 ∙ ap (λ (z : Reach). length (keep (bitAt (z .publics)) (range (publics w)))) (c4 .reach-of .ensures ∙ reach-is w x (p .0) (a .name)))
+    ap (λ (q : ℕ). a .row + k .result + n .result + (a .v - q)) (c .word16 .ensures .is)
+    ∙ differs-of w (p .0 .accepted) (a .name) (a .v) (a .row) (k .result) (n .result) (p .2)
+    (k .ensures .0 ∙ ap (λ (z : Reach). length (keep (bitAt (z .publics)) (range (publics w)))) (c3 .reach-of .ensures ∙ reach-is w x (p .0) (a .name)))
     (n .ensures .is ∙ privates-are w x (p .0)) (p .1)
 
 pub differs-spec : {M : Type 1} → statement M
@@ -121,7 +113,6 @@ differs-spec =
     tie.close
     (tie.spec
     reach-of-requires
-    row-start-requires
     publics-of-requires
     add-first
     privates-requires

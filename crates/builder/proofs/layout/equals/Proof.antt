@@ -8,14 +8,11 @@ use Rattle.scheme.specs.Words.{publics}
 use Rattle.places.specs.Sets.{bitAt}
 use Rattle.places.specs.declared.reach.Reach.{Reach}
 use Rattle.places.proofs.Controls.{few-publics, few-privates}
-use Rattle.places.proofs.Plans.{row-is, row-few, reach-is}
+use Rattle.places.proofs.Plans.{row-small, reach-is}
 use Rattle.places.proofs.Names.{held-value, equals-of-public, equals-of-private}
 use borrow.Author.Needs.{needs}
 use Rattle.builder.proofs.layout.equals.Statement.{statement}
 use Rattle.builder.proofs.layout.equals.Tie as tie
-
-row-start-requires : tie.Need-row-start-requires
-row-start-requires c κs = search needs
 
 reach-of-requires : tie.Need-reach-of-requires
 reach-of-requires c κs = search needs
@@ -28,33 +25,30 @@ rank-requires c κs = search needs
 
 add-result : tie.Need-add-result
 add-result c =
-    let c4 = c .before .before .before .before in
-    omega (arith, c4 .row-start .ensures .small, c .rank .ensures .1)
+    let s = c .before .before .before .before .before .before in
+    let a = s .args in
+    let p = s .pre in
+    omega (arith, p .2, row-small (a .table .now) (p .0 .accepted) (a .name) (omega (arith, p .1 .high)), c .rank .ensures .1)
 
 cast-result : tie.Need-cast-result
 cast-result c =
-    let c4 = c .before .before .before .before in
-    let c7 = c4 .before .before .before in
-    let a = c7 .args in
-    let p = c7 .pre in
-    let w = a .table .now in
-    let x = a .index .now in
-    omega (arith, row-few w x (p .0) (a .name) (p .1 .low) (p .1 .high), c4 .row-start .ensures .is, c .rank .ensures .1)
+    let s = c .before .before .before .before .before .before in
+    let a = s .args in
+    let p = s .pre in
+    omega (arith, p .2, row-small (a .table .now) (p .0 .accepted) (a .name) (omega (arith, p .1 .high)), c .rank .ensures .1)
 
 returns : tie.Need-returns
 returns c =
     let c1 = c .before in
     let c2 = c1 .before in
     let c3 = c2 .before in
-    let c4 = c3 .before in
-    let c7 = c4 .before .before .before in
-    let a = c7 .args in
-    let p = c7 .pre in
+    let s = c3 .before .before .before in
+    let a = s .args in
+    let p = s .pre in
     let w = a .table .now in
     let x = a .index .now in
     let r = c3 .reach-of in
-    equals-of-public w (p .0 .accepted) (a .name) (a .v) (c4 .row-start .result) (c .rank .result)
-    (c4 .row-start .ensures .is ∙ row-is w x (p .0) (a .name) (p .1 .low) (p .1 .high))
+    equals-of-public w (p .0 .accepted) (a .name) (a .v) (a .row) (c .rank .result) (p .2)
     (c .rank .ensures .0 ∙ ap (λ (z : Reach). length (keep (bitAt (z .publics)) (range (a .v)))) (r .ensures ∙ reach-is w x (p .0) (a .name)))
     (omega (arith, c1 .if1 .taken, c2 .word16 .ensures .is))
 
@@ -63,41 +57,40 @@ rank-requires-2 c κs = search needs
 
 add-result-2 : tie.Need-add-result-2
 add-result-2 c =
-    let c4 = c .before .before .before .before in
-    omega (arith, c4 .row-start .ensures .small, c .rank2 .ensures .1)
+    let s = c .before .before .before .before .before .before in
+    let a = s .args in
+    let p = s .pre in
+    omega (arith, p .2, row-small (a .table .now) (p .0 .accepted) (a .name) (omega (arith, p .1 .high)), c .rank2 .ensures .1)
 
 add-result-3 : tie.Need-add-result-3
 add-result-3 c =
-    let c4 = c .before .before .before .before in
-    let c7 = c4 .before .before .before in
-    let a = c7 .args in
-    let p = c7 .pre in
+    let s = c .before .before .before .before .before .before in
+    let a = s .args in
+    let p = s .pre in
     let w = a .table .now in
-    let x = a .index .now in
     omega (
       arith,
       held-value w (p .0 .accepted) (a .name) (a .v) (p .1),
       few-publics w (p .0 .accepted),
       few-privates w (p .0 .accepted),
-      c4 .row-start .ensures .small,
+      p .2,
+      row-small w (p .0 .accepted) (a .name) (omega (arith, p .1 .high)),
       c .rank2 .ensures .1,
     )
 
 cast-result-2 : tie.Need-cast-result-2
 cast-result-2 c =
-    let c4 = c .before .before .before .before in
-    let c7 = c4 .before .before .before in
-    let a = c7 .args in
-    let p = c7 .pre in
+    let s = c .before .before .before .before .before .before in
+    let a = s .args in
+    let p = s .pre in
     let w = a .table .now in
-    let x = a .index .now in
     omega (
       arith,
       held-value w (p .0 .accepted) (a .name) (a .v) (p .1),
       few-publics w (p .0 .accepted),
       few-privates w (p .0 .accepted),
-      row-few w x (p .0) (a .name) (p .1 .low) (p .1 .high),
-      c4 .row-start .ensures .is,
+      p .2,
+      row-small w (p .0 .accepted) (a .name) (omega (arith, p .1 .high)),
       c .rank2 .ensures .1,
     )
 
@@ -106,19 +99,18 @@ returns-2 c =
     let c1 = c .before in
     let c2 = c1 .before in
     let c3 = c2 .before in
-    let c4 = c3 .before in
-    let c7 = c4 .before .before .before in
-    let a = c7 .args in
-    let p = c7 .pre in
+    let s = c3 .before .before .before in
+    let a = s .args in
+    let p = s .pre in
     let w = a .table .now in
     let x = a .index .now in
     let r = c3 .reach-of in
     let q = c2 .word16 .ensures .is in
     let k = c .rank2 in
-    let row = c4 .row-start .result in
+    let row = a .row in
     ap (λ (q : ℕ). row + k .result + (a .v - q)) q
     ∙ equals-of-private w (p .0 .accepted) (a .name) (a .v) row (k .result)
-    (c4 .row-start .ensures .is ∙ row-is w x (p .0) (a .name) (p .1 .low) (p .1 .high))
+    (p .2)
     (k .ensures .0 ∙ ap (λ (n : ℕ). length (keep (bitAt (r .result .publics)) (range n))) q
     ∙ ap (λ (z : Reach). length (keep (bitAt (z .publics)) (range (publics w)))) (r .ensures ∙ reach-is w x (p .0) (a .name)))
     (omega (arith, c1 .if1 .left, q)) (p .1)
@@ -127,7 +119,6 @@ pub equals-spec : {M : Type 1} → statement M
 equals-spec =
     tie.close
     (tie.spec
-    row-start-requires
     reach-of-requires
     word16-requires
     rank-requires

@@ -7,11 +7,12 @@ use lib.ListN.{length}
 use Rattle.scheme.specs.Words.{publics, names}
 use Rattle.scheme.specs.Scheme.{scheme}
 use Rattle.places.specs.Inner.Arcs.{numbersOf}
-use Rattle.places.specs.Inner.Plan.{today, Differs}
+use Rattle.places.specs.Inner.Plan.{today, rowOf, Differs}
 use Rattle.builder.specs.Inner.Parts.{Filled}
-use Rattle.places.proofs.Controls.{few-bounds}
+use Rattle.places.proofs.Controls.{few-publics, few-bounds}
 use Rattle.places.proofs.Names.{read-tells}
-use Rattle.places.proofs.Plans.{laid-reached}
+use Rattle.places.proofs.Plans.{laid-reached, row-none, row-small}
+use Rattle.places.proofs.Starts.{row-goes-on}
 use Rattle.builder.proofs.Filling.{fill-same, fill-rising}
 use Rattle.builder.proofs.Making.{differsBelow, below-length, below-all, below-start, below-with, below-without, read-free, read-private}
 use borrow.Author.Needs.{needs}
@@ -22,11 +23,11 @@ use Rattle.builder.proofs.layout.differs.Reads as differs-reads
 use Rattle.places.proofs.layout.is_read.Reads as is-read-reads
 
 abbrev Inv-loop : tie.InvT-loop
-Inv-loop table index list₀ v publics₁ end count₀ x₀ list count x =
-    Filled table list count (differsBelow table v x) × (length list ≡ length list₀) × (publics table ≤ x) × (x ≤ end)
+Inv-loop table index list₀ v publics₁ end count₀ row₀ x₀ list count row x =
+    Filled table list count (differsBelow table v x) × (length list ≡ length list₀) × (publics table ≤ x) × (x ≤ end) × (row ≡ rowOf table x)
 
 abbrev μ-loop : tie.MeasureT-loop
-μ-loop table index list₀ v publics₁ end count₀ x₀ list count x = end - x
+μ-loop table index list₀ v publics₁ end count₀ row₀ x₀ list count row x = end - x
 
 -- [x≠v] of one name
 differs-here : (c : tie.Then1 Inv-loop μ-loop)
@@ -87,14 +88,23 @@ add-end c = omega (arith, c .before .word16 .ensures .small, c .word162 .ensures
 loop-holds : tie.Need-loop-holds Inv-loop μ-loop
 loop-holds c =
     let a = c .before .before .before .before .before .args in
-    let e = c .before .word16 .ensures .is in
-    (below-start (a .table .now) (a .v) (a .list .now) (c .before .word16 .result) e, refl, omega (arith, e), omega arith)
+    let e = c .before .word16 .ensures .is in (
+      below-start (a .table .now) (a .v) (a .list .now) (c .before .word16 .result) e,
+      refl,
+      omega (arith, e),
+      omega arith,
+      sym (row-none (a .table .now) (c .before .word16 .result) (omega (arith, e))),
+    )
 
 is-read-requires : tie.Need-is-read-requires Inv-loop μ-loop
 is-read-requires c κs = search needs
 
 differs-requires : tie.Need-differs-requires Inv-loop μ-loop
-differs-requires c κs = (c .before .before .before .before .before .before .before .before .before .before .pre .0, differs-here (c .before))
+differs-requires c κs = (
+  c .before .before .before .before .before .before .before .before .before .before .pre .0,
+  differs-here (c .before),
+  c .before .before .before .before .loop .inv .4,
+)
 
 insert-requires : tie.Need-insert-requires Inv-loop μ-loop
 insert-requires c κs =
@@ -114,20 +124,60 @@ insert-requires c κs =
       l .inv .2,
     )) (l .inv .0)
 
+-- one name on
+below : (c : tie.Joined1 Inv-loop μ-loop) → let s = c .before .before .before .before .before .before .before .before .before in
+    c .before .before .before .loop .x < names (s .args .table .now)
+below c =
+    omega (
+      arith,
+      c .before .before .loop-test .taken,
+      c .before .before .before .before .before .word16 .ensures .is,
+      c .before .before .before .before .word162 .ensures .is,
+    )
+
+add-row-places : tie.Need-add-row-places Inv-loop μ-loop
+add-row-places c =
+    let s = c .before .before .before .before .before .before .before .before .before in
+    omega (arith, below c, few-bounds (s .args .table .now) (s .pre .0 .accepted), few-publics (s .args .table .now) (s .pre .0 .accepted))
+
+row-places-requires : tie.Need-row-places-requires Inv-loop μ-loop
+row-places-requires c κs = search needs
+
+on : (c : tie.After-row-places Inv-loop μ-loop) → let s = c .before .before .before .before .before .before .before .before .before .before in
+    let l = c .before .before .before .before .loop in
+    l .row + c .row-places .result ≡ rowOf (s .args .table .now) (l .x + 1)
+on c =
+    let s = c .before .before .before .before .before .before .before .before .before .before in
+    let l = c .before .before .before .before .loop in
+    omega (
+      arith,
+      l .inv .4,
+      c .row-places .ensures,
+      row-goes-on (s .args .table .now) (s .args .index .now) (s .pre .0) (l .x) (l .inv .2) (below (c .before)),
+    )
+
+add-row : tie.Need-add-row Inv-loop μ-loop
+add-row c =
+    let s = c .before .before .before .before .before .before .before .before .before .before in
+    let l = c .before .before .before .before .loop in
+    omega (arith, on c, row-small (s .args .table .now) (s .pre .0 .accepted) (l .x + 1) (omega (arith, below (c .before))))
+
 add-x : tie.Need-add-x Inv-loop μ-loop
-add-x c = omega (
-  arith,
-  c .before .before .loop-test .taken,
-  c .before .before .before .before .before .word16 .ensures .small,
-  c .before .before .before
-      .before .word162 .ensures .small,
-)
+add-x c =
+    let s = c .before .before .before .before .before .before .before .before .before .before in
+    omega (arith, below (c .before), few-bounds (s .args .table .now) (s .pre .0 .accepted), few-publics (s .args .table .now) (s .pre .0 .accepted))
 
 loop-less : tie.Need-loop-less Inv-loop μ-loop
-loop-less c = omega (arith, c .before .before .loop-test .taken)
+loop-less c = omega (arith, c .before .before .before .loop-test .taken)
 
 loop-again : tie.Need-loop-again Inv-loop μ-loop
-loop-again c = (turn c .0, turn c .1, omega (arith, c .before .before .before .loop .inv .2), omega (arith, c .before .before .loop-test .taken))
+loop-again c = (
+  turn (c .before) .0,
+  turn (c .before) .1,
+  omega (arith, c .before .before .before .before .loop .inv .2),
+  omega (arith, c .before .before .before .loop-test .taken),
+  on c,
+)
 
 same-length : tie.Need-same-length Inv-loop μ-loop
 same-length c = c .before .loop .inv .1
@@ -161,6 +211,9 @@ differences-spec =
     is-read-requires
     differs-requires
     insert-requires
+    add-row-places
+    row-places-requires
+    add-row
     add-x
     loop-less
     loop-again

@@ -137,6 +137,7 @@ insert-equals-requires c κs =
       rw (b .before .before .field3 .ensures .is) (record { high = h .high; value = h .value }),
       fill-rising (table s) (s .pre .0 .accepted) _ _ (read s)
           (omega (arith, b .risen .kept .1 .1 .1 .1 .0, all-length (table s) (s .args .v), few-bounds (table s) (s .pre .0 .accepted))) (first b),
+      rw (b .before .before .field3 .ensures .is) (s .pre .10),
     )
 
 slice-aggregate-insert : tie.Need-slice-aggregate-insert

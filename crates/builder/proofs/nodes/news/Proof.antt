@@ -1,5 +1,5 @@
 -- `builder::nodes::news` meets its contract. Loop: the values behind the first k are left. Measure: values left.
-use mathlib.Core.Path.{_≡_, refl, sym, ap, subst, _∙_}
+use mathlib.Core.Path.{_≡_, refl, sym, ap, _∙_}
 use mathlib.Core.List.{List, [], map}
 use Prim.Native.Nat.{ℕ, _+_, _-_, _≤_, _<_}
 use native.Mathlib.Omega.{arith}
@@ -7,36 +7,36 @@ use lib.ListN.{length, drop}
 use Rattle.lists.specs.Lists
 use Rattle.lists.specs.Lists.{word}
 use Rattle.lists.proofs.Ranges.{from-length, from-getD}
-use Rattle.scheme.specs.Words.{publics, nodeSecond}
+use Rattle.scheme.specs.Words.{publics, nodeFirst, nodeSecond}
 use Rattle.places.specs.Inner.Plan.{privatesOf}
-use Rattle.scheme.specs.Scheme.{scheme}
-use Rattle.places.specs.Inner.Arcs.{allDiffer}
-use Rattle.builder.specs.Inner.Parts.{put, state, ofTable, made, Filled}
+use Rattle.builder.specs.Inner.Parts.{put, state, ofTable, made}
 use Rattle.builder.proofs.Chains.{state-length}
 use Rattle.builder.proofs.ValueLoops.{map-done, map-inside, map-more}
 use Rattle.builder.proofs.Making.{made-inside}
 use Rattle.builder.proofs.Writing.{put-none}
 use Rattle.places.specs.Plan.{nodesIn}
+use Rattle.places.specs.Starts.{startIn}
 use Rattle.places.proofs.Plans.{node-is}
+use Rattle.places.proofs.Starts.{row-is}
 use Rattle.builder.proofs.Counted.{Counted, counted}
 use borrow.Author.Needs.{needs}
 use Rattle.builder.proofs.nodes.news.Statement.{statement}
 use Rattle.builder.proofs.nodes.news.Tie as tie
 
 abbrev Inv-loop : tie.InvT-loop
-Inv-loop table index out₀ n publics₁ privates first read m q₀ k₀ out q k =
+Inv-loop table index out₀ n first read publics₁ privates m q₀ k₀ out q k =
     (put table out₀ q₀ (map (made table n) (Lists.from (publics table) (privatesOf table)))
     ≡ put table out q (map (made table n) (drop k (Lists.from (publics table) (privatesOf table)))))
     × (length out ≡ length out₀) × (k ≤ privates)
 
 abbrev μ-loop : tie.MeasureT-loop
-μ-loop table index out₀ n publics₁ privates first read m q₀ k₀ out q k = privates - k
+μ-loop table index out₀ n first read publics₁ privates m q₀ k₀ out q k = privates - k
 
 -- the counts, as they are read
-told : (c : tie.After-privates Inv-loop μ-loop) → Counted (c .before .before .before .before .before .args .table .now) (c .before .word16 .result)
+told : (c : tie.After-privates Inv-loop μ-loop) → Counted (c .before .before .before .before .before .before .args .table .now) (c .before .word16 .result)
     (c .privates .result)
 told c =
-    let s = c .before .before .before .before .before in
+    let s = c .before .before .before .before .before .before in
     counted (s .args .table .now) (s .args .index .now) _ _ (s .pre .0) (c .before .word16 .ensures .is) (c .privates .ensures .is)
 
 no-values : (a : ℕ) → Lists.from a 0 ≡ []
@@ -51,27 +51,17 @@ privates-requires c κs = search needs
 
 returns : tie.Need-returns Inv-loop μ-loop
 returns c =
-    let a = c .before .before .before .before .before .before .args in
+    let a = c .before .before .before .before .before .before .before .args in
     let w = a .table .now in
     let z : privatesOf w ≡ 0 = omega (arith, told (c .before) .privates-are, c .if1 .taken) in
     sym (ap (λ (k : ℕ). put w (a .out .now) (a .h) (map (made w (a .n)) (Lists.from (publics w) k))) z
     ∙ ap (λ (l : List ℕ). put w (a .out .now) (a .h) (map (made w (a .n)) l)) (no-values (publics w)) ∙ put-none (ofTable w) (state (a .out .now) (a .h)))
 
-slice-aggregate-differences : tie.Need-slice-aggregate-differences Inv-loop μ-loop
-slice-aggregate-differences c = search needs
-
-differences-requires : tie.Need-differences-requires Inv-loop μ-loop
-differences-requires c κs =
-    let c2 = c .before .before in
-    let s = c2 .before .before .before .before .before in
-    let r = told c2 in
-    (s .pre .0, omega (arith, r .publics-are), omega (arith, r .publics-are, r .privates-are, c .before .if1 .left), omega arith)
-
 node-start-requires : tie.Need-node-start-requires Inv-loop μ-loop
 node-start-requires c κs = search needs
 
-cast-t17 : tie.Need-cast-t17 Inv-loop μ-loop
-cast-t17 c = omega (arith, c .node-start .ensures .small)
+cast-t15 : tie.Need-cast-t15 Inv-loop μ-loop
+cast-t15 c = omega (arith, c .node-start .ensures .small)
 
 field3-requires : tie.Need-field3-requires Inv-loop μ-loop
 field3-requires c κs = search needs
@@ -79,28 +69,31 @@ field3-requires c κs = search needs
 node-start-requires-2 : tie.Need-node-start-requires-2 Inv-loop μ-loop
 node-start-requires-2 c κs = search needs
 
-cast-t20 : tie.Need-cast-t20 Inv-loop μ-loop
-cast-t20 c = omega (arith, c .node-start2 .ensures .small)
+cast-t18 : tie.Need-cast-t18 Inv-loop μ-loop
+cast-t18 c = omega (arith, c .node-start2 .ensures .small)
+
+field3-requires-2 : tie.Need-field3-requires-2 Inv-loop μ-loop
+field3-requires-2 c κs = search needs
+
+row-start-requires : tie.Need-row-start-requires Inv-loop μ-loop
+row-start-requires c κs = search needs
 
 loop-holds : tie.Need-loop-holds Inv-loop μ-loop
 loop-holds c = (refl, refl, omega arith)
 
 add-make : tie.Need-add-make Inv-loop μ-loop
 add-make c =
-    let r = told (c .before .before .before .before .before .before .before .before .before .before) in
+    let r = told (c .before .before .before .before .before .before .before .before .before) in
     omega (arith, c .before .loop-test .taken, r .publics-are, r .privates-are, r .few-publics, r .few-privates)
-
-slice-aggregate-make : tie.Need-slice-aggregate-make Inv-loop μ-loop
-slice-aggregate-make c = search needs
 
 make-requires : tie.Need-make-requires Inv-loop μ-loop
 make-requires c κs =
-    let c2 = c .before .before in
+    let c2 = c .before in
     let c3 = c2 .before in
     let c8 = c3 .before .before .before .before .before in
-    let c11 = c8 .before .before .before in
+    let c11 = c8 .before .before in
     let c12 = c11 .before in
-    let s = c11 .before .before .before .before .before in
+    let s = c11 .before .before .before .before .before .before in
     let a = s .args in
     let p = s .pre in
     let r = told c11 in
@@ -113,34 +106,34 @@ make-requires c κs =
       p .0,
       p .1,
       p .2,
-      c3 .before .before .before .node-start .ensures .is ∙ node-is w x (p .0) (a .n) (omega (arith, p .1)),
-      c3 .before .node-start2 .ensures .is ∙ ap (word (nodesIn x)) (c3 .before .before .field3 .ensures .is)
+      c8 .node-start .ensures .is ∙ node-is w x (p .0) (a .n) (omega (arith, p .1)),
+      c3 .before .before .before .node-start2 .ensures .is ∙ ap (word (nodesIn x)) (c3 .before .before .before .before .field3 .ensures .is)
           ∙ node-is w x (p .0) (nodeSecond w (a .n)) (omega (arith, made-inside w (r .accepted) (a .n) (p .1) (p .2))),
       omega (arith, r .publics-are),
       omega (arith, r .publics-are, u),
       map-inside (ofTable w) _ (state (l .out) (l .q)) vs (l .k) (made w (a .n)) (l .inv .0) (c12 .word16 .result + l .k)
           (omega (arith, from-length (publics w) (privatesOf w), u)) e (p .3),
-      subst (λ (v : ℕ). Filled w (c8 .differences .last .1 .1 .0) (c8 .differences .result) (allDiffer (scheme w) v)) (c12 .word16 .ensures .is)
-          (record { holds = c8 .differences .ensures .0; size = c8 .differences .ensures .1 }),
-      omega (arith, c8 .differences .kept .1 .1 .0),
+      p .4 .filled (omega (arith, u)),
+      p .4 .room,
+      λ lo hi. c3 .before .row-start .ensures ∙ ap (startIn w x) (c3 .before .before .field32 .ensures .is) ∙ row-is w x (p .0) (nodeFirst w (a .n)) lo hi,
     )
 
 add-k : tie.Need-add-k Inv-loop μ-loop
 add-k c =
-    let c5 = c .before .before .before .before .before in
-    let r = told (c5 .before .before .before .before .before .before .before .before .before) in
-    omega (arith, c5 .loop-test .taken, r .privates-are, r .few-privates)
+    let c4 = c .before .before .before .before in
+    let r = told (c4 .before .before .before .before .before .before .before .before) in
+    omega (arith, c4 .loop-test .taken, r .privates-are, r .few-privates)
 
 loop-less : tie.Need-loop-less Inv-loop μ-loop
-loop-less c = omega (arith, c .before .before .before .before .before .loop-test .taken)
+loop-less c = omega (arith, c .before .before .before .before .loop-test .taken)
 
 loop-again : tie.Need-loop-again Inv-loop μ-loop
 loop-again c =
     let c2 = c .before .before in
-    let c5 = c2 .before .before .before in
+    let c5 = c2 .before .before in
     let c6 = c5 .before in
-    let c14 = c6 .before .before .before .before .before .before .before .before in
-    let a = c14 .before .before .before .before .before .args in
+    let c14 = c6 .before .before .before .before .before .before .before in
+    let a = c14 .before .before .before .before .before .before .args in
     let r = told c14 in
     let w = a .table .now in
     let l = c6 .loop in
@@ -160,8 +153,8 @@ same-length c = c .before .loop .inv .1
 returns-2 : tie.Need-returns-2 Inv-loop μ-loop
 returns-2 c =
     let c1 = c .before in
-    let c9 = c1 .before .before .before .before .before .before .before .before in
-    let a = c9 .before .before .before .before .before .args in
+    let c9 = c1 .before .before .before .before .before .before .before in
+    let a = c9 .before .before .before .before .before .before .args in
     let w = a .table .now in
     let l = c1 .loop in
     map-done (ofTable w) _ (state (l .out) (l .q)) (Lists.from (publics w) (privatesOf w)) (l .k) (made w (a .n)) (l .inv .0)
@@ -176,16 +169,15 @@ news-spec =
     word16-requires
     privates-requires
     returns
-    slice-aggregate-differences
-    differences-requires
     node-start-requires
-    cast-t17
+    cast-t15
     field3-requires
     node-start-requires-2
-    cast-t20
+    cast-t18
+    field3-requires-2
+    row-start-requires
     loop-holds
     add-make
-    slice-aggregate-make
     make-requires
     add-k
     loop-less

@@ -27,8 +27,8 @@ field3-requires-3 c κs = search needs
 
 stop-requires : tie.Need-stop-requires
 stop-requires c κs =
-    let a = c .before .before .before .before .before .before .before .before .args in
-    let p = c .before .before .before .before .before .before .before .before .pre in
+    let a = c .before .before .before .before .before .before .before .before .before .args in
+    let p = c .before .before .before .before .before .before .before .before .before .pre in
     let w = a .table .now in
     let e = sym (c .before .before .before .before .field3 .ensures .is) ∙ c .before .if1 .taken in
     (p .0, p .1, same-yes (nodeKind w (a .n)) 0 e, subst Inside (ap (put w (a .out .now) (a .h)) (all-stop w (p .0 .accepted) (a .n) (p .1) e)) (p .2))
@@ -38,8 +38,8 @@ same-length c = search needs
 
 returns : tie.Need-returns
 returns c =
-    let a = c .before .before .before .before .before .before .before .before .before .before .before .args in
-    let p = c .before .before .before .before .before .before .before .before .before .before .before .pre in
+    let a = c .before .before .before .before .before .before .before .before .before .before .before .before .args in
+    let p = c .before .before .before .before .before .before .before .before .before .before .before .before .pre in
     let w = a .table .now in
     let e = sym (c .before .before .before .before .before .before .before .field3 .ensures .is) ∙ c .before .before .before .before .if1 .taken in
     c .before .before .stop .ensures ∙ sym (ap (put w (a .out .now) (a .h)) (all-stop w (p .0 .accepted) (a .n) (p .1) e))
@@ -49,8 +49,8 @@ add-silents c = search needs
 
 silents-requires : tie.Need-silents-requires
 silents-requires c κs =
-    let a = c .before .before .before .before .before .before .before .before .before .args in
-    let p = c .before .before .before .before .before .before .before .before .before .pre in
+    let a = c .before .before .before .before .before .before .before .before .before .before .args in
+    let p = c .before .before .before .before .before .before .before .before .before .before .pre in
     let w = a .table .now in
     let e = sym (c .before .before .before .before .before .field3 .ensures .is) ∙ c .before .if2 .taken in
     let f = c .before .before .before .before .field32 in
@@ -67,8 +67,8 @@ same-length-2 c = search needs
 
 returns-2 : tie.Need-returns-2
 returns-2 c =
-    let a = c .before .before .before .before .before .before .before .before .before .before .before .before .args in
-    let p = c .before .before .before .before .before .before .before .before .before .before .before .before .pre in
+    let a = c .before .before .before .before .before .before .before .before .before .before .before .before .before .args in
+    let p = c .before .before .before .before .before .before .before .before .before .before .before .before .before .pre in
     let w = a .table .now in
     let e = sym (c .before .before .before .before .before .before .before .before .field3 .ensures .is) ∙ c .before .before .before .before .if2 .taken in
     let f = c .before .before .before .before .before .before .before .field32 in
@@ -78,19 +78,19 @@ returns-2 c =
 
 news-requires : tie.Need-news-requires
 news-requires c κs =
-    let a = c .before .before .before .before .before .before .before .before .before .before .args in
-    let p = c .before .before .before .before .before .before .before .before .before .before .pre in
+    let a = c .before .before .before .before .before .before .before .before .before .before .before .args in
+    let p = c .before .before .before .before .before .before .before .before .before .before .before .pre in
     let w = a .table .now in
     let e = sym (c .before .before .before .before .before .before .field3 .ensures .is) ∙ c .before .if3 .taken in
-    (p .0, p .1, same-yes (nodeKind w (a .n)) 2 e, subst Inside (ap (put w (a .out .now) (a .h)) (all-new w (p .0 .accepted) (a .n) (p .1) e)) (p .2))
+    (p .0, p .1, same-yes (nodeKind w (a .n)) 2 e, subst Inside (ap (put w (a .out .now) (a .h)) (all-new w (p .0 .accepted) (a .n) (p .1) e)) (p .2), p .3)
 
 same-length-3 : tie.Need-same-length-3
 same-length-3 c = search needs
 
 returns-3 : tie.Need-returns-3
 returns-3 c =
-    let a = c .before .before .before .before .before .before .before .before .before .before .before .before .before .args in
-    let p = c .before .before .before .before .before .before .before .before .before .before .before .before .before .pre in
+    let a = c .before .before .before .before .before .before .before .before .before .before .before .before .before .before .args in
+    let p = c .before .before .before .before .before .before .before .before .before .before .before .before .before .before .pre in
     let w = a .table .now in
     let e = sym (c .before .before .before .before .before .before .before .before .before .field3 .ensures .is)
     ∙ c .before .before .before .before .if3 .taken in
@@ -98,13 +98,13 @@ returns-3 c =
 
 call-requires : tie.Need-call-requires
 call-requires c κs =
-    let a = c .before .before .before .before .before .before .before .before .before .before .args in
-    let p = c .before .before .before .before .before .before .before .before .before .before .pre in
+    let a = c .before .before .before .before .before .before .before .before .before .before .before .args in
+    let p = c .before .before .before .before .before .before .before .before .before .before .before .pre in
     let w = a .table .now in
-    let e = other-call (c .before .before .before .before .before .before .before .before .before .before .args .table .now)
-    (c .before .before .before .before .before .before .before .before .before .before .pre .0 .accepted)
-    (c .before .before .before .before .before .before .before .before .before .before .args .n)
-    (c .before .before .before .before .before .before .before .before .before .before .pre .1)
+    let e = other-call (c .before .before .before .before .before .before .before .before .before .before .before .args .table .now)
+    (c .before .before .before .before .before .before .before .before .before .before .before .pre .0 .accepted)
+    (c .before .before .before .before .before .before .before .before .before .before .before .args .n)
+    (c .before .before .before .before .before .before .before .before .before .before .before .pre .1)
     (λ e. c .before .before .before .if1 .left (c .before .before .before .before .before .before .field3 .ensures .is ∙ e)) (λ e.
     c .before .before .if2 .left (c .before .before .before .before .before .before .field3 .ensures .is ∙ e))
     (λ e. c .before .if3 .left (c .before .before .before .before .before .before .field3 .ensures .is ∙ e)) in
@@ -115,15 +115,15 @@ same-length-4 c = search needs
 
 returns-4 : tie.Need-returns-4
 returns-4 c =
-    let a = c .before .before .before .before .before .before .before .before .before .before .before .before .before .args in
-    let p = c .before .before .before .before .before .before .before .before .before .before .before .before .before .pre in
+    let a = c .before .before .before .before .before .before .before .before .before .before .before .before .before .before .args in
+    let p = c .before .before .before .before .before .before .before .before .before .before .before .before .before .before .pre in
     let w = a .table .now in
     let e =
     other-call
-    (c .before .before .before .before .before .before .before .before .before .before .before .before .before .args .table .now)
-    (c .before .before .before .before .before .before .before .before .before .before .before .before .before .pre .0 .accepted)
-    (c .before .before .before .before .before .before .before .before .before .before .before .before .before .args .n)
-    (c .before .before .before .before .before .before .before .before .before .before .before .before .before .pre .1)
+    (c .before .before .before .before .before .before .before .before .before .before .before .before .before .before .args .table .now)
+    (c .before .before .before .before .before .before .before .before .before .before .before .before .before .before .pre .0 .accepted)
+    (c .before .before .before .before .before .before .before .before .before .before .before .before .before .before .args .n)
+    (c .before .before .before .before .before .before .before .before .before .before .before .before .before .before .pre .1)
     (λ e.
     c .before .before .before .before .before .before .if1 .left
     (c .before .before .before .before .before .before .before .before .before .field3 .ensures .is ∙ e))

@@ -85,7 +85,7 @@ loop-again c =
     let l = c7 .loop in
     let u = c4 .store32 .ensures in (
       omega (arith, l .inv .0, c .control-count .ensures .0),
-      u ∙ store-more (nodeWord w) (s .args .index .now) 1024 (l .n) (l .index) (l .inv .1) (l .at) (l .inv .0),
+      u ∙ store-more (nodeWord w) (s .args .index .now) 960 (l .n) (l .index) (l .inv .1) (l .at) (l .inv .0),
       omega (arith, c6 .loop-test .taken),
       rw u (simp length-set (l .inv .3)),
     )
@@ -131,10 +131,10 @@ returns c =
     let i = c6 .word16 .ensures .is in
     let few = nodes-few c5 in
     let e : l .n ≡ n = omega (arith, l .inv .2, c4 .loop-test .left) in
-    let q : n + (1281 - (1024 + n)) ≡ 257 = omega (arith, few) in
+    let q : n + (1217 - (960 + n)) ≡ 257 = omega (arith, few) in
     let o = l .inv .0 ∙ node-past w (l .n) (omega (arith, i, e)) in (
       o,
-      rest-same (nodeWord w) (s .args .index .now) 1024 n (1281 - (1024 + n)) (l .at) (λ y u. node-past w y (omega (arith, i)) ∙ sym o)
+      rest-same (nodeWord w) (s .args .index .now) 960 n (1217 - (960 + n)) (l .at) (λ y u. node-past w y (omega (arith, i)) ∙ sym o)
           (omega (arith, few, s .pre .3)) (l .index) _ (rw (← e) (l .inv .1)) (c .before .before .repeat .ensures) ∙ rw q,
     )
 

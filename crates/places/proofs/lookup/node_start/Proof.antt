@@ -20,11 +20,11 @@ returns : tie.Need-returns
 unfolding nodesIn
 returns c =
     let a = c .before .before .before .args in
-    record { is = c .word32 .ensures .is ∙ sym (slice-word (a .index .now) 1024 1281 (a .node) (c .before .if1 .taken)); small = c .word32 .ensures .small }
+    record { is = c .word32 .ensures .is ∙ sym (slice-word (a .index .now) 960 1217 (a .node) (c .before .if1 .taken)); small = c .word32 .ensures .small }
 
 returns-2 : tie.Need-returns-2
 unfolding nodesIn
-returns-2 c = record { is = sym (slice-past (c .before .before .args .index .now) 1024 1281 (c .before .before .args .node) (c .if1 .left)); small = lit< tt }
+returns-2 c = record { is = sym (slice-past (c .before .before .args .index .now) 960 1217 (c .before .before .args .node) (c .if1 .left)); small = lit< tt }
 
 pub node-start-spec : {M : Type 1} → statement M
 node-start-spec = tie.close (tie.spec sub-if1 add-word32 word32-requires returns returns-2)

@@ -11,18 +11,20 @@ use Rattle.scheme.specs.Words.{names}
 use Rattle.scheme.specs.Scheme.{scheme}
 use Rattle.readback.specs.Inner.Standing.{valueRight, valuesRight}
 use Rattle.readback.specs.Inner.Holding.{ValuesBelow}
-use Rattle.readback.proofs.Valuing.{values-start, values-more, is-name, end-few}
+use Rattle.places.specs.Inner.Plan.{rowOf}
+use Rattle.places.proofs.Plans.{row-none}
+use Rattle.readback.proofs.Valuing.{values-start, values-more, is-name, end-few, row-on}
 use borrow.Author.Needs.{needs}
 use Rattle.readback.proofs.names.find_values.Statement.{statement}
 use Rattle.readback.proofs.names.find_values.Tie as tie
 
 abbrev Inv-loop : tie.InvT-loop
-Inv-loop table index marking held values₀ publics end x₀ values x =
+Inv-loop table index marking held values₀ publics end row₀ x₀ values row x =
     (valuesRight (scheme table) marking (word held) ≡ every (valueRight (scheme table) marking (word held)) (from x (end - x))) ×
-    ValuesBelow table marking values x × (length values ≡ length values₀) × (x₀ ≤ x) × (x ≤ end)
+    ValuesBelow table marking values x × (length values ≡ length values₀) × (x₀ ≤ x) × (x ≤ end) × (row ≡ rowOf table x)
 
 abbrev μ-loop : tie.MeasureT-loop
-μ-loop table index marking held values₀ publics end x₀ values x = end - x
+μ-loop table index marking held values₀ publics end row₀ x₀ values row x = end - x
 
 word16-requires : tie.Need-word16-requires Inv-loop μ-loop
 word16-requires c κs = search needs
@@ -50,6 +52,7 @@ loop-holds c =
       refl,
       omega arith,
       omega arith,
+      sym (row-none (s .args .table .now) (at-word16 .word16 .result) (omega (arith, at-word16 .word16 .ensures .is))),
     )
 
 find-value-requires : tie.Need-find-value-requires Inv-loop μ-loop
@@ -62,6 +65,7 @@ find-value-requires c κs =
       is-name (s .args .table .now) (s .args .marking .now) (at-word16 .word16 .result) (at-word162 .word162 .result) (at-word16 .word16 .ensures .is)
           (at-word162 .word162 .ensures .is) (at-loop .loop .x)
           (at-loop .loop .inv .3) (c .before .loop-test .taken),
+      at-loop .loop .inv .5,
     )
 
 same-length : tie.Need-same-length Inv-loop μ-loop
@@ -84,9 +88,41 @@ returns c =
       λ e. absurd (false≢true e),
     )
 
+add-row-places : tie.Need-add-row-places Inv-loop μ-loop
+add-row-places c =
+    let at-word162 = c .before .before .before .before .before .before .before in
+    let at-word16 = at-word162 .before in
+    let s = at-word16 .before .before .before .before .before .before in
+    omega (
+      arith,
+      end-few (s .args .table .now) (s .args .marking .now) (at-word16 .word16 .result) (at-word162 .word162 .result) (at-word16 .word16 .ensures .is)
+          (at-word162 .word162 .ensures .is) (s .pre .0 .accepted),
+    )
+
+row-places-requires : tie.Need-row-places-requires Inv-loop μ-loop
+row-places-requires c κs = search needs
+
+-- one name on
+on : (c : tie.After-row-places Inv-loop μ-loop)
+    → let at-loop = c .before .before .before .before .before .before .before in
+    let w = at-loop .before .before .before .before .before .before .before .before .args .table .now in
+    (at-loop .loop .row + c .row-places .result ≡ rowOf w (at-loop .loop .x + 1)) × (rowOf w (at-loop .loop .x + 1) ≤ 3072)
+on c =
+    let at-loop = c .before .before .before .before .before .before .before in
+    let at-word162 = at-loop .before in
+    let at-word16 = at-word162 .before in
+    let s = at-word16 .before .before .before .before .before .before in
+    let l = at-loop .loop in
+    row-on (s .args .table .now) (s .args .index .now) (s .pre .0) (at-word16 .word16 .result) (at-word162 .word162 .result) (at-word16 .word16 .ensures .is)
+    (at-word162 .word162 .ensures .is) (l .x) (l .row) (c .row-places .result) (l .inv .3) (c .before .before .before .before .before .before .loop-test .taken)
+    (l .inv .5) (c .row-places .ensures)
+
+add-row : tie.Need-add-row Inv-loop μ-loop
+add-row c = omega (arith, on c .0, on c .1)
+
 add-x : tie.Need-add-x Inv-loop μ-loop
 add-x c =
-    let at-word162 = c .before .before .before .before .before .before .before in
+    let at-word162 = c .before .before .before .before .before .before .before .before in
     let at-word16 = at-word162 .before in
     let s = at-word16 .before .before .before .before .before .before in
     omega (
@@ -100,14 +136,15 @@ loop-less c = omega arith
 
 loop-again : tie.Need-loop-again Inv-loop μ-loop
 loop-again c =
-    let at-find-value = c .before .before .before in
+    let b = c .before in
+    let at-find-value = b .before .before .before in
     let at-loop-test = at-find-value .before .before in
     let at-loop = at-loop-test .before in
     let at-word162 = at-loop .before in
     let at-word16 = at-word162 .before in
     let s = at-word16 .before .before .before .before .before .before in
     let l = at-loop .loop in
-    let r = not-false _ (c .if1 .left) in (
+    let r = not-false _ (b .if1 .left) in (
       l .inv .0 ∙ every-more (valueRight (scheme (s .args .table .now)) (s .args .marking .now) (word (s .args .held .now))) (l .x)
           (at-word16 .word16 .result + at-word162 .word162 .result) (at-loop-test .loop-test .taken) (sym (at-find-value .find-value .ensures .0) ∙ r),
       values-more (s .args .table .now) (s .args .marking .now) (l .values) _ (l .x)
@@ -119,9 +156,10 @@ loop-again c =
             end-few (s .args .table .now) (s .args .marking .now) (at-word16 .word16 .result) (at-word162 .word162 .result) (at-word16 .word16 .ensures .is)
                 (at-word162 .word162 .ensures .is) (s .pre .0 .accepted),
           )) (l .inv .1) (at-find-value .find-value .ensures .1 r),
-      c .before .before .values .given ∙ l .inv .2,
+      b .before .before .values .given ∙ l .inv .2,
       omega (arith, l .inv .3),
       omega arith,
+      on c .0,
     )
 
 same-length-2 : tie.Need-same-length-2 Inv-loop μ-loop
@@ -157,6 +195,9 @@ find-values-spec =
     find-value-requires
     same-length
     returns
+    add-row-places
+    row-places-requires
+    add-row
     add-x
     loop-less
     loop-again
