@@ -145,7 +145,7 @@ fn release_privates(
     q
 }
 
-// The releases of one name at place k of a chain: of its public values, then of its private ones. Its row starts at
+// The releases of a name at its place of a chain: of its public values, then of its private ones. Its row starts at
 // `row`.
 fn release_name(
     table: &[u16],
@@ -153,28 +153,27 @@ fn release_name(
     out: &mut [u32],
     h: Heads,
     c: Chain,
-    k: usize,
-    z: usize,
+    x: Held,
     row: usize,
 ) -> Heads
-    requires { ⌜ Laid (now table) (now index) × Chained (now table) c × (k < c .controls)
-        × (publics (now table) ≤ z) × (z < names (now table)) × (row ≡ rowOf (now table) z)
+    requires { ⌜ Laid (now table) (now index) × Chained (now table) c × (x .k < c .controls)
+        × (publics (now table) ≤ x .name) × (x .name < names (now table)) × (row ≡ rowOf (now table) (x .name))
         × Inside (put (now table) (now out) h
-        (map (releasing (scheme (now table)) (today (now table)) (c .node) (c .to) k z) (values (now table) z))) ⌝ }
+        (map (releasing (scheme (now table)) (today (now table)) (c .node) (c .to) (x .k) (x .name))
+        (values (now table) (x .name)))) ⌝ }
     ensures { λ r. ⌜ state (now (out .exit)) r
         ≡ put (now (table .entry)) (now (out .entry)) h
-        (map (releasing (scheme (now (table .entry))) (today (now (table .entry))) (c .node) (c .to) k z)
-        (values (now (table .entry)) z)) ⌝ }
+        (map (releasing (scheme (now (table .entry))) (today (now (table .entry))) (c .node) (c .to) (x .k) (x .name))
+        (values (now (table .entry)) (x .name))) ⌝ }
 {
-    let x = Held { k, name: z };
-    let r = reach_of(index, z);
+    let r = reach_of(index, x.name);
     let count = publics_of(table, r);
     let q = release_publics(out, h, c, x, row, count);
     if !has_privates(r) {
         return q;
     }
     let first = row + count;
-    let back = given_back(table, index, row, z, count);
+    let back = given_back(table, index, row, x.name, count);
     release_privates(out, q, c, x, first, back, privates(index))
 }
 
@@ -204,7 +203,7 @@ pub(crate) fn release_all(
     while i < count {
         let z = word32(&names, i);
         s = row_on(table, index, s, z);
-        q = release_name(table, index, out, q, c, k + i, z, s.row);
+        q = release_name(table, index, out, q, c, Held { k: k + i, name: z }, s.row);
         i += 1;
     }
     q

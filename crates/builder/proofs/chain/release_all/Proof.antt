@@ -104,8 +104,8 @@ word32-requires c κs = search needs
 row-on-requires : tie.Need-row-on-requires Inv-loop μ-loop
 row-on-requires c κs = search needs
 
-add-release-name : tie.Need-add-release-name Inv-loop μ-loop
-add-release-name c =
+add-t21 : tie.Need-add-t21 Inv-loop μ-loop
+add-t21 c =
     let c4 = c .before .before .before .before in
     let m = c4 .before .before .before in
     let s = start m in
@@ -191,7 +191,7 @@ release-all-spec =
     slice-aggregate-word32
     word32-requires
     row-on-requires
-    add-release-name
+    add-t21
     release-name-requires
     add-i
     loop-less

@@ -12,7 +12,7 @@ use Rattle.builder.proofs.chain.release_name.Tie as tie
 -- the values of the name, as they are read
 listed : (c : tie.After-publics-of)
     → let a = c .before .before .before .before .before .args in
-    Listed (a .table .now) (a .index .now) (a .c) (a .k) (a .z) (c .before .reach-of .result) (a .row) (c .publics-of .result)
+    Listed (a .table .now) (a .index .now) (a .c) (a .x .k) (a .x .name) (c .before .reach-of .result) (a .row) (c .publics-of .result)
 listed c =
     let s = c .before .before .before .before .before in
     let p = s .pre in
@@ -65,7 +65,7 @@ add-first c =
     omega (
       arith,
       s .pre .5,
-      row-small (s .args .table .now) (s .pre .0 .accepted) (s .args .z) (omega (arith, s .pre .4)),
+      row-small (s .args .table .now) (s .pre .0 .accepted) (s .args .x .name) (omega (arith, s .pre .4)),
       c6 .publics-of .ensures .1,
     )
 
