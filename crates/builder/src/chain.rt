@@ -27,7 +27,7 @@ use scheme::lookup::held_names;
 
 // The chain of a node: the node that it leads to, its first control place, how many it has, and the place that the last
 // one leads to.
-#[derive(Drop)]
+#[derive(Clone, Copy)]
 pub struct Chain {
     pub node: usize,
     pub to: usize,
@@ -37,14 +37,14 @@ pub struct Chain {
 }
 
 // The name that is released at place k of a chain.
-#[derive(Drop)]
+#[derive(Clone, Copy)]
 pub struct Held {
     pub k: usize,
     pub name: usize,
 }
 
 // The formal that takes the value of an argument at place k of a chain.
-#[derive(Drop)]
+#[derive(Clone, Copy)]
 pub struct Passed {
     pub k: usize,
     pub formal: usize,
@@ -198,7 +198,7 @@ pub(crate) fn release_all(
 }
 
 // A value that is copied, and where the rows of the formal and of its argument start.
-#[derive(Drop)]
+#[derive(Clone, Copy)]
 pub struct Copied {
     pub value: usize,
     pub formal: usize,

@@ -27,7 +27,7 @@ use scheme::fields::field4;
 
 // What the communications of a send and a receive share: the branches, the names that they use, the places before and
 // after them, and where the rows of the names of the send and of those of the receive start.
-#[derive(Drop)]
+#[derive(Clone, Copy)]
 pub struct Pair {
     pub send: usize,
     pub receive: usize,
@@ -44,14 +44,14 @@ pub struct Pair {
 }
 
 // Where the rows of a branch's channel and of its name start.
-#[derive(Drop)]
+#[derive(Clone, Copy)]
 pub struct Starts {
     pub channel: u32,
     pub name: u32,
 }
 
 // A send: what is told of it, where the rows of its names start, and the receives that it can meet.
-#[derive(Drop)]
+#[derive(Clone, Copy)]
 pub struct Sender {
     pub side: Side,
     pub own: Starts,
@@ -59,14 +59,14 @@ pub struct Sender {
 }
 
 // Where the rows of the channel and of the name of each receive start, in order.
-#[derive(Drop)]
+#[derive(Clone, Copy)]
 pub struct Rows {
     pub at: [u32; 64],
 }
 
 // The numbers of the places of names that a communication reads, takes or gives, 2³² − 1 for a place that the net does
 // not have: both channels, the sent name, and of the bound one the value given and, where private, the one taken.
-#[derive(Drop)]
+#[derive(Clone, Copy)]
 pub struct Spots {
     pub channel: u32,
     pub heard: u32,
@@ -76,7 +76,7 @@ pub struct Spots {
 }
 
 // How the values of a run are told: as channel values, as sent values, or as both; the other one stays.
-#[derive(Drop)]
+#[derive(Clone, Copy)]
 pub struct Way {
     pub channels: bool,
     pub sents: bool,
@@ -85,7 +85,7 @@ pub struct Way {
 
 // How the communications of a send are gone through: whether runs are of channel values, and of sent values, and the
 // sent values; a name sent on itself goes with its channel, and stands as one value.
-#[derive(Drop)]
+#[derive(Clone, Copy)]
 pub struct Course {
     pub channels: bool,
     pub sents: bool,
@@ -93,7 +93,7 @@ pub struct Course {
 }
 
 // How many arcs there are, and the places of names among them.
-#[derive(Drop)]
+#[derive(Clone, Copy)]
 pub struct Sizes {
     pub inputs: usize,
     pub outputs: usize,

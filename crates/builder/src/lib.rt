@@ -1,4 +1,6 @@
 // The net of a table, as an image.
+#![tactic(auto)]
+
 ghost use Rattle.std.specs.Prelude.{◌≡◌, ◌+◌, ◌*◌, ◌<◌};
 ghost use Rattle.lists.specs.Lists.{word};
 ghost use Rattle.places.specs.Plan.{tokens_at, Laid};
@@ -23,7 +25,7 @@ use table::Verdict;
 use write::Heads;
 
 // What `build` answers: the words written, the table's cause, or that the buffer is too short.
-#[derive(Drop)]
+#[derive(Clone, Copy)]
 pub enum Built {
     Words(usize),
     Refused(Verdict),
@@ -31,7 +33,7 @@ pub enum Built {
 }
 
 // What `size` answers: the words that the image has, or the table's cause.
-#[derive(Drop)]
+#[derive(Clone, Copy)]
 pub enum Sized {
     Words(usize),
     Refused(Verdict),

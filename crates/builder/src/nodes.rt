@@ -98,7 +98,7 @@ fn first_reads(table: &[u16], index: &[u32], list: &mut [u32]) -> usize
 
 // The node of a New, its place, the place of the node behind it, how many rows it reads, and where the row of its name
 // starts.
-#[derive(Drop)]
+#[derive(Clone, Copy)]
 pub struct Move {
     pub node: usize,
     pub from: u32,

@@ -7,7 +7,7 @@ ghost use Rattle.builder.specs.Inner.Spans.{values_in, Narrow, Fits, ByReach, Ru
 use places::reach::{Reach, has_privates};
 
 // The public names of a set, then the private values from `low` up to `end`.
-#[derive(Drop)]
+#[derive(Clone, Copy)]
 pub struct Values {
     pub set: u64,
     pub low: usize,
@@ -15,7 +15,7 @@ pub struct Values {
 }
 
 // Values that follow one another: the first, and how many they are.
-#[derive(Drop)]
+#[derive(Clone, Copy)]
 pub struct Span {
     pub low: usize,
     pub count: usize,

@@ -14,14 +14,14 @@ use places::count::Totals;
 use places::lookup::{place_count, token_count};
 
 // Where the next record and the next arc go.
-#[derive(Drop)]
+#[derive(Clone, Copy)]
 pub struct Heads {
     pub place: usize,
     pub arc: usize,
 }
 
 // What a transition does: its kind and the two numbers that belong to it.
-#[derive(Drop)]
+#[derive(Clone, Copy)]
 pub struct Label {
     pub kind: u32,
     pub a: usize,
@@ -29,7 +29,7 @@ pub struct Label {
 }
 
 // The arcs of a transition: the first `inputs` and the first `outputs` words.
-#[derive(Drop)]
+#[derive(Clone, Copy)]
 pub struct Arcs {
     pub ins: [u32; 8],
     pub inputs: usize,
@@ -38,7 +38,7 @@ pub struct Arcs {
 }
 
 // The numbers of arcs that rise from one transition to the next; 2³² − 1 is the number of none.
-#[derive(Drop)]
+#[derive(Clone, Copy)]
 pub struct Risers {
     pub a: u32,
     pub b: u32,

@@ -1,6 +1,8 @@
 // The C interface (include/dekohuna.h): each call of the library under a plain name.
 //
 // A call returns one word, value·256 + code. The code is 0, the number of a cause, or the reason that ended a run.
+#![tactic(auto)]
+
 ghost use Rattle.std.specs.Prelude.{◌≡◌, [], ◌<◌, length};
 ghost use Rattle.table.specs.Causes.{cause};
 ghost use Rattle.builder.specs.Answer.{built_outcome, build_outcome, sized_outcome, size_outcome};

@@ -1,4 +1,6 @@
 // The listing program: reads a table's words on standard input and prints its net.
+#![tactic(auto)]
+
 use libc::{STDIN_FILENO, STDOUT_FILENO};
 
 fn main() {

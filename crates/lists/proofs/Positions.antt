@@ -75,7 +75,7 @@ without-shorter x (y ∷ ys) m = go (ℕ_discrete x y) (member-cases x y ys m) (
   where
     go : Dec (x ≡ y) → (x ≡ y) ⊎ (member x ys ≡ true) → (member x ys ≡ true → suc (length (keep (λ z. not (same x z)) ys)) ≤ length ys)
         → suc (length (keep (λ z. not (same x z)) (y ∷ ys))) ≤ length (y ∷ ys)
-    go (yes p) q f = rw (p, same_self y) (omega (arith, keep-length (λ z. not (same y z)) ys))
+    go (yes p) q f = rw (p, same_self y) (omega (arith, keep-length (λ z. not (same x z)) ys))
     go (no d) (inl p) f = absurd (d p)
     go (no d) (inr q) f = rw (same-no x y d) (omega (arith, f q))
 

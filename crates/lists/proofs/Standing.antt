@@ -21,16 +21,19 @@ module _ {A : Type 0} where
   found-more f = record { element = f.element; stands = Memᴰ.tail f.stands; holds = f.holds }
 
   pub map-in : {B : Type 0} (f : A → B) (y : B) (xs : List A) → Memᴰ y (map f xs) → Found (λ x. y ≡ f x) xs
+  map-in {B = B} f y [] x' = elim x' [ ]
   map-in f y (x ∷ xs) (Memᴰ.head e) = record { element = x; stands = Memᴰ.head refl; holds = e }
   map-in f y (x ∷ xs) (Memᴰ.tail m) = found-more {P = λ x. y ≡ f x} (map-in f y xs m)
 
   pub in_map : {B : Type 0} (f : A → B) (x : A) (xs : List A) → Memᴰ x xs → Memᴰ (f x) (map f xs)
+  in_map {B = B} f x [] x'' = elim x'' [ ]
   in_map f x (y ∷ xs) (Memᴰ.head e) = Memᴰ.head (ap f e)
   in_map f x (y ∷ xs) (Memᴰ.tail m) = Memᴰ.tail (in_map f x xs m)
 
   module _ (q : A → Bool) where
     pub some_in : (x : A) (xs : List A) → Memᴰ x xs → q x ≡ true → some q xs ≡ true
     unfolding some
+    some_in x [] x3 h = elim x3 [ ]
     some_in x (y ∷ xs) (Memᴰ.head e) h = or_left (q y) (some q xs) (rw e at h)
     some_in x (y ∷ xs) (Memᴰ.tail m) h = or_right (q y) (some q xs) (some_in x xs m h)
 
@@ -45,6 +48,7 @@ module _ {A : Type 0} where
 
     pub in-keep : (x : A) (xs : List A) → Memᴰ x xs → q x ≡ true → Memᴰ x (keep q xs)
     unfolding keep
+    in-keep x [] x3 h = elim x3 [ ]
     in-keep x (y ∷ xs) (Memᴰ.head e) h = let k : q y ≡ true = rw e at h in rw k (Memᴰ.head e)
     in-keep x (y ∷ xs) (Memᴰ.tail m) h = go (q y) (in-keep x xs m h)
       where
@@ -54,6 +58,7 @@ module _ {A : Type 0} where
 
     pub keep-in : (x : A) (xs : List A) → Memᴰ x (keep q xs) → Memᴰ x xs × (q x ≡ true)
     unfolding keep
+    keep-in x [] m = elim m [ ]
     keep-in x (y ∷ xs) m = go (q y) refl m (keep-in x xs)
       where
         more : Memᴰ x xs × (q x ≡ true) → Memᴰ x (y ∷ xs) × (q x ≡ true)
@@ -83,6 +88,7 @@ module _ {A : Type 0} where
       go (inr e) ih = found-more {P = λ x. k ≡ f x} (ih e)
 
   pub in-number : (f : A → ℕ) (x : A) (xs : List A) → Memᴰ x xs → member (f x) (map f xs) ≡ true
+  in-number f x [] x'' = elim x'' [ ]
   in-number f x (y ∷ xs) (Memᴰ.head e) = rw e (member-here (f y) (map f xs))
   in-number f x (y ∷ xs) (Memᴰ.tail m) = member-there (f x) (f y) (map f xs) (in-number f x xs m)
 

@@ -1,4 +1,6 @@
 // Reads and writes that are total: 0 past the end, and no write past the end.
+#![tactic(auto)]
+
 ghost use Rattle.std.specs.Prelude.{◌≡◌, set};
 ghost use Rattle.lists.specs.Lists.{Word};
 

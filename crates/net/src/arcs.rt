@@ -7,7 +7,7 @@ ghost use Rattle.net.specs.Firing.{is_enabled, has_contact, put, moved};
 ghost use Rattle.net.specs.Inner.Arcs.{Header, Start, decoded, Listed, Offsets};
 
 // Where the inputs of a transition start, where its outputs start and where they end.
-#[derive(Drop)]
+#[derive(Clone, Copy)]
 pub struct Span {
     pub inputs: usize,
     pub outputs: usize,
@@ -15,7 +15,7 @@ pub struct Span {
 }
 
 // A transition's record, decoded: the same three offsets, or a record or arcs that are wrong.
-#[derive(Drop)]
+#[derive(Clone, Copy)]
 pub enum Record {
     Arcs(usize, usize, usize),
     Wrong,

@@ -1,5 +1,7 @@
 // Net images: firing by number, looking at what a firing would leave, replay and run on any image, also a foreign one.
 // The tests of an image and of a marking are for the crates above too.
+#![tactic(auto)]
+
 ghost use Rattle.std.specs.Prelude.{true, ◌&&◌, ◌≡◌, [], ◌∷◌, ◌++◌, ◌<◌, ◌≤◌, ltb, length, drop};
 ghost use Rattle.lists.specs.Lists.{pick};
 ghost use Rattle.net.specs.Image.{place_count_of, transition_count, is_header_right, inputs_at, record_right};
@@ -19,7 +21,7 @@ use arcs::{
 };
 
 // Why a call refuses: causes 11, 12, 13, 14, 15 and 16.
-#[derive(Drop)]
+#[derive(Clone, Copy)]
 pub enum Cause {
     ImageWrong,
     RecordWrong,
@@ -30,14 +32,14 @@ pub enum Cause {
 }
 
 // What a single firing answers.
-#[derive(Drop)]
+#[derive(Clone, Copy)]
 pub enum Firing {
     Made,
     Refused(Cause),
 }
 
 // What a look answers: how many bytes it wrote, or what it refuses.
-#[derive(Drop)]
+#[derive(Clone, Copy)]
 pub enum Looked {
     Done(usize),
     Refused(Cause),
@@ -45,14 +47,14 @@ pub enum Looked {
 }
 
 // What a replay answers: its last firing's answer, and its count of firings.
-#[derive(Drop)]
+#[derive(Clone, Copy)]
 pub struct Replayed {
     pub outcome: Firing,
     pub firings: usize,
 }
 
 // Why a run ended.
-#[derive(Drop)]
+#[derive(Clone, Copy)]
 pub enum Reason {
     LimitReached,
     HistoryFull,
@@ -61,7 +63,7 @@ pub enum Reason {
 }
 
 // What a run answers: the reason and its count of firings.
-#[derive(Drop)]
+#[derive(Clone, Copy)]
 pub struct Ran {
     pub reason: Reason,
     pub firings: usize,

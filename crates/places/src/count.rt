@@ -22,7 +22,7 @@ use scheme::fields::{field1, field3, field4};
 use scheme::lookup::{branch_thread, held_names, home};
 
 // The transitions of a net, their inputs and their outputs.
-#[derive(Drop)]
+#[derive(Clone, Copy)]
 pub struct Totals {
     pub transitions: usize,
     pub inputs: usize,
@@ -178,7 +178,7 @@ pub(crate) fn larger(a: usize, b: usize) -> usize
 
 // One side of a communication: the branch, its thread, its channel, the name that it sends or binds, and the places
 // before and after it.
-#[derive(Drop)]
+#[derive(Clone, Copy)]
 pub struct Side {
     pub branch: u32,
     pub thread: u32,
@@ -257,7 +257,7 @@ pub fn receive_at(receives: &[u32], k: u16) -> Side
 
 // What the communications of a send share: the branch, its thread, its channel, the sent name, the reach of the
 // channel, 1 for a bound channel, 1 for a bound sent name, and how many public and private values are sent.
-#[derive(Drop)]
+#[derive(Clone, Copy)]
 pub struct Sending {
     pub branch: u32,
     pub thread: u32,

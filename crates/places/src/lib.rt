@@ -1,4 +1,6 @@
 // The net of a table before it is written: where its places stand, and how many transitions and arcs it has.
+#![tactic(auto)]
+
 ghost use Rattle.std.specs.Prelude.{◌≡◌};
 ghost use Rattle.places.specs.Answers.{planned, answered, measured, plan_outcome, measure_outcome, short_answer};
 
@@ -17,7 +19,7 @@ use pairs::PAIRS;
 use table::Verdict;
 
 // What `plan` answers: that the plan stands, the table's cause, or that the lent words are too few.
-#[derive(Drop)]
+#[derive(Clone, Copy)]
 pub enum Planned {
     Ready,
     Refused(Verdict),
@@ -25,7 +27,7 @@ pub enum Planned {
 }
 
 // What `measure` answers: the counts of the net, the table's cause, or that the lent words are too few.
-#[derive(Drop)]
+#[derive(Clone, Copy)]
 pub enum Measured {
     Net(Totals),
     Refused(Verdict),

@@ -9,7 +9,7 @@ use crate::lookup::{NODES, PUBLICS, RESTRICTED};
 use lists::word32;
 
 // A set has number k at bit k: public names by their numbers, restricted ones counted from the first bound name.
-#[derive(Drop)]
+#[derive(Clone, Copy)]
 pub struct Reach {
     pub publics: u64,
     pub restricted: u64,

@@ -71,7 +71,7 @@ pub fn row_start(table: &[u16], index: &[u32], name: usize) -> usize
 }
 
 // A name, and where its row starts.
-#[derive(Drop)]
+#[derive(Clone, Copy)]
 pub struct Start {
     pub name: usize,
     pub row: usize,

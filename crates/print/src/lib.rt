@@ -2,6 +2,8 @@
 //
 // Text is counted before it is written, by the same functions, so that output too short for it is left as it was. A
 // foreign image may describe a text longer than any buffer: counting stops one byte past the end of the output.
+#![tactic(auto)]
+
 ghost use Rattle.std.specs.Prelude.{[], ◌∷◌, ◌≡◌, ◌+◌, ◌<◌, min, length};
 ghost use Rattle.std.proofs.lemmas.List.Edits.{sets};
 ghost use Rattle.std.proofs.Math.Seq.{slice};
@@ -20,14 +22,14 @@ use lists::{store8, store16, word8, word32};
 use rewriting::Answer;
 
 // What a call did: how many bytes or words it wrote, or that the output is too short for them (10).
-#[derive(Drop)]
+#[derive(Clone, Copy)]
 pub enum Printed {
     Done(usize),
     NoRoom,
 }
 
 // Where the next byte goes, and where writing stops.
-#[derive(Drop)]
+#[derive(Clone, Copy)]
 struct Pen {
     place: usize,
     stop: usize,

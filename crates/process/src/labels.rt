@@ -17,14 +17,14 @@ use lists::word16;
 use scheme::fields::{field3, field4};
 
 // The two branches of a communication.
-#[derive(Drop)]
+#[derive(Clone, Copy)]
 pub struct Pair {
     pub send: usize,
     pub receive: usize,
 }
 
 // A step: New and Call by their node, a silent step by its branch.
-#[derive(Drop)]
+#[derive(Clone, Copy)]
 pub enum Step {
     New(usize),
     Silent(usize),
@@ -33,14 +33,14 @@ pub enum Step {
 }
 
 // The copy of a formal and the release of a name, by node and name.
-#[derive(Drop)]
+#[derive(Clone, Copy)]
 pub enum Bookkeeping {
     Copy(usize, usize),
     Release(usize, usize),
 }
 
 // What a label names: bookkeeping, a step of the process, or nothing that the table has.
-#[derive(Drop)]
+#[derive(Clone, Copy)]
 pub enum Named {
     Bookkeeping(Bookkeeping),
     Process(Step),
@@ -48,7 +48,7 @@ pub enum Named {
 }
 
 // A label: its kind and two numbers.
-#[derive(Drop)]
+#[derive(Clone, Copy)]
 pub struct Label {
     pub kind: u32,
     pub a: u32,
@@ -56,7 +56,7 @@ pub struct Label {
 }
 
 // The step to be taken, if it is open.
-#[derive(Drop)]
+#[derive(Clone, Copy)]
 pub enum Open {
     Taken(Step),
     Closed,

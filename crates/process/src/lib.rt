@@ -2,6 +2,8 @@
 //
 // A state goes in and out as words. Each call checks the table, then the state words, then what it is asked for, and
 // last the lent output; a refusal leaves the output as it was.
+#![tactic(auto)]
+
 mod formed;
 mod labels;
 mod listing;
@@ -25,7 +27,7 @@ use scheme::fields::{field1, field4};
 use scheme::index::{SIZE, fill};
 
 // What a call did: how many words or labels it wrote, or what it refuses.
-#[derive(Drop)]
+#[derive(Clone, Copy)]
 pub enum Answer {
     Done(usize),
     Refused(table::Verdict),

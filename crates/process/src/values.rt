@@ -48,7 +48,7 @@ fn place_of(seen: &[u16], count: usize, value: usize) -> usize
 }
 
 // A value's word, and how many private values have been seen once it has.
-#[derive(Drop)]
+#[derive(Clone, Copy)]
 pub struct Turn {
     pub word: usize,
     pub count: usize,

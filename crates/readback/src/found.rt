@@ -5,7 +5,7 @@ ghost use Rattle.readback.specs.Inner.Hits.{token, hits, FoundOf, OneMore};
 use lists::word8;
 
 // How many of some places have a token, and which is the first of them, counted from 0; 0 where none has.
-#[derive(Drop)]
+#[derive(Clone, Copy)]
 pub struct Found {
     pub count: usize,
     pub first: usize,

@@ -1,4 +1,6 @@
 // Reading a marking back: the words of the state that it stands for.
+#![tactic(auto)]
+
 ghost use Rattle.std.specs.Prelude.{◌≡◌};
 ghost use Rattle.places.specs.Plan.{Laid};
 ghost use Rattle.readback.specs.Inner.Settling.{Settling, Settles};
@@ -15,7 +17,7 @@ use places::lookup::{SIZE, place_count};
 
 // What `read` did: how many words it wrote, or what it refuses: the table, bytes that are no marking of its net, a
 // marking that stands for no state, a lent output that is too short.
-#[derive(Drop)]
+#[derive(Clone, Copy)]
 pub enum Answer {
     Done(usize),
     Refused(table::Verdict),

@@ -20,7 +20,7 @@ use scheme::lookup::definition;
 use scheme::spans::{Source, span_count, span_first};
 
 // How many there are of each.
-#[derive(Drop)]
+#[derive(Clone, Copy)]
 pub struct Counts {
     pub definitions: usize,
     pub names: usize,
@@ -30,7 +30,7 @@ pub struct Counts {
 }
 
 // The copies of a table that can be rewritten, or what refuses it.
-#[derive(Drop)]
+#[derive(Clone, Copy)]
 pub enum Prepared {
     Ready(Counts),
     Refused(table::Verdict),

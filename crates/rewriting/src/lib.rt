@@ -3,6 +3,8 @@
 //
 // Each call takes the college's own table. It checks causes 1 to 9 with self-calls spared, then that the rewritten
 // table is within the bounds, and last what it is asked for; a refusal leaves the output as it was.
+#![tactic(auto)]
+
 mod belonging;
 mod copies;
 mod numbering;
@@ -20,7 +22,7 @@ use lists::{word16, word32};
 use scheme::index::SIZE;
 
 // What a call did: how many words it wrote or which number it read back, or what it refuses.
-#[derive(Drop)]
+#[derive(Clone, Copy)]
 pub enum Answer {
     Done(usize),
     Refused(table::Verdict),

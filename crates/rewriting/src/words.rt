@@ -23,7 +23,7 @@ use scheme::fields::{field1, field3, field4, name_kind};
 use scheme::spans::{Source, span_count};
 
 // A section that has copies.
-#[derive(Drop)]
+#[derive(Clone, Copy)]
 pub enum Part {
     Names,
     Definitions,
@@ -33,7 +33,7 @@ pub enum Part {
 }
 
 // A section, and where the originals of its copies stand in the list of all.
-#[derive(Drop)]
+#[derive(Clone, Copy)]
 pub struct Row {
     pub part: Part,
     pub first: usize,

@@ -15,7 +15,7 @@ use lists::{store32, word16, word32};
 
 // Where a step up from a node leads: to the definition whose root it is, to the New below, to a branch and the Choice
 // below that has it, or nowhere.
-#[derive(Drop)]
+#[derive(Clone, Copy)]
 pub enum Parent {
     Definition(usize),
     New(usize),

@@ -13,7 +13,7 @@ use lists::{store8, store32, word8};
 
 // What an entry names: a definition its root or its formals, a New its child or its name, a branch its next node or the
 // name that it receives, a Choice its branches, a Call its arguments.
-#[derive(Drop)]
+#[derive(Clone, Copy)]
 pub enum Source {
     Roots,
     Formals,

@@ -1,5 +1,7 @@
 // The list of what can be done next: beside a marking, the number of unmarked inputs of each transition and the set of
 // the enabled ones, on any image, also a foreign one.
+#![tactic(auto)]
+
 ghost use Rattle.std.specs.Prelude.{◌≡◌, ◌+◌, ◌-◌, ◌*◌, ◌/◌, ◌%◌, ◌^◌, ◌<◌, true, not, ◌&&◌, ◌||◌, length};
 ghost use Rattle.std.proofs.Math.Seq.{slice};
 ghost use Rattle.lists.specs.Lists.{pick, same, word, from, every};
@@ -18,7 +20,7 @@ mod bits;
 use net::Cause;
 
 // What making a summary answers: how many transitions were counted, or what it refuses.
-#[derive(Drop)]
+#[derive(Clone, Copy)]
 pub enum Made {
     Done(usize),
     Refused(Cause),
@@ -26,7 +28,7 @@ pub enum Made {
 }
 
 // What a firing with a summary, and a check of one, answer: 20 where the summary is wrong.
-#[derive(Drop)]
+#[derive(Clone, Copy)]
 pub enum Kept {
     Done,
     Refused(Cause),
@@ -34,14 +36,14 @@ pub enum Kept {
 }
 
 // The lowest of a set: bit b of word w is 64·w + b.
-#[derive(Drop)]
+#[derive(Clone, Copy)]
 pub enum Found {
     At(usize, u32),
     Nothing,
 }
 
 // Where the inputs of a transition start, where its outputs start and where they end.
-#[derive(Drop)]
+#[derive(Clone, Copy)]
 struct Span {
     inputs: usize,
     outputs: usize,

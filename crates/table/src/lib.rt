@@ -1,4 +1,6 @@
 // The process table: causes 1 to 9 of a list of words. `check` refuses or accepts it.
+#![tactic(auto)]
+
 mod binding;
 mod calls;
 mod kinds;
@@ -15,7 +17,7 @@ ghost use Rattle.table.specs.Causes.{cause, cause_sparing, are_counts_right, is_
 use lists::word16;
 
 // What a table is refused for, or that it is accepted.
-#[derive(Drop)]
+#[derive(Clone, Copy)]
 pub enum Verdict {
     Accepted,
     Short,

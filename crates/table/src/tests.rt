@@ -9,7 +9,7 @@ use crate::ranges::{argument_inside, branch_inside, definition_inside, entry_ins
 use crate::shape::children_above;
 
 // A test of one entry.
-#[derive(Drop)]
+#[derive(Clone, Copy)]
 pub enum Item {
     NameKind,
     FormalsZero,

@@ -4,7 +4,7 @@ use net::{Cause, Firing, Looked, Reason};
 use summary::{Found, Kept, Made};
 
 // A cause's number, or 0, and what was counted or read back.
-#[derive(Drop)]
+#[derive(Clone, Copy)]
 pub struct Outcome(pub usize, pub usize);
 
 // What building answered.

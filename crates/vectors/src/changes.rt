@@ -4,7 +4,7 @@ use crate::sizes::{Sizes, cut16, least};
 use crate::text;
 
 // What a request does to a list: its length, and that the items from `from` to `to` become the fields from `first` on.
-#[derive(Drop)]
+#[derive(Clone, Copy)]
 struct Change {
     length: usize,
     from: usize,

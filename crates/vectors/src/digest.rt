@@ -1,7 +1,7 @@
 // The 64-bit FNV-1a digest, as two halves of 32 bits.
 use lists::{word8, word16, word32};
 
-#[derive(Drop)]
+#[derive(Clone, Copy)]
 pub struct Digest {
     pub high: usize,
     pub low: usize,

@@ -6,7 +6,7 @@ use libc::STDIN_FILENO;
 use lists::word8;
 
 // A request: its letter, how many numbers it has, and the first four.
-#[derive(Drop)]
+#[derive(Clone, Copy)]
 pub struct Request {
     pub letter: u8,
     pub count: usize,

@@ -50,6 +50,8 @@
 //
 // A list is its length, then, if that is at most 128, `:` and its items with a space between, else `#` and the 64-bit
 // FNV-1a digest of its bytes, the low byte of each item first, in 16 hexadecimal digits.
+#![tactic(auto)]
+
 mod causes;
 mod changes;
 mod digest;

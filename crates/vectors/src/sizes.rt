@@ -3,7 +3,7 @@ ghost use Rattle.std.specs.Prelude.{◌≤◌};
 ghost use Rattle.io.specs.Counts.{IsPrefixLen};
 
 // The lengths of the table, the image, the marking, the state, the history, and a summary's counts and set.
-#[derive(Drop)]
+#[derive(Clone, Copy)]
 pub struct Sizes {
     pub table: usize,
     pub image: usize,
