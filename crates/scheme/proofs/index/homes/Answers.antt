@@ -1,0 +1,10 @@
+use mathlib.Core.Path.{◌∙◌}
+use lib.ListN.{length}
+use Rattle.scheme.proofs.Scatter.{homes-scattered}
+use Rattle.scheme.proofs.index.homes.Goals as goal
+
+pub returns : goal.returns
+returns c =
+    let a = c.args in
+    c.scatter_source.ensures ∙
+    rw (c.word16.ensures.is, c.clear.ensures) (homes-scattered a.table.now (length a.out.now))

@@ -1,0 +1,17 @@
+use mathlib.Core.Path.{◌∙◌}
+use lib.ListN.{length}
+use Rattle.scheme.proofs.Scatter.{owners-scattered}
+use Rattle.scheme.proofs.index.owners.Goals as goal
+
+pub returns : goal.returns
+returns c =
+    let a = c.args in
+    c.scatter_source-3.ensures ∙
+    rw (
+      c.word16-3.ensures.is,
+      c.scatter_source-2.ensures,
+      c.word16-2.ensures.is,
+      c.scatter_source.ensures,
+      c.word16.ensures.is,
+      c.clear.ensures,
+    ) (owners-scattered a.table.now (length a.out.now))
