@@ -1,6 +1,6 @@
 -- Laws of lists that ascend strictly.
-use mathlib.Core.Path.{◌≡◌, refl, sym, ap, subst, ◌∙◌}
-use mathlib.Core.Bool.{Bool, true, false, ◌&&◌, ◌||◌}
+use mathlib.Core.Path.{◌≡◌, refl, subst, ◌∙◌}
+use mathlib.Core.Bool.{true, false, ◌&&◌}
 use mathlib.Core.List.{List, [], ◌∷◌, ◌++◌}
 use Prim.Native.Nat.{ℕ, zero, suc, ◌+◌, ◌-◌, ◌≤◌, ◌<◌}
 use native.Mathlib.Omega.{arith}
@@ -8,8 +8,8 @@ use lib.Dec.{ltb, leb}
 use lib.ListN.{length, get_or}
 use lib.Seq.{slice, length-slice}
 use borrow.Author.Tests.{lt-ltb, le-ltb, le-leb, lt-leb, ltb-true, leb-true}
-use Rattle.lists.specs.Lists.{same, member, ascends}
-use Rattle.lists.proofs.Tests.{and_intro, and_left, and_right, same-no}
+use Rattle.lists.specs.Lists.{member, ascends}
+use Rattle.lists.proofs.Tests.{and_left, and_right, same-no}
 use Rattle.lists.proofs.Slices.{slice-step, slice-none, get_or-slice}
 
 -- ---- the first element and the rest

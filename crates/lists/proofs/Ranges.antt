@@ -5,13 +5,10 @@ use mathlib.Core.List.{List, [], ◌∷◌, ◌++◌, map, append_assoc}
 use mathlib.Core.Logic.{◌⊎◌, inl, inr}
 use Prim.Native.Nat.{ℕ, zero, suc, ◌+◌, ◌-◌, ◌≤◌, ◌<◌}
 use native.Mathlib.Decide.{ℕ_discrete}
-use native.Mathlib.Numerals.{add-one}
 use native.Mathlib.Nat.{add-zero}
 use native.Mathlib.Omega.{arith}
-use lib.Dec.{ltb, leb}
 use lib.ListN.{length, get_or}
-use borrow.Author.Tests.{le-leb, lt-ltb, lt-leb, le-ltb, leb-true, ltb-true}
-use Rattle.lists.specs.Lists.{same, word, from, range, every, flat, member}
+use Rattle.lists.specs.Lists.{same, from, range, every, flat, member}
 use Rattle.lists.proofs.Tests.{and_intro, and_left, and_right, both_ways, or_cases, or_left, or_right, same_self, same-yes, same_true, false-true}
 
 pub from_more : (i e : ℕ) → i < e → from i (e - i) ≡ i ∷ from (i + 1) (e - (i + 1))

@@ -1,5 +1,5 @@
 -- Why a node is there, what it holds, and which definition and thread it belongs to (document 01, Process table).
-use Rattle.std.specs.Prelude.{Bool, true, false, ◌&&◌, List, [], ◌∷◌, ◌++◌, ℕ, zero, suc, ltb}
+use Rattle.std.specs.Prelude.{true, false, ◌&&◌, List, [], ◌∷◌, ◌++◌, ℕ, zero, suc, ltb}
 use Rattle.lists.specs.Lists.{pick, same, member, first_from}
 use Rattle.scheme.specs.Words.{definitions, nodes, branches, definition_thread, root, formals, node_first, node_second, is_new, branches_of, branch_name, next, is_receive}
 

@@ -15,7 +15,7 @@ use Rattle.scheme.specs.Words.{bounds, definitions, nodes, branches, root, forma
 use Rattle.scheme.specs.Words.{is_receive, argument, arguments_of}
 use Rattle.scheme.specs.Owners.{child_of, next_of, owner, home, held, definition, thread}
 use Rattle.table.specs.Causes.{cause}
-use Rattle.scheme.specs.Scheme.{choice, binds, by_new, by_receive, branch_at, arguments_from, binder_of, scheme}
+use Rattle.scheme.specs.Scheme.{binds, by_new, by_receive, branch_at, arguments_from, binder_of, scheme}
 use Rattle.table.specs.Accepted.{NameOf, Below, Chosen, Accepted}
 use Rattle.scheme.specs.Kinds.{is_receive as receives}
 use Rattle.table.proofs.Inside

@@ -1,8 +1,8 @@
 -- Document 01's worked table cases, computed: table E and its variants.
 use mathlib.Core.Path.{◌≡◌, refl}
-use mathlib.Core.Bool.{Bool, true, false, ◌&&◌}
+use mathlib.Core.Bool.{true}
 use mathlib.Core.List.{List, [], ◌∷◌}
-use Prim.Native.Nat.{ℕ, ◌+◌}
+use Prim.Native.Nat.{ℕ}
 use lib.ListN.{set, take}
 use Rattle.lists.specs.Lists.{same, from, every, flat, member, times, first_from}
 use Rattle.scheme.specs.Words.{formals, branches_of, arguments_of}

@@ -1,9 +1,9 @@
 -- What acceptance means, as named facts of a Scheme. They hold of every accepted table (proofs/Accepted.antt), and everything above the table
 -- uses these facts and looks at no test of a cause.
-use Rattle.std.specs.Prelude.{◌≡◌, Bool, true, false, ◌⊎◌, List, [], ◌∷◌, ◌++◌, ℕ, ◌+◌, ◌*◌, ◌≤◌, ◌<◌, length}
+use Rattle.std.specs.Prelude.{◌≡◌, true, false, ◌⊎◌, [], ◌∷◌, ◌++◌, ℕ, ◌+◌, ◌*◌, ◌≤◌, ◌<◌, length}
 use Rattle.lists.specs.Lists.{range, keep, member, Distinct}
 use Rattle.scheme.specs.Owners.{Owner, root_of, child_of, next_of, nobody}
-use Rattle.scheme.specs.Scheme.{Node, stop, choice, new, call, Branch, absent, silent, send, receive, present, next_node, binds, Binder, by_new, by_receive, by_formal, unbound, Scheme}
+use Rattle.scheme.specs.Scheme.{choice, new, call, send, receive, present, next_node, binds, by_new, by_receive, unbound, Scheme}
 use Rattle.scheme.specs.Kinds.{is_receive}
 
 -- x is a bound name of thread t

@@ -2,7 +2,7 @@
 use Rattle.std.specs.Prelude.{Bool, true, not, ◌&&◌, ◌||◌, List, [], ◌∷◌, ◌++◌, ℕ, ◌+◌, ◌*◌, ltb, leb, length}
 use Rattle.std.proofs.Math.Bool.{false}
 use Rattle.lists.specs.Lists.{pick, bit, same, word, from, range, every, flat, member, times}
-use Rattle.scheme.specs.Words.{publics, bounds, definitions, threads, nodes, branches, arguments, names, is_public, is_bound_name, name_kind_of, definition_thread, root, first_formal, formal_count, formals, entry, node_kind, node_first, node_second, is_stop_node, is_choice, is_new, is_call_node, branches_of, branch_kind, channel, branch_name, next, is_silent, is_send, is_receive, argument, arguments_of, branch_count_of, argument_count_of}
+use Rattle.scheme.specs.Words.{publics, bounds, definitions, threads, nodes, branches, arguments, names, is_public, is_bound_name, name_kind_of, definition_thread, root, first_formal, formal_count, formals, entry, node_first, node_second, is_stop_node, is_choice, is_new, is_call_node, branches_of, branch_kind, channel, branch_name, next, is_silent, is_receive, argument, arguments_of, branch_count_of, argument_count_of}
 use Rattle.scheme.specs.Owners.{held, definition}
 
 -- the number of the first test that does not hold, 0 if all hold

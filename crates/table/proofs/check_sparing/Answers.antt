@@ -1,6 +1,6 @@
 use mathlib.Core.Path.{sym, ◌∙◌}
 use native.Mathlib.Omega.{arith}
-use borrow.Author.Tests.{le-leb, lt-leb, not-true, not-false}
+use borrow.Author.Tests.{le-leb, lt-leb}
 use Rattle.table.specs.Causes.{cause_sparing, first_failed, long_enough}
 use Rattle.table.proofs.Inside.{counted}
 use Rattle.table.proofs.Shaped.{shaped}

@@ -1,8 +1,8 @@
 -- What a table's words tell once causes 1 to 6 do not apply: the nodes form trees, each child above its parent.
-use Rattle.std.specs.Prelude.{◌≡◌, Bool, true, false, List, [], ◌∷◌, ◌++◌, ℕ, ◌+◌, ◌≤◌, ◌<◌}
+use Rattle.std.specs.Prelude.{◌≡◌, true, false, List, [], ◌∷◌, ◌++◌, ℕ, ◌+◌, ◌≤◌, ◌<◌}
 use Rattle.lists.specs.Lists.{member}
-use Rattle.scheme.specs.Words.{publics, bounds, definitions, threads, nodes, branches, arguments, names, root, formals, formal_count, node_first, node_second, is_choice, is_new, is_call_node, branch_name, channel, next, is_silent, is_receive, arguments_of}
-use Rattle.scheme.specs.Owners.{Owner, root_of, child_of, next_of, nobody, owner, home, held, definition, binds_of}
+use Rattle.scheme.specs.Words.{publics, bounds, definitions, threads, nodes, branches, arguments, names, root, formals, formal_count, node_first, node_second, is_choice, is_new, is_call_node, branch_name, channel, next, is_silent, arguments_of}
+use Rattle.scheme.specs.Owners.{held, binds_of}
 
 -- why node k is there, with what leads to it
 pub data Reached (w : List ℕ) (k : ℕ) : Type 0 where

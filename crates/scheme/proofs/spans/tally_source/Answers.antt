@@ -1,5 +1,4 @@
 use mathlib.Core.Path.{sym, ◌∙◌}
-use Prim.Native.Nat.{◌-◌}
 use Rattle.scheme.proofs.Tally.{tally-flat-more, tally-flat-done}
 use Rattle.scheme.proofs.SpanLists.{span-is}
 use Rattle.scheme.proofs.spans.tally_source.Goals as goal

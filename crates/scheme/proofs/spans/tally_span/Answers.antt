@@ -1,5 +1,4 @@
 use mathlib.Core.Path.{sym, ◌∙◌}
-use Prim.Native.Nat.{◌-◌}
 use Rattle.scheme.proofs.Tally.{tally-more, tally-done}
 use Rattle.scheme.proofs.spans.tally_span.Goals as goal
 

@@ -1,5 +1,4 @@
 use mathlib.Core.Path.{refl, sym}
-use borrow.Author.Tests.{not-true, not-false}
 use Rattle.table.specs.Causes.{is_binding_right}
 use Rattle.scheme.specs.declared.spans.Source.TheVariants.{NewNames, ReceivedNames, Formals}
 use Rattle.table.proofs.SpanLists.{new-names-spans, received-spans, formals-spans}

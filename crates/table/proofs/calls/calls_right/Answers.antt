@@ -3,7 +3,7 @@ use mathlib.Core.Bool.{Bool, true, not}
 use mathlib.Core.List.{List}
 use Prim.Native.Nat.{ℕ, ◌≤◌}
 use native.Mathlib.Omega.{arith}
-use borrow.Author.Tests.{not-true, not-false}
+use borrow.Author.Tests.{not-true}
 use Rattle.lists.specs.Lists.{word, range, every}
 use Rattle.lists.proofs.Ranges.{every-same, every-below, below-every, from_member}
 use Rattle.scheme.specs.Words.{definitions, nodes, branches, is_call_node}

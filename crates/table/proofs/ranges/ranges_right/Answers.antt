@@ -1,5 +1,4 @@
 use mathlib.Core.Path.{refl, sym}
-use borrow.Author.Tests.{not-true, not-false}
 use Rattle.table.specs.Causes.{are_ranges_right}
 use Rattle.table.proofs.Parts.{part}
 use Rattle.table.specs.declared.tests.Item.TheVariants.{DefinitionInside, EntryInside, NodeInside, BranchInside, ArgumentInside}

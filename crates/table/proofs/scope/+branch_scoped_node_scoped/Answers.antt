@@ -1,5 +1,5 @@
 -- `table::scope::node_scoped` and `branch_scoped` meet their contracts.
-use mathlib.Core.Path.{◌≡◌, refl, sym, ◌∙◌}
+use mathlib.Core.Path.{◌≡◌, sym, ◌∙◌}
 use Prim.Native.Nat.{ℕ}
 use native.Mathlib.Omega.{arith}
 use Rattle.lists.proofs.Ranges.{every_more, every-stop, every-done}

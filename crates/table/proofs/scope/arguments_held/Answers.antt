@@ -1,5 +1,4 @@
 use mathlib.Core.Path.{sym, ◌∙◌}
-use Prim.Native.Nat.{◌-◌}
 use native.Mathlib.Omega.{arith}
 use Rattle.lists.proofs.Ranges.{every_more, every-stop, every-done}
 use Rattle.table.proofs.Walk.{unheld, holds}

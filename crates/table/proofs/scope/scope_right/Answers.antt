@@ -1,6 +1,4 @@
 use mathlib.Core.Path.{sym, ◌∙◌}
-use Prim.Native.Nat.{◌-◌}
-use borrow.Author.Tests.{not-true, not-false}
 use Rattle.lists.proofs.Ranges.{every_more, every-stop, every-done}
 use Rattle.table.proofs.Bodies.{scope-bodies}
 use Rattle.table.proofs.scope.scope_right.Goals as goal

@@ -1,5 +1,4 @@
 use mathlib.Core.Path.{sym, ◌∙◌}
-use Prim.Native.Nat.{◌-◌}
 use borrow.Author.Tests.{lt-ltb, le-ltb}
 use Rattle.lists.proofs.Ranges.{every_more, every-stop, every-done}
 use Rattle.table.proofs.shape.nexts_above.Goals as goal

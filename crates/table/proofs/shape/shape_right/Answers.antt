@@ -2,7 +2,6 @@ use mathlib.Core.Path.{◌≡◌, refl, sym, ◌∙◌}
 use mathlib.Core.Bool.{Bool}
 use mathlib.Core.List.{List}
 use Prim.Native.Nat.{ℕ}
-use borrow.Author.Tests.{not-true, not-false}
 use Rattle.lists.specs.Lists.{range}
 use Rattle.scheme.specs.Words.{nodes, branches, arguments, node_first, node_second}
 use Rattle.table.specs.Causes.{consecutive, is_shape_right}
