@@ -1,6 +1,6 @@
 -- Summaries as the private functions work them out. While a firing's transitions are worked out, its places are told from the others in the marking: their
 -- bytes are 2 and 3 where the others' are 0 and 1, so a byte tells a token if it is odd.
-use Rattle.std.specs.Prelude.{◌≡◌, ℕ, ◌%◌, ◌<◌, ◌≤◌, Bool, true, not, ◌&&◌, ◌||◌, List, map, length, set, nat_le, nat_lt, slice_set}
+use Rattle.std.specs.Prelude.{◌≡◌, ℕ, ◌%◌, ◌<◌, ◌≤◌, Bool, true, not, ◌&&◌, ◌||◌, List, map, length, nat_le, nat_lt, slice_set}
 use Rattle.lists.specs.Lists.{pick, same, word, range, some, keep}
 use Rattle.net.specs.Image.{place_count_of, transition_count, is_header_right, are_records_right, inputs_at, outputs_at}
 use Rattle.net.specs.Firing.{is_place_marked, put}
