@@ -1,9 +1,9 @@
 -- Worked states, computed: table E on the way of its run, definitions that call each other passing a private name, a name sent on itself, and
 -- steps of several kinds open at once.
 use mathlib.Core.Path.{◌≡◌, refl}
-use mathlib.Core.Bool.{Bool, true, false, not, ◌&&◌}
+use mathlib.Core.Bool.{Bool, true, not, ◌&&◌}
 use mathlib.Core.List.{List, [], ◌∷◌}
-use mathlib.Core.Option.{Option, some}
+use mathlib.Core.Option.{some}
 use Prim.Native.Nat.{ℕ}
 use lib.ListN.{length}
 use Rattle.lists.specs.Lists.{same, from, every, keep, flat, member, first_from}

@@ -14,8 +14,7 @@ use Rattle.lists.proofs.Tests.{same-yes, same-no, and-true}
 use Rattle.lists.proofs.Members.{member-here}
 use Rattle.lists.proofs.Counts.{distinct-below}
 use Rattle.lists.proofs.Slices.{slice-step, slice-none, slice-between}
-use Rattle.scheme.specs.Words.{publics, bounds, nodes}
-use Rattle.scheme.specs.Owners.{held}
+use Rattle.scheme.specs.Words.{nodes}
 use Rattle.scheme.specs.Index.{held_at, HeldNames}
 use Rattle.scheme.specs.Scheme.{Scheme, scheme}
 use Rattle.table.proofs.Accepted.{accepted}

@@ -11,7 +11,7 @@ use lib.Seq.{sets, slice, length-sets, take-length}
 use Rattle.lists.specs.Lists.{pick, same, word, from, range, keep, flat}
 use Rattle.lists.proofs.Slices.{slice-step, slice-none}
 use Rattle.lists.proofs.Stores.{sets-append}
-use Rattle.scheme.specs.Words.{nodes, branches, branch_kind, node_first, node_second, is_choice, is_new, is_call_node, is_silent}
+use Rattle.scheme.specs.Words.{nodes, branches, branch_kind, node_first, node_second, is_choice, is_new, is_call_node}
 use Rattle.scheme.specs.Scheme.{Scheme, scheme, Node, stop, choice, new, call, node_at}
 use Rattle.scheme.specs.Kinds
 use Rattle.process.specs.States.{State}

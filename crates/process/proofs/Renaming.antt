@@ -1,22 +1,22 @@
 -- States alike but for the names of private values: they have the same words and the same open steps, and every step keeps them so, New taking
 -- any value not in use.
-use Prim.Native.Nat.{ℕ, zero, suc, ◌+◌, ◌≤◌, ◌<◌}
+use Prim.Native.Nat.{ℕ, suc, ◌≤◌, ◌<◌}
 use mathlib.Core.Path.{◌≡◌, refl, sym, ap, ◌∙◌}
-use mathlib.Core.Logic.{◌⊎◌, inl, inr}
-use mathlib.Core.Bool.{Bool, true, false, not, ◌&&◌, true≢false, false≢true}
+use mathlib.Core.Logic.{inl}
+use mathlib.Core.Bool.{Bool, true, false, true≢false, false≢true}
 use mathlib.Core.Option.{Option, none, some}
 use mathlib.Core.List.{List, [], ◌∷◌, ◌++◌, map}
 use native.Mathlib.Decide.{ℕ_discrete}
 use native.Mathlib.Omega.{arith}
 use lib.Dec.{ltb}
-use borrow.Author.Tests.{ltb-true, ltb-false, lt-ltb, le-ltb}
-use Rattle.lists.specs.Lists.{pick, same, from, range, member}
-use Rattle.lists.proofs.Tests.{same_self, same-no, same-yes, same_true, and-false}
+use borrow.Author.Tests.{ltb-true}
+use Rattle.lists.specs.Lists.{same, from, range, member}
+use Rattle.lists.proofs.Tests.{same_self, same-no, and-false}
 use Rattle.lists.proofs.Members.{map_same}
 use Rattle.scheme.specs.Scheme.{Scheme, Node, stop, choice, new, call, Branch, absent, silent, send, receive}
 use Rattle.table.specs.Accepted.{Accepted}
 use Rattle.process.specs.States.{State, put, value_of, is_one_value, Renamed}
-use Rattle.process.specs.Steps.{Step, new_step, silent_step, communication, step_call, no_step, take, is_step_open, is_standing_at, new_at, call_at, silent_by, meet_by, can_communicate, newly, silently, calling, meeting, arrived, called, received}
+use Rattle.process.specs.Steps.{Step, new_step, silent_step, communication, step_call, no_step, take, is_step_open, new_at, call_at, silent_by, meet_by, can_communicate, newly, arrived, called, received}
 use Rattle.process.specs.StateWords.{place, noted, value_words, state_words}
 
 -- ---- values

@@ -18,8 +18,6 @@ use Rattle.scheme.specs.Words.{publics, bounds, threads}
 use Rattle.table.specs.Causes.{cause}
 use Rattle.table.specs.Known.{Known}
 use Rattle.scheme.specs.Scheme.{Scheme, scheme}
-use Rattle.table.proofs.Inside
-use Rattle.table.proofs.Trees
 use Rattle.process.specs.States.{State}
 use Rattle.process.specs.Steps.{Step, no_step, is_step_open, take}
 use Rattle.process.specs.Labels.{step_of}

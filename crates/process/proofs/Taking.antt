@@ -12,7 +12,7 @@ use borrow.Author.Tests.{lt-ltb}
 use Rattle.lists.specs.Lists.{pick, same, word, from}
 use Rattle.lists.proofs.Tests.{same-yes, same-no, same_self, and_left, true-or-false}
 use Rattle.scheme.specs.Words.{publics, bounds, nodes, definitions, formals, root, first_formal, formal_count, node_first, node_second}
-use Rattle.scheme.specs.Words.{branch_name, channel, next, argument, arguments_of, is_new, is_call_node, is_silent, Number}
+use Rattle.scheme.specs.Words.{branch_name, channel, next, argument, arguments_of, is_call_node, Number}
 use Rattle.scheme.specs.Scheme.{scheme, new, call, silent, send, receive, arguments_from}
 use Rattle.scheme.specs.Kinds
 use Rattle.table.specs.Causes.{cause}

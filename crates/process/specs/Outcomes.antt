@@ -1,11 +1,11 @@
 -- What the three calls answer and what they leave in the lent words (document 01, Process rules and Causes of refusal).
-use Rattle.std.specs.Prelude.{Bool, true, false, List, [], ◌∷◌, ◌++◌, ℕ, ◌+◌, ltb, length, drop}
+use Rattle.std.specs.Prelude.{List, ◌++◌, ℕ, ◌+◌, ltb, length, drop}
 use Rattle.std.proofs.Math.Option.{Option, none, some}
 use Rattle.lists.specs.Lists.{pick, same}
 use Rattle.table.specs.Causes.{cause}
 use Rattle.scheme.specs.Scheme.{Scheme, scheme}
-use Rattle.process.specs.States.{State, start}
-use Rattle.process.specs.Steps.{Step, take, is_step_open}
+use Rattle.process.specs.States.{start}
+use Rattle.process.specs.Steps.{take, is_step_open}
 use Rattle.process.specs.Labels.{step_of, open_step_list, open_labels}
 use Rattle.process.specs.StateWords.{state_words, state_of, is_well_formed}
 

@@ -8,7 +8,6 @@ use Rattle.lists.specs.Lists.{pick, same, word, from, range, every, member}
 use Rattle.scheme.specs.Scheme.{Scheme}
 use Rattle.process.specs.States.{State, is_one_value}
 use Rattle.scheme.specs.Kinds.{is_stop_node}
-use Rattle.process.specs.Steps.{take}
 
 -- where v stands in a list, its length where it does not
 unfoldable pub place : ℕ → List ℕ → ℕ

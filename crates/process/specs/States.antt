@@ -1,5 +1,5 @@
 -- States of a process (document 01, Process rules).
-use Rattle.std.specs.Prelude.{◌≡◌, Bool, true, false, ◌&&◌, List, [], ◌∷◌, ℕ, ltb}
+use Rattle.std.specs.Prelude.{◌≡◌, Bool, false, ℕ, ltb}
 use Rattle.std.proofs.Math.Option.{Option, none, some}
 use Rattle.lists.specs.Lists.{pick, same}
 use Rattle.scheme.specs.Scheme.{Scheme}

@@ -1,7 +1,7 @@
 -- The steps of a process, when they are open, and the labels that name them (document 01, Process rules and Transitions).
-use Rattle.std.specs.Prelude.{Bool, true, false, not, ◌&&◌, ◌||◌, List, [], ◌∷◌, ◌++◌, map, ℕ, suc, ◌+◌, ltb}
+use Rattle.std.specs.Prelude.{Bool, true, false, not, ◌&&◌, List, [], ◌∷◌, ℕ, suc}
 use Rattle.std.proofs.Math.Option.{Option, none, some}
-use Rattle.lists.specs.Lists.{pick, same, from, range, keep, flat}
+use Rattle.lists.specs.Lists.{pick, same}
 use Rattle.scheme.specs.Scheme.{Scheme, Node, stop, choice, new, call, Branch, absent, silent, send, receive}
 use Rattle.scheme.specs.Kinds.{is_stop_node, is_new, is_call_node, is_silent}
 use Rattle.process.specs.States.{State, put, value_of, is_one_value}

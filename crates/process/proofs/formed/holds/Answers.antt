@@ -1,0 +1,23 @@
+use mathlib.Core.Path.{◌∙◌}
+use native.Mathlib.Omega.{arith}
+use Rattle.process.proofs.Forming.{few-nodes, none-held, held-listed, held-count-fits}
+use Prim.Native.Nat.{◌<◌}
+use Rattle.scheme.specs.Words.{nodes}
+use Rattle.process.proofs.formed.holds.Goals as goal
+
+pub returns-then-word16-node : goal.returns-then-word16-node
+returns-then-word16-node c =
+    let a = c.args in
+    none-held a.table.now _ c.requires a.node a.name (omega (arith, c.word16.ensures.is, c.if-word16-node.true))
+
+pub overflow_cast-node : goal.overflow_cast-node
+overflow_cast-node c =
+    omega (arith, c.word16.ensures.is, c.if-word16-node.false, few-nodes _ _ c.requires)
+
+pub is_listed-requires : goal.is_listed-requires
+is_listed-requires c =
+    held-count-fits _ _ c.requires _ _ _ ((let inside : c.args.node < nodes c.args.table.now = omega (arith, c.word16.ensures.is, c.if-word16-node.false) in inside)) c.held_names-count.ensures
+
+pub returns : goal.returns
+returns c =
+    c.is_listed.ensures ∙ rw (held-listed _ _ c.requires _ _ _ ((let inside : c.args.node < nodes c.args.table.now = omega (arith, c.word16.ensures.is, c.if-word16-node.false) in inside)) c.held_names-count.ensures)

@@ -1,0 +1,17 @@
+use Prim.Native.Nat.{◌-◌, ◌*◌, ◌≤◌}
+use Rattle.lists.specs.Lists.{from, range, flat}
+use Rattle.scheme.specs.Words.{nodes as node_count}
+use Rattle.scheme.specs.Scheme.{scheme}
+use Rattle.process.specs.StateWords.{state_of}
+use Rattle.process.specs.Inner.Listed.{node_words}
+use Rattle.process.proofs.Listed.{Left}
+use Rattle.process.proofs.listing.list_nodes.Given as goal
+
+abbrev pub invariant-loop-n : goal.invariant-loop-n
+invariant-loop-n l =
+    Left (flat (node_words (scheme l.table) (state_of (scheme l.table) l.state)) (range (node_count l.table))) l.initial.out 0
+    (flat (node_words (scheme l.table) (state_of (scheme l.table) l.state)) (from l.n (l.nodes - l.n))) l.out l.next ×
+    (l.next ≤ 196608 * l.n) × (l.n ≤ l.nodes)
+
+abbrev pub decreases-loop-n : goal.decreases-loop-n
+decreases-loop-n l = l.nodes - l.n
