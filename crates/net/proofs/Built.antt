@@ -1,18 +1,18 @@
 -- What the calls give on the image of an abstract net whose lists ascend: the checks of the image pass, so only markings and firings are left.
-use mathlib.Core.Path.{◌≡◌, refl, sym, ap, ◌∙◌}
+use mathlib.Core.Path.{◌≡◌, sym, ap, ◌∙◌}
 use mathlib.Core.Bool.{Bool, true, false, not}
 use mathlib.Core.List.{List, [], ◌∷◌}
-use Prim.Native.Nat.{ℕ, zero, suc, ◌+◌, ◌≤◌, ◌<◌}
+use Prim.Native.Nat.{ℕ, zero, suc, ◌+◌, ◌≤◌}
 use native.Mathlib.Omega.{arith}
-use lib.ListN.{length, replicate}
+use lib.ListN.{length}
 use Rattle.lists.specs.Lists.{pick}
 use Rattle.net.specs.Image.{place_count_of, transition_count, inputs_at, record_right}
-use Rattle.net.specs.Firing.{is_marking, is_enabled, put, initial_marking, in_turn, fire, replay, Search}
-use Rattle.net.specs.Firing.{lowest, malformed, nothing, search_from, lowest_enabled, run_by, run_of}
-use Rattle.net.specs.Net.{Net, transition_at, encode, is_ascending}
+use Rattle.net.specs.Firing.{is_marking, is_enabled, initial_marking, in_turn, fire, replay, Search}
+use Rattle.net.specs.Firing.{lowest, malformed, search_from, lowest_enabled, run_by, run_of}
+use Rattle.net.specs.Net.{Net, encode, is_ascending}
 use Rattle.net.proofs.Steps.{fire-as, replay-as}
 use Rattle.net.proofs.Runs.{run-as}
-use Rattle.net.proofs.Encode.{place-count, transition-count, initial-marking, header-passes, inputs-at, record-passes}
+use Rattle.net.proofs.Encode.{place-count, transition-count, header-passes, record-passes}
 use Rattle.net.proofs.Outcomes.{initial-keeps}
 
 module _ (net : Net) where

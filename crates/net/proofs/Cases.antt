@@ -1,14 +1,14 @@
 -- Table E's net and its image of 115 words (document 01, Table E and its listing), computed: one table of firings and looks, looks, runs, replays.
-use mathlib.Core.Bool.{Bool, true, ◌&&◌}
+use mathlib.Core.Bool.{true}
 use mathlib.Core.Path.{◌≡◌, refl}
 use mathlib.Core.List.{List, [], ◌∷◌, ◌++◌}
 use Prim.Native.Nat.{ℕ}
 use lib.ListN.{length, replicate}
 use Rattle.lists.specs.Lists.{same, every, some, flat, member, ascends, total}
-use Rattle.net.specs.Image.{Label, label_of, is_header_right, record_right}
-use Rattle.net.specs.Firing.{is_marking, is_enabled, has_contact, put, initial_marking, step_of, step, Outcome, outcome, in_turn, fire}
-use Rattle.net.specs.Firing.{replay, search_from, lowest_enabled, quiet_from, settle_first, Ending, limit_reached, history_full, nothing_enabled, stopped}
-use Rattle.net.specs.Firing.{RunOutcome, run_by, run_of, run, run_of_lowest}
+use Rattle.net.specs.Image.{label_of, is_header_right, record_right}
+use Rattle.net.specs.Firing.{is_marking, is_enabled, has_contact, put, initial_marking, step_of, step, outcome, in_turn, fire}
+use Rattle.net.specs.Firing.{replay, search_from, lowest_enabled, quiet_from, settle_first, limit_reached, history_full, nothing_enabled}
+use Rattle.net.specs.Firing.{run_by, run_of, run, run_of_lowest}
 use Rattle.net.specs.Looking.{looked, shown, look}
 use Rattle.net.specs.Net.{Transition, Net, records_from, encode, is_ascending}
 

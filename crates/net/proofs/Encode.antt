@@ -1,7 +1,7 @@
 -- Laws of an abstract net's image. Every statement about built nets goes through these: the header check passes, each record is right, and
 -- label, inputs and outputs of record k are those of transition k.
 use mathlib.Core.Path.{◌≡◌, refl, sym, ap, subst, ◌∙◌}
-use mathlib.Core.Bool.{Bool, true, false, ◌&&◌}
+use mathlib.Core.Bool.{Bool, true}
 use mathlib.Core.List.{List, [], ◌∷◌, ◌++◌, append_assoc, map}
 use Prim.Native.Nat.{ℕ, zero, suc, ◌+◌, ◌*◌, ◌≤◌, ◌<◌}
 use native.Mathlib.Omega.{arith}
@@ -9,10 +9,10 @@ use lib.ListN.{length, get_or, take, drop, replicate, length-append}
 use lib.Seq.{slice, split_at, length-take-le, get_or-append-add}
 use borrow.Author.Tests.{le-leb}
 use Rattle.lists.specs.Lists.{word, every, flat, ascends, total}
-use Rattle.lists.proofs.Tests.{and_left, and_right, same_self, same-yes}
+use Rattle.lists.proofs.Tests.{and_left, and_right, same-yes}
 use Rattle.lists.proofs.Slices.{slice-between}
-use Rattle.net.specs.Image.{Label, label_of, place_count_of, transition_count, initial_tokens, records_start, arcs_offset, given_length, initial_places}
-use Rattle.net.specs.Image.{is_header_right, record_offset, label_at, inputs_start, outputs_start, outputs_end, inputs_at, outputs_at, record_right}
+use Rattle.net.specs.Image.{label_of, place_count_of, transition_count, records_start, arcs_offset, given_length, initial_places}
+use Rattle.net.specs.Image.{is_header_right, record_offset, label_at, inputs_start, inputs_at, outputs_at, record_right}
 use Rattle.net.specs.Firing.{put, initial_marking, refused, step_of, step}
 use Rattle.net.specs.Net.{Transition, Net, blank, transition_at, arc_words, record_words, records_from, records_offset}
 use Rattle.net.specs.Net.{arcs_offset_in, input_total, output_total, header_words, encode, ascending, is_ascending}

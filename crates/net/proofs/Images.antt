@@ -1,19 +1,18 @@
 -- What a right header and a right record tell of an image.
-use mathlib.Core.Path.{◌≡◌, refl, sym, ap, subst, ◌∙◌}
-use mathlib.Core.Bool.{Bool, true, false, ◌&&◌}
+use mathlib.Core.Path.{◌≡◌, sym, ap, ◌∙◌}
+use mathlib.Core.Bool.{true, false, ◌&&◌}
 use mathlib.Core.List.{List}
-use Prim.Native.Nat.{ℕ, ◌+◌, ◌*◌, ◌-◌, ◌≤◌, ◌<◌}
+use Prim.Native.Nat.{ℕ, ◌-◌, ◌≤◌, ◌<◌}
 use native.Mathlib.Omega.{arith}
 use lib.Dec.{leb}
 use lib.ListN.{length}
 use lib.Seq.{slice}
 use borrow.Author.Tests.{le-leb, lt-leb, leb-true}
-use Rattle.lists.specs.Lists.{pick, same, word, from, every, ascends}
-use Rattle.lists.proofs.Tests.{and_left, and_right, same-yes, same-no, same_true, true-or-false, went-first, went-second}
+use Rattle.lists.specs.Lists.{same, word, from, every, ascends}
+use Rattle.lists.proofs.Tests.{and_left, and_right, same-yes, same-no, same_true, went-first, went-second}
 use Rattle.lists.proofs.Ranges.{every-start, every-below}
-use Rattle.net.specs.declared.arcs.Record.{Record}
 use Rattle.net.specs.declared.arcs.Record.TheVariants.{Arcs, Wrong}
-use Rattle.net.specs.Image.{place_count_of, transition_count, initial_tokens, records_start, arcs_offset, given_length, initial_places, is_header_right}
+use Rattle.net.specs.Image.{place_count_of, transition_count, records_start, arcs_offset, given_length, initial_places, is_header_right}
 use Rattle.net.specs.Image.{inputs_start, outputs_start, outputs_end, inputs_at, outputs_at, record_right, are_records_right}
 use Rattle.net.specs.Inner.Arcs.{Header, decoded, Listed, Offsets}
 
@@ -205,6 +204,11 @@ was-right w t f c e p =
 
 pub listed-for : (w : List ℕ) (f c n k : ℕ) → k ≡ n → Listed w f c n → Listed w f c k
 listed-for w f c n k e l = record { ordered = l.ordered; within = l.within; rising = ap (λ (x : ℕ). ascends x 0 (slice f c w)) e ∙ l.rising }
+
+-- both lists of a right record, for a marking of the places
+pub both_listed : (w : List ℕ) (t f c e k : ℕ) → Good w t f c e → k ≡ place_count_of w → Listed w f c k × Listed w c e k
+both_listed w t f c e k g l =
+    (listed-for w f c (place_count_of w) k l g.listed-inputs, listed-for w c e (place_count_of w) k l g.listed-outputs)
 
 -- ---- all records
 

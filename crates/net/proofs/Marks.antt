@@ -1,6 +1,6 @@
 -- Laws of tests and writes over listed places: what one turn of a loop over a part of the image does.
-use mathlib.Core.Path.{◌≡◌, refl, sym, ap, ◌∙◌}
-use mathlib.Core.Bool.{Bool, true, false, not, ◌&&◌, ◌||◌}
+use mathlib.Core.Path.{◌≡◌, refl, ap, ◌∙◌}
+use mathlib.Core.Bool.{Bool, true, false, ◌&&◌, ◌||◌}
 use mathlib.Core.List.{List, [], ◌∷◌}
 use Prim.Native.Nat.{ℕ, ◌+◌, ◌≤◌, ◌<◌}
 use native.Mathlib.Omega.{arith}
@@ -9,8 +9,8 @@ use lib.Dec.{leb, ltb}
 use lib.ListN.{length, get_or, set, drop, length-set}
 use lib.Seq.{slice}
 use borrow.Author.Tests.{le-leb, lt-leb, lt-ltb, le-ltb}
-use Rattle.lists.specs.Lists.{same, word, every, some, member, ascends}
-use Rattle.lists.proofs.Tests.{and-true, and-false, or-none, or-false, same-yes, same_self, same-no, same-sym}
+use Rattle.lists.specs.Lists.{same, every, some, member, ascends}
+use Rattle.lists.proofs.Tests.{and-true, and-false, or-none, same-yes, same_self, same-no, same-sym}
 use Rattle.lists.proofs.Slices.{slice-step, slice-none, drop-step, drop-none}
 use Rattle.lists.proofs.Ascending.{ascends-rest, not-below, rising-first}
 use Rattle.net.specs.Firing.{is_place_marked, is_enabled, has_contact, put}

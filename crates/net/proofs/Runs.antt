@@ -6,7 +6,7 @@ use mathlib.Core.List.{List, [], ◌∷◌, ◌++◌, append-nil}
 use Prim.Native.Nat.{ℕ, zero, suc, ◌+◌, ◌-◌, ◌≤◌, ◌<◌}
 use native.Mathlib.Numerals.{add-one}
 use native.Mathlib.Omega.{arith}
-use lib.ListN.{length, take, drop, set, length-append, length-set, take-append-drop}
+use lib.ListN.{length, take, drop, set, length-append, take-append-drop}
 use lib.Seq.{length-take-le, take-suc-set, append_snoc, drop-set-lt, drop-drop}
 use Rattle.lists.specs.Lists.{pick}
 use Rattle.net.specs.declared.Ran.{Ran}
@@ -233,6 +233,11 @@ leaves o a m m' h lent k e f g l d =
           ∙ ap (λ (x : List ℕ). x ++ drop k lent) (sym (ap (λ (r : RunOutcome). r.history) e ∙ append-nil (take k h)))
           ∙ ap (λ (x : ℕ). o.history ++ drop x lent) (sym q);
     }
+
+-- a run that ends in this turn
+pub leaves-ended : (o x : RunOutcome) (a : Ran) (m m' h lent : List ℕ) (k : ℕ) → o ≡ preceded (take k h) x → x ≡ ended (ending a.reason) m → a.firings ≡ k
+    → m' ≡ m → k ≤ length h → drop k h ≡ drop k lent → Leaves o a m' h lent
+leaves-ended o x a m m' h lent k d e f g l q = leaves o a m m' h lent k (d ∙ ap (preceded (take k h)) e) f g l q
 
 -- a run that is refused before its first turn, and one that is as another
 pub leaves-at-once : (o : RunOutcome) (a : Ran) (m lent : List ℕ) → o ≡ ended (ending a.reason) m → a.firings ≡ 0 → Leaves o a m lent lent

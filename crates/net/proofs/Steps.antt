@@ -5,13 +5,15 @@ use mathlib.Core.List.{List, [], ◌∷◌}
 use Prim.Native.Nat.{ℕ, ◌+◌, ◌≤◌, ◌<◌}
 use native.Mathlib.Nat.{zero-add}
 use native.Mathlib.Omega.{arith}
-use lib.Dec.{ltb, leb}
+use lib.Dec.{leb}
 use lib.ListN.{length, get_or, drop, replicate, length-replicate}
+use lib.Seq.{slice}
 use borrow.Author.Tests.{lt-ltb, le-ltb}
 use Rattle.lists.specs.Lists.{pick, same, every}
 use Rattle.lists.proofs.Tests.{and_left, same-yes, same-no, same_true}
 use Rattle.lists.proofs.Slices.{drop-step, drop-none}
 use Rattle.net.proofs.Marks.{length-put}
+use Rattle.net.proofs.Images.{Good}
 use Rattle.net.specs.declared.Cause.{Cause}
 use Rattle.net.specs.declared.Firing.{Firing}
 use Rattle.net.specs.declared.Firing.TheVariants.{Made, Refused}
@@ -49,6 +51,10 @@ module _ (w m : List ℕ) (t : ℕ) where
     pub step-as : record_right w t ≡ true → (ins outs : List ℕ) → ins ≡ inputs_at w t → outs ≡ outputs_at w t → step w m t ≡ step_of m ins outs
     unfolding step
     step-as a ins outs p q = rw (lt-ltb t (transition_count w), a, p, q)
+
+    -- by the arcs that were decoded
+    pub step-good : (f c e : ℕ) → Good w t f c e → step w m t ≡ step_of m (slice f c w) (slice c e w)
+    step-good f c e g = step-as g.right (slice f c w) (slice c e w) g.inputs g.outputs
 
   -- ---- a number at the head of those fired in turn
 
