@@ -1,20 +1,20 @@
 -- Laws of the small tests and functions that the proof of demand 3 uses throughout: changed functions, values that may be missing, spots,
 -- motions.
-use Prim.Native.Nat.{ℕ, zero, suc, ◌+◌, ◌-◌, ◌≤◌, ◌<◌}
-use mathlib.Core.Path.{◌≡◌, refl, sym, ap, ◌∙◌, subst}
+use Prim.Native.Nat.{ℕ}
+use mathlib.Core.Path.{◌≡◌, refl, sym, ◌∙◌}
 use mathlib.Core.Logic.{◌≢◌, ◌⊎◌, inl, inr}
-use mathlib.Core.Bool.{Bool, true, false, not, ◌&&◌, ◌||◌, true≢false, false≢true}
+use mathlib.Core.Bool.{Bool, true, false, ◌&&◌, ◌||◌, true≢false, false≢true}
 use mathlib.Core.Option.{Option, none, some}
 use mathlib.Core.List.{List, [], ◌∷◌, ◌++◌}
 use native.Mathlib.Omega.{arith}
 use Rattle.lists.specs.Lists as Lists
 use Rattle.lists.specs.Lists.{pick, same, member}
-use Rattle.lists.proofs.Tests.{not-true-false, and_left, and_right, and-false, and-true, or_cases, or_right, or-false, same_self, same_true, same-no}
+use Rattle.lists.proofs.Tests.{not-true-false, and_left, and_right, or_cases, or_right, same_self, same_true, same-no}
 use Rattle.lists.proofs.Members.{member-append, member-one}
 use Rattle.process.specs.States.{put}
 use Rattle.places.specs.Transitions.{Test, test}
 use Rattle.readback.specs.Configurations.{Spot, spot}
-use Rattle.fidelity.specs.Inner.Marks.{same_spot, holds, given, Motion, stay, pass, asks}
+use Rattle.fidelity.specs.Inner.Marks.{same_spot, holds, given, stay, pass, asks}
 
 -- ---- tests
 

@@ -1,12 +1,12 @@
 -- Four of the clauses of demand 3, over every list of calls: no call answers 16, each firing made is bookkeeping or an open step, open steps can be fired
 -- within B bookkeeping firings, and no more than 2B bookkeeping firings are in a row. The marking stands for the plain process's state.
 use Prim.Native.Nat.{ℕ, ◌*◌}
-use mathlib.Core.Path.{◌≡◌, refl, sym, ap, ◌∙◌, subst}
-use mathlib.Core.Bool.{Bool, true, false, not}
+use mathlib.Core.Path.{◌≡◌, refl, sym, subst}
+use mathlib.Core.Bool.{true, not}
 use mathlib.Core.List.{List, [], ◌∷◌, ◌++◌, map}
 use Rattle.lists.specs.Lists.{same, every}
 use Rattle.scheme.specs.Words.{bounds}
-use Rattle.scheme.specs.Scheme.{Scheme, scheme}
+use Rattle.scheme.specs.Scheme.{scheme}
 use Rattle.table.specs.Accepted.{Accepted}
 use Rattle.process.specs.States.{State, start, Renamed}
 use Rattle.process.specs.Steps.{Step, is_step_open}

@@ -1,14 +1,14 @@
 -- One firing, proved once over the commands: a description is enabled in the marking of a configuration exactly where it fits the configuration; firing
 -- it is safe, gives the marking of the next configuration, and keeps configurations well-formed.
 use Prim.Native.Nat.{ℕ, zero, suc, ◌+◌, ◌≤◌, ◌<◌}
-use mathlib.Core.Path.{◌≡◌, refl, sym, ap, ◌∙◌, subst}
+use mathlib.Core.Path.{◌≡◌, refl, sym, ◌∙◌}
 use mathlib.Core.Logic.{◌≢◌, ◌⊎◌, inl, inr}
 use mathlib.Core.Bool.{Bool, true, false, not, ◌&&◌, ◌||◌, true≢false, false≢true}
 use mathlib.Core.Option.{Option, none, some}
 use native.Mathlib.Decide.{ℕ_discrete, dec_le}
 use native.Mathlib.Omega.{arith}
 use Rattle.lists.specs.Lists.{same}
-use Rattle.lists.proofs.Tests.{not-true-false, and_left, and_right, and-false, and-true, or_cases, or_right, or-false, or-true, same_self, same_true, same-no}
+use Rattle.lists.proofs.Tests.{not-true-false, and_left, and_right, and-false, and-true, or_cases, or-false, or-true, same_self, same_true, same-no}
 use Rattle.scheme.specs.Scheme.{Scheme}
 use Rattle.process.specs.States.{put}
 use Rattle.places.specs.Values.{Values}
@@ -19,7 +19,7 @@ use Rattle.fidelity.specs.Inner.Marks.{same_spot, holds, given, Motion, stay, pa
 use Rattle.fidelity.specs.Inner.Marks.{is_held, motion, after, used, mark}
 use Rattle.fidelity.specs.Inner.Marks.{Suits, Fits, held_after, Untouched, Holding, allows, Exists, exists-equals, exists-differs, exists-free}
 use Rattle.fidelity.specs.Inner.Marks.{exists-control, Enabled, Safe}
-use Rattle.fidelity.specs.Inner.Marks.{WellFormed, Takes, Commands, Shaped}
+use Rattle.fidelity.specs.Inner.Marks.{WellFormed, Commands, Shaped}
 use Rattle.fidelity.proofs.Basics.{none-some, holds-eq, holds-some, holds_not, not-given, put_self, put_other, same_spot-self, same_spot-true, or-neither}
 
 -- ---- tests

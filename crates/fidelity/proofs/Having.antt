@@ -4,7 +4,6 @@ use mathlib.Core.Path.{◌≡◌, refl}
 use mathlib.Core.Logic.{◌⊎◌, inl, inr}
 use mathlib.Core.Bool.{Bool, true, false, ◌&&◌, false≢true}
 use mathlib.Core.List.{List, [], ◌∷◌}
-use Rattle.lists.specs.Lists as Lists
 use Rattle.lists.specs.Lists.{pick, same, keep}
 use Rattle.lists.proofs.Tests.{and_left, and_right, both_ways, same_self, same_true}
 use Rattle.scheme.specs.Scheme.{Scheme}
@@ -48,6 +47,7 @@ place_same (control a b) (control c d) h = let (x, y) = two-same a b c d h in rw
 module _ (f : Place → Bool) where
   pub element-keep : {p : Place} (ps : List Place) → Element p ps → f p ≡ true → Element p (keep f ps)
   unfolding keep
+  element-keep {p = p} [] x'' h = elim x'' [ ]
   element-keep (p ∷ ps) here h = rw h here
   element-keep {p} (q ∷ ps) (there e) h = go (f q) (element-keep ps e h)
     where

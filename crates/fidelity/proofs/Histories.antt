@@ -1,22 +1,20 @@
 -- Any list of calls on a built net: the marking is the one that the firings made give from the start, the plain process's state is the one that they
 -- give, and no call answers 16. So each firing made is bookkeeping or an open step, no more than 2B bookkeeping firings are in a row, the marking stands
 -- for the plain process's state, and each open step can be fired after at most B bookkeeping firings.
-use Prim.Native.Nat.{ℕ, zero, suc, ◌+◌, ◌-◌, ◌*◌, ◌≤◌, ◌<◌}
+use Prim.Native.Nat.{ℕ}
 use mathlib.Core.Path.{◌≡◌, refl, sym, ap, ◌∙◌, subst}
 use mathlib.Core.Logic.{◌⊎◌, inl, inr}
-use mathlib.Core.Bool.{Bool, true, false, not, ◌&&◌, ◌||◌}
+use mathlib.Core.Bool.{Bool, true, false, not}
 use mathlib.Core.List.{List, [], ◌∷◌, ◌++◌}
 use native.Mathlib.Omega.{arith}
 use lib.Dec.{ltb}
 use lib.ListN.{length, take}
 use lib.Seq.{take-length}
 use Rattle.lists.specs.Lists.{pick, same, every}
-use Rattle.lists.proofs.Tests.{same-no, same_self}
-use Rattle.scheme.specs.Scheme.{Scheme, scheme}
-use Rattle.scheme.specs.Words.{bounds}
+use Rattle.lists.proofs.Tests.{same-no}
+use Rattle.scheme.specs.Scheme.{scheme}
 use Rattle.table.specs.Accepted.{Accepted}
 use Rattle.process.specs.States.{State, start}
-use Rattle.process.specs.Steps.{Step, is_step_open}
 use Rattle.net.specs.Firing as Firing
 use Rattle.net.specs.Firing.{Outcome, outcome, RunOutcome, made, refused, step, in_turn, Search, lowest_enabled, settle_first, run_by, initial_marking, is_marking}
 use Rattle.net.specs.Image.{place_count_of, transition_count, is_header_right, are_records_right}
@@ -27,18 +25,14 @@ use Rattle.net.proofs.Built.{initial-is-marking, fire-built, replay-built, run-b
 use Rattle.summary.specs.Summary.{Summary, shares, worked_out}
 use Rattle.summary.specs.Calls as Keeping
 use Rattle.summary.specs.Calls.{are_lengths_right, KeepOutcome, keeps}
-use Rattle.places.specs.Image.{net_of, image_of}
-use Rattle.readback.specs.Configurations.{Configuration}
-use Rattle.fidelity.specs.Calls.{Call, fire, fire_with, run, run_of_lowest, replay, Answer, Plain, of_outcome, from_run, ending_cause, advances, begun}
-use Rattle.fidelity.specs.Calls.{makes, hears, leaves_all, World, called_on, after, world}
-use Rattle.fidelity.specs.Demand.{lawful, rows_within}
+use Rattle.fidelity.specs.Calls.{Call, fire, fire_with, run, run_of_lowest, replay, Answer, of_outcome, from_run, ending_cause, advances, begun}
+use Rattle.fidelity.specs.Calls.{makes, leaves_all, World, called_on, after, world}
 use Rattle.fidelity.specs.Inner.Standing.{marking_of, Stands}
 use Rattle.fidelity.specs.Inner.Starting.{start_configuration}
 use Rattle.fidelity.proofs.Rows.{left-bound}
 use Rattle.fidelity.proofs.Starting.{start-shows}
 use Rattle.fidelity.proofs.Built as Built
 use Rattle.fidelity.proofs.Turns.{image, S, U, E, image-is, Kept, Acts, goes, stops, turns}
-use Rattle.fidelity.proofs.Waiting.{can-fire}
 use Rattle.fidelity.proofs.Worlds.{Calm, calm-16, calm-leaves, every-snoc, net, Standing, act, turn-calm, Joined, joined, advances-append}
 use Rattle.fidelity.proofs.Worlds.{run-calm}
 use Rattle.fidelity.proofs.Searching.{Sound, settles-sound, lowest-sound}

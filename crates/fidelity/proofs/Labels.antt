@@ -1,9 +1,9 @@
 -- The labels of descriptions name their steps, and what the plain process does at each.
-use Prim.Native.Nat.{ℕ, suc}
-use mathlib.Core.Path.{◌≡◌, refl, sym, ◌∙◌}
+use Prim.Native.Nat.{ℕ}
+use mathlib.Core.Path.{◌≡◌}
 use mathlib.Core.Logic.{◌≢◌}
-use mathlib.Core.Bool.{Bool, true, false, not, ◌&&◌}
-use Rattle.lists.specs.Lists.{pick, same}
+use mathlib.Core.Bool.{true, not}
+use Rattle.lists.specs.Lists.{same}
 use Rattle.lists.proofs.Tests.{same_self, same-no, pick_true}
 use Rattle.scheme.specs.Scheme.{Scheme, new, call, silent, send, receive}
 use Rattle.process.specs.States.{State}

@@ -1,15 +1,14 @@
 -- One firing on bytes and numbers: inputs and outputs are positions in the list of places, so what holds of places holds of numbers.
-use Prim.Native.Nat.{ℕ, zero, suc, ◌+◌, ◌-◌, ◌≤◌, ◌<◌}
-use mathlib.Core.Path.{◌≡◌, refl, sym, ap, ◌∙◌}
-use mathlib.Core.Logic.{◌≢◌, ◌⊎◌, inl, inr}
-use mathlib.Core.Bool.{Bool, true, false, not, ◌&&◌, ◌||◌, true≢false, false≢true}
-use mathlib.Core.List.{List, [], ◌∷◌, map}
+use Prim.Native.Nat.{ℕ, ◌<◌}
+use mathlib.Core.Path.{◌≡◌, refl, sym, ◌∙◌}
+use mathlib.Core.Bool.{Bool, true, false, not, ◌&&◌, true≢false, false≢true}
+use mathlib.Core.List.{List}
 use native.Mathlib.Omega.{arith}
 use lib.ListN.{length, get_or, replicate, length-map, length-replicate, get_or-replicate}
 use lib.Seq.{ext_get_or}
 use Rattle.lists.specs.Lists as Lists
 use Rattle.lists.specs.Lists.{bit, same, member, positions, every}
-use Rattle.lists.proofs.Tests.{not-true-false, and_left, and_right, and-true, and-false, same_self, same_true, same-yes}
+use Rattle.lists.proofs.Tests.{not-true-false, and_left, and_right, and-true, and-false, same_true, same-yes}
 use Rattle.lists.proofs.Ranges.{every-member, member-every}
 use Rattle.scheme.specs.Scheme.{Scheme}
 use Rattle.table.specs.Accepted.{Accepted}
@@ -24,7 +23,7 @@ use Rattle.fidelity.specs.Inner.Marks.{fired, after, mark, Fits, Exists, Enabled
 use Rattle.fidelity.specs.Inner.Standing.{marking_of}
 use Rattle.fidelity.specs.Inner.Starting.{start_configuration}
 use Rattle.fidelity.proofs.Elements.{element-at, element-position, some-element, element-member}
-use Rattle.fidelity.proofs.Firing.{fires, safe}
+use Rattle.fidelity.proofs.Firing.{fires}
 use Rattle.fidelity.proofs.Positions.{position_at, positions-below, put_in, put-out, get_or-mapped}
 use Rattle.fidelity.proofs.Places.{listed-exists, exists-listed}
 use Rattle.fidelity.proofs.Starting.{initial-marks}

@@ -2,10 +2,10 @@
 use Prim.Native.Nat.{ℕ}
 use mathlib.Core.Path.{◌≡◌, refl, sym, ◌∙◌}
 use mathlib.Core.Logic.{◌≢◌}
-use mathlib.Core.Bool.{Bool, true, false, not, ◌&&◌, true≢false, false≢true}
+use mathlib.Core.Bool.{true, not, ◌&&◌, true≢false, false≢true}
 use mathlib.Core.Option.{Option, none, some}
 use Rattle.lists.specs.Lists.{same}
-use Rattle.lists.proofs.Tests.{and_left, and_right, and_intro, same_self, same_true, same-yes, same-no}
+use Rattle.lists.proofs.Tests.{and_left, and_right, same_self, same_true, same-yes, same-no}
 use Rattle.scheme.specs.Scheme.{Scheme, Node, stop, choice, new, call, Branch, absent, silent, send, receive}
 use Rattle.scheme.specs.Kinds.{is_new, is_call_node, is_silent}
 use Rattle.process.specs.States.{State, is_one_value}

@@ -1,18 +1,16 @@
 -- Positions at which a test holds, and bytes put there.
-use Prim.Native.Nat.{ℕ, zero, suc, ◌+◌, ◌-◌, ◌≤◌, ◌<◌}
-use mathlib.Core.Path.{◌≡◌, refl, sym, ap, ◌∙◌}
-use mathlib.Core.Logic.{◌≢◌, ◌⊎◌, inl, inr}
-use mathlib.Core.Bool.{Bool, true, false, not, ◌&&◌, ◌||◌, true≢false, false≢true}
+use Prim.Native.Nat.{ℕ, zero, suc, ◌+◌, ◌≤◌, ◌<◌}
+use mathlib.Core.Path.{◌≡◌, refl, sym, ◌∙◌}
+use mathlib.Core.Logic.{◌⊎◌, inl, inr}
+use mathlib.Core.Bool.{Bool, true, false, true≢false}
 use mathlib.Core.List.{List, [], ◌∷◌, map}
 use native.Mathlib.Omega.{arith}
 use native.Mathlib.Nat.{not-suc-le-zero, le_of_suc-le-suc}
-use lib.Dec.{ltb, leb}
 use lib.ListN.{length, get_or, set, length-set}
 use lib.Seq.{get_or-set_same, get_or-set_other}
 use borrow.Author.Tests.{lt-ltb, le-leb}
-use Rattle.lists.specs.Lists as Lists
-use Rattle.lists.specs.Lists.{pick, same, member, positions_from, positions, ascends}
-use Rattle.lists.proofs.Tests.{not-true-false, and_left, and_right, and_intro, or_cases, or-none, same_self, same_true, same-no, same_false}
+use Rattle.lists.specs.Lists.{pick, member, positions_from, positions, ascends}
+use Rattle.lists.proofs.Tests.{not-true-false}
 use Rattle.lists.proofs.Members.{member-here, member-there, member-cases, member-nil, member-not, not-member}
 use Rattle.net.specs.Firing.{put}
 

@@ -1,16 +1,15 @@
 -- Reading a configuration's marking: the values of a bound name among the marked places are its value alone, and the spots of a thread its spot alone.
-use Prim.Native.Nat.{ℕ, zero, suc, ◌+◌, ◌-◌, ◌≤◌, ◌<◌}
+use Prim.Native.Nat.{ℕ, ◌+◌, ◌≤◌, ◌<◌}
 use mathlib.Core.Path.{◌≡◌, refl, sym, ap, ◌∙◌, fun_ext}
 use mathlib.Core.Logic.{◌≢◌, ◌⊎◌, inl, inr}
-use mathlib.Core.Bool.{Bool, true, false, not, ◌&&◌, ◌||◌, true≢false, false≢true}
+use mathlib.Core.Bool.{Bool, true, false}
 use mathlib.Core.Option.{Option, none, some}
-use mathlib.Core.List.{List, [], ◌∷◌, ◌++◌, map, append-nil}
+use mathlib.Core.List.{List, [], ◌∷◌, map, append-nil}
 use native.Mathlib.Decide.{ℕ_discrete}
-use native.Mathlib.Omega.{arith}
 use lib.Dec.{ltb}
 use borrow.Author.Tests.{ltb-true}
-use Rattle.lists.specs.Lists.{pick, same, from, range, keep, flat, member, Distinct}
-use Rattle.lists.proofs.Tests.{and_left, and_right, and-false, same_self, same-no, same_true, not-true-false}
+use Rattle.lists.specs.Lists.{pick, from, range, keep, flat, Distinct}
+use Rattle.lists.proofs.Tests.{and_left, and_right, same_self, same-no, not-true-false}
 use Rattle.lists.proofs.Ranges.{member-from}
 use Rattle.lists.proofs.Members.{distinct_from, distinct-keep, distinct-one}
 use Rattle.scheme.specs.Scheme.{Scheme}
@@ -19,7 +18,7 @@ use Rattle.places.specs.Values.{Values, values_of, private_value_list, private_v
 use Rattle.places.specs.Places.{Place, equals, differs, free, control, controls, control_places, row, rows, places}
 use Rattle.readback.specs.Configurations.{Spot, spot, Configuration, is_spot}
 use Rattle.readback.specs.Reading.{marked, spot_list, values_in, spots, values}
-use Rattle.fidelity.specs.Inner.Elements.{Element, here, there}
+use Rattle.fidelity.specs.Inner.Elements.{Element}
 use Rattle.fidelity.specs.Inner.Marks.{holds, mark, WellFormed}
 use Rattle.fidelity.specs.Inner.Standing.{marking_of}
 use Rattle.fidelity.proofs.Basics.{same_spot-true}

@@ -1,10 +1,10 @@
 -- What a firing does to the state that a configuration shows: bookkeeping keeps it, and every other description takes the step of the process.
-use Prim.Native.Nat.{ℕ, zero, suc, ◌+◌, ◌-◌, ◌≤◌, ◌<◌}
-use mathlib.Core.Path.{◌≡◌, refl, sym, ap, ◌∙◌, subst}
+use Prim.Native.Nat.{ℕ, zero, suc, ◌+◌, ◌≤◌, ◌<◌}
+use mathlib.Core.Path.{◌≡◌, refl, sym, ◌∙◌}
 use mathlib.Core.Logic.{◌≢◌, ◌⊎◌, inl, inr}
-use mathlib.Core.Bool.{Bool, true, false, not, ◌&&◌, ◌||◌, true≢false, false≢true}
+use mathlib.Core.Bool.{Bool, true, false, ◌||◌, true≢false}
 use mathlib.Core.Option.{Option, none, some}
-use mathlib.Core.List.{List, [], ◌∷◌, ◌++◌}
+use mathlib.Core.List.{List, [], ◌∷◌}
 use native.Mathlib.Decide.{ℕ_discrete, dec_le}
 use native.Mathlib.Omega.{arith}
 use lib.Dec.{ltb}
@@ -20,9 +20,9 @@ use Rattle.table.specs.Accepted.{NameOf, Accepted}
 use Rattle.process.specs.States.{put, value_of}
 use Rattle.process.specs.Steps.{passed, arrived, called, received}
 use Rattle.places.specs.Values.{Values}
-use Rattle.places.specs.Transitions.{test, Command, skip, take as taking, release, Description, making, communicating}
-use Rattle.readback.specs.Configurations.{Spot, spot, Configuration, name_shown_at, shown_name}
-use Rattle.fidelity.specs.Inner.Marks.{given, Motion, stay, pass, ends, edit, thread_of, is_held, motion, after, Fits, Untouched, WellFormed, Shaped}
+use Rattle.places.specs.Transitions.{test, release, Description, making, communicating}
+use Rattle.readback.specs.Configurations.{Spot, spot, Configuration, name_shown_at}
+use Rattle.fidelity.specs.Inner.Marks.{given, Motion, stay, pass, edit, thread_of, is_held, motion, after, Fits, Untouched, WellFormed, Shaped}
 use Rattle.fidelity.specs.Inner.Shapes.{single, pair, chain, onward, entering, copying_at, releasing_at, ending, going_by}
 use Rattle.fidelity.specs.Inner.Standing.{source, shown}
 use Rattle.fidelity.proofs.Basics.{none-some, not-given, put_self, put_other, member-snoc, pass-from, pass-to, stay-pass, asks-here, asks-there}

@@ -11,7 +11,6 @@ use lib.Dec.{ltb, leb}
 use lib.ListN.{length, get_or, take, drop}
 use lib.Seq.{ext_get_or}
 use borrow.Author.Tests.{lt-ltb, le-ltb, leb-true, ltb-true}
-use Rattle.lists.specs.Lists as Lists
 use Rattle.lists.specs.Lists.{pick, bit, same, from, range, every, keep, member}
 use Rattle.lists.proofs.Tests.{both_ways, and_left, and_right, and_intro, not-true-false, same_self, same_true}
 use Rattle.lists.proofs.Ranges.{every-at, every-below, every-member, member-from}

@@ -1,13 +1,13 @@
 -- Facts of an accepted table in the forms that the proof of demand 3 uses: for a silent branch, a send and a receive apart, and for called definitions.
-use Prim.Native.Nat.{ℕ, zero, suc, ◌+◌, ◌-◌, ◌≤◌, ◌<◌}
-use mathlib.Core.Path.{◌≡◌, refl, sym, ap, ◌∙◌}
+use Prim.Native.Nat.{ℕ, ◌+◌, ◌≤◌, ◌<◌}
+use mathlib.Core.Path.{◌≡◌}
 use mathlib.Core.Logic.{◌⊎◌, inl, inr}
-use mathlib.Core.Bool.{Bool, true, false}
-use mathlib.Core.List.{List, [], ◌∷◌, ◌++◌, append-nil}
+use mathlib.Core.Bool.{true}
+use mathlib.Core.List.{[], ◌∷◌, ◌++◌, append-nil}
 use native.Mathlib.Decide.{dec_le}
 use native.Mathlib.Omega.{arith}
-use Rattle.lists.specs.Lists.{member, Distinct}
-use Rattle.scheme.specs.Scheme.{Scheme, choice, call, silent, send, receive, present, next_node, binds}
+use Rattle.lists.specs.Lists.{member}
+use Rattle.scheme.specs.Scheme.{Scheme, choice, call, silent, send, receive, present}
 use Rattle.table.specs.Accepted.{NameOf, Usable, Chosen, Accepted}
 
 module _ (S : Scheme) (A : Accepted S) where

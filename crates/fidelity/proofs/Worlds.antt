@@ -1,33 +1,27 @@
 -- Any list of calls on a built net: the marking is the one that the plain process's firings give from the start, and no call answers 16.
-use Prim.Native.Nat.{ℕ, zero, suc, ◌+◌, ◌-◌, ◌*◌, ◌≤◌, ◌<◌}
+use Prim.Native.Nat.{ℕ, zero, suc}
 use mathlib.Core.Path.{◌≡◌, refl, sym, ap, ◌∙◌, subst}
-use mathlib.Core.Logic.{◌≢◌, ◌⊎◌, inl, inr}
-use mathlib.Core.Bool.{Bool, true, false, not, ◌&&◌, ◌||◌, true≢false, false≢true}
+use mathlib.Core.Logic.{◌⊎◌, inl, inr}
+use mathlib.Core.Bool.{Bool, true, false, not, ◌&&◌}
 use mathlib.Core.List.{List, [], ◌∷◌, ◌++◌}
 use native.Mathlib.Omega.{arith}
-use lib.ListN.{length, take}
-use lib.Seq.{take-length}
-use Rattle.lists.specs.Lists.{pick, same, every}
-use Rattle.lists.proofs.Tests.{and-true, same-no, same_self}
-use Rattle.scheme.specs.Scheme.{Scheme, scheme}
+use Rattle.lists.specs.Lists.{same, every}
+use Rattle.lists.proofs.Tests.{same-no}
+use Rattle.scheme.specs.Scheme.{scheme}
 use Rattle.table.specs.Accepted.{Accepted}
-use Rattle.process.specs.States.{State, start}
+use Rattle.process.specs.States.{State}
 use Rattle.net.specs.Firing as Firing
 use Rattle.net.specs.Firing.{Outcome, outcome, RunOutcome, Search, lowest, Step, made, refused, step, in_turn, run_by, initial_marking, is_marking}
-use Rattle.net.specs.Net.{Net, encode}
-use Rattle.net.proofs.Steps.{turn-made, turn-refused, turn_last, marking-length}
-use Rattle.net.proofs.Outcomes.{turn-first, turn-keeps, run-cases, run-in-turn, run-count}
-use Rattle.net.proofs.Built.{initial-is-marking, fire-built, replay-built, run-built}
-use Rattle.places.specs.Image.{net_of, image_of}
+use Rattle.net.specs.Net.{Net}
+use Rattle.net.proofs.Steps.{turn-made, turn-refused}
+use Rattle.net.proofs.Outcomes.{run-cases}
 use Rattle.readback.specs.Configurations.{Configuration}
 use Rattle.fidelity.specs.Calls.{ending_cause, advance, advances, leaves_all}
 use Rattle.fidelity.specs.Inner.Standing.{Shows, marking_of}
-use Rattle.fidelity.specs.Inner.Starting.{start_configuration}
 use Rattle.fidelity.proofs.Searching.{Sound}
 use Rattle.fidelity.proofs.Rows.{left-bound}
-use Rattle.fidelity.proofs.Starting.{start-shows}
 use Rattle.fidelity.proofs.Built as Built
-use Rattle.fidelity.proofs.Turns.{image, S, U, E, image-is, Kept, Acts, goes, stops, acts, turns}
+use Rattle.fidelity.proofs.Turns.{image, S, U, E, Acts, goes, stops, acts}
 
 -- a cause that a number on a built net has
 abbrev pub Calm : ℕ → Type 0
