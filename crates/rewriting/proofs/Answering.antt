@@ -193,7 +193,7 @@ module _ (R S : Scheme) (A : Accepted R) (node branch name definition : ℕ → 
 
     -- the branch that reads as b
     branch-said : (b : ℕ) → Lifted b → S.branch b ≡ read_branch node name (R.branch (lift_branch b))
-    branch-said b L = sym (ap S.branch L.is) ∙ M.Branch-read (lift_branch b) L.there
+    branch-said b L = sym (ap S.branch L.is) ∙ M.branch_read (lift_branch b) L.there
 
     silent-kind : (β : Branch) → is_silent (read_branch node name β) ≡ is_silent β
     silent-kind absent = refl

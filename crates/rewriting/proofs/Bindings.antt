@@ -11,8 +11,6 @@ use Rattle.lists.proofs.Ranges.{from_member, every-at, every-all}
 use Rattle.scheme.specs.Words.{publics, bounds, definitions, nodes, branches, names, name_kind_of, formals, node_first, is_new, branch_name, is_silent, is_receive}
 use Rattle.scheme.specs.Owners.{definition}
 use Rattle.table.proofs.Inside
-use Rattle.table.proofs.Owned
-use Rattle.table.proofs.Uses
 use Rattle.process.specs.StateWords.{place}
 use Rattle.rewriting.specs.Rewriting.{is_self_calling, copied, appended, name_copies, node_copies, branch_copies, name_definition_of, branch_definition, copy_name_of}
 use Rattle.rewriting.specs.Rewriting.{copy_node_of, rewritten}
@@ -30,7 +28,6 @@ use Rattle.lists.proofs.Members.{member-nil, one-member, flat-member, member-kee
 use Rattle.table.specs.Causes.{new_names, received_names, formal_names, bound_right, is_binding_right}
 use Rattle.lists.specs.Lists.{bit}
 use Rattle.table.proofs.Binders
-use Rattle.table.proofs.Trees
 
 module _ (w : List ℕ) (p : Sound w) where
   abbrev new_at : ℕ → List ℕ

@@ -18,7 +18,6 @@ use Rattle.scheme.specs.Owners.{definition}
 use Rattle.table.specs.Causes.{is_name_kind_right, are_formals_zero, is_call_zero, is_node_kind_right, is_branch_kind_right, are_kinds_right}
 use Rattle.table.proofs.Inside
 use Rattle.table.proofs.Owned
-use Rattle.table.proofs.Uses
 use Rattle.table.proofs.Uses.{Usable}
 use Rattle.table.proofs.Consecutive.{In, range-covers}
 use Rattle.rewriting.specs.Rewriting.{is_self_calling, copied, caller, appended, name_copies, node_copies, branch_copies, argument_copies, name_definition_of}

@@ -11,7 +11,7 @@ use borrow.Author.Tests.{lt-ltb}
 use Rattle.lists.specs.Lists.{pick, same, word, range, member}
 use Rattle.lists.proofs.Tests.{true-or-false, same-yes, same-no, same_true}
 use Rattle.lists.proofs.Members.{member-map}
-use Rattle.scheme.specs.Words.{publics, definitions, threads, nodes, branches, arguments, names, root, formals, entry, node_kind, node_first, node_second}
+use Rattle.scheme.specs.Words.{publics, definitions, threads, nodes, branches, names, root, formals, entry, node_kind, node_first, node_second}
 use Rattle.scheme.specs.Words.{is_choice, is_call_node, branch_kind, channel, branch_name, next, is_silent, is_receive, arguments_of}
 use Rattle.scheme.specs.Owners.{home, definition, held}
 use Rattle.table.specs.Inner.Shaped.{BranchOf}

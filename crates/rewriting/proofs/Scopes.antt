@@ -29,10 +29,9 @@ use Rattle.rewriting.proofs.Insides
 use Rattle.rewriting.proofs.Spans
 use Rattle.lists.proofs.Members.{map-member}
 use Rattle.table.specs.Causes.{is_shape_right}
-use Rattle.table.proofs.Binders
 use Rattle.rewriting.proofs.Shapes
 use Rattle.rewriting.proofs.Bindings
-use Rattle.scheme.specs.Owners.{binds_of, thread}
+use Rattle.scheme.specs.Owners.{binds_of}
 use Rattle.table.specs.Causes.{usable, is_branch_scoped, is_node_scoped, is_scope_right, is_entry_right, call_right_in, is_call_right, are_calls_right, are_counts_right, first_failed}
 use Rattle.table.specs.Causes.{cause_sparing, cause}
 use Rattle.table.proofs.Decoded

@@ -18,7 +18,6 @@ use Rattle.table.specs.Causes.{consecutive}
 use Rattle.table.specs.Inner.Shaped.{BranchOf}
 use Rattle.table.proofs.Inside
 use Rattle.table.proofs.Owned
-use Rattle.table.proofs.Uses
 use Rattle.process.specs.StateWords.{place}
 use Rattle.rewriting.specs.Rewriting.{is_self_calling, copied, caller, appended, node_copies, branch_copies, argument_copies, branch_definition}
 use Rattle.rewriting.specs.Rewriting.{argument_definition, copy_node_of, copy_branch_of, rewritten}

@@ -14,8 +14,6 @@ use Rattle.scheme.specs.Words.{publics, definitions, nodes, names, first_formal,
 use Rattle.scheme.specs.Words.{argument, arguments_of, argument_count_of}
 use Rattle.scheme.specs.Owners.{definition}
 use Rattle.table.proofs.Inside
-use Rattle.table.proofs.Owned
-use Rattle.table.proofs.Uses
 use Rattle.process.specs.StateWords.{place}
 use Rattle.rewriting.specs.Rewriting.{copied, appended, name_copies, node_copies, branch_copies, argument_copies, copy_name_of, copy_definition_of, copy_node_of}
 use Rattle.rewriting.specs.Rewriting.{copy_branch_of, copy_argument_of, rewritten}

@@ -7,20 +7,9 @@ use Prim.Native.Nat.{ℕ}
 use native.Mathlib.Omega.{arith}
 use Rattle.lists.specs.Lists.{pick, same, word}
 use Rattle.lists.proofs.Tests.{true-or-false, same_true, same_false}
-use Rattle.table.proofs.Inside
-use Rattle.table.proofs.Owned
-use Rattle.table.proofs.Uses
 use Rattle.rewriting.specs.Rewriting.{copied, rewritten}
-use Rattle.rewriting.proofs.Reading
 use Rattle.rewriting.proofs.Family
-use Rattle.rewriting.proofs.Fields
-use Rattle.rewriting.proofs.Insides
-use Rattle.rewriting.proofs.Spans
-use Rattle.table.proofs.Binders
-use Rattle.rewriting.proofs.Shapes
-use Rattle.rewriting.proofs.Bindings
 use Rattle.table.specs.Causes.{are_counts_right, cause_sparing, cause}
-use Rattle.table.proofs.Decoded
 use Rattle.rewriting.proofs.Scopes
 use Rattle.rewriting.proofs.Following.{Reads}
 use Rattle.rewriting.proofs.Answering.{OpenReading, open-reading, same-sequences, label-read}
@@ -32,7 +21,6 @@ use Rattle.rewriting.specs.Sequences.{open_in_turn, take_steps, read_step, Rewri
 use Rattle.scheme.specs.Scheme.{scheme}
 use Rattle.table.specs.Accepted.{Accepted}
 use Rattle.table.proofs.Accepted.{accepted}
-use Rattle.table.proofs.Trees
 use Rattle.rewriting.proofs.Origins.{reads, definition_origins}
 use Rattle.rewriting.proofs.Unchanged
 

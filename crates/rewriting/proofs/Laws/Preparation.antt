@@ -64,10 +64,10 @@ module _ (w list : List ℕ) (copies counts : Counts) (R : Rows w list copies) (
   all-definitions = S.all-definitions ∙ rw R.definition-row.count-is (sym (Reading.definitions-new w))
 
   all-nodes : counts.nodes ≡ nodes (rewritten w)
-  all-nodes = S.all-nodes ∙ rw R.Node-row.count-is (sym (Reading.nodes-new w))
+  all-nodes = S.all-nodes ∙ rw R.node_row.count-is (sym (Reading.nodes-new w))
 
   all-branches : counts.branches ≡ branches (rewritten w)
-  all-branches = S.all-branches ∙ rw R.Branch-row.count-is (sym (Reading.branches-new w))
+  all-branches = S.all-branches ∙ rw R.branch_row.count-is (sym (Reading.branches-new w))
 
   all-arguments : counts.arguments ≡ arguments (rewritten w)
   all-arguments = S.all-arguments ∙ rw R.argument-row.count-is (sym (Reading.arguments-new w))
@@ -116,14 +116,14 @@ module _ (w list : List ℕ) (copies counts : Counts) (R : Rows w list copies) (
   unfolding size_with
   size_is =
       rw (S.all-names, S.all-definitions, S.all-nodes, S.all-branches, S.all-arguments, R.name-row.count-is, R.definition-row.count-is)
-      (rw (R.Node-row.count-is, R.Branch-row.count-is, R.argument-row.count-is) (sym (Reading.whole_length w)))
+      (rw (R.node_row.count-is, R.branch_row.count-is, R.argument-row.count-is) (sym (Reading.whole_length w)))
 
 pub few-copies : (w list : List ℕ) (copies : Counts) → Rows w list copies → Few copies
 few-copies w list copies R = record {
   few-definitions = R.definition-row.few;
   few-names = R.name-row.few;
-  few-nodes = R.Node-row.few;
-  few-branches = R.Branch-row.few;
+  few-nodes = R.node_row.few;
+  few-branches = R.branch_row.few;
   few-arguments = R.argument-row.few;
 }
 
@@ -195,11 +195,11 @@ module _ (list : List ℕ) (old first count number : ℕ) (reach : first + count
 module _ (w list : List ℕ) (copies : Counts) (R : Rows w list copies) (old : ℕ) where
   pub node-origins : old ≡ nodes w → range old ++ slice 512 (512 + copies.nodes) list ≡ node_origins w
   unfolding node_origins
-  node-origins e = rw (e, R.Node-row.listed)
+  node-origins e = rw (e, R.node_row.listed)
 
   pub branch-origins : old ≡ branches w → range old ++ slice 768 (768 + copies.branches) list ≡ branch_origins w
   unfolding branch_origins
-  branch-origins e = rw (e, R.Branch-row.listed)
+  branch-origins e = rw (e, R.branch_row.listed)
 
   pub name-origins : old ≡ names w → range old ++ slice 256 (256 + copies.names) list ≡ name_origins w
   unfolding name_origins

@@ -22,7 +22,6 @@ use Rattle.process.proofs.Listed.{listed-length}
 use Rattle.rewriting.specs.Rewriting.{is_self_calling, copied, name_definition_of, appended, name_copies, node_copies, branch_copies, argument_copies}
 use Rattle.rewriting.specs.Inner.Belonging.{Bodies, NamesBelong}
 use Rattle.rewriting.specs.Inner.Copying.{called_by_itself, Marked, grouped, Row, Rows}
-use Rattle.rewriting.proofs.Family
 use Rattle.rewriting.proofs.Family.{Sound, sound, copied-distinct, copied-inside, names-distinct, nodes-distinct, branches-distinct, arguments-distinct}
 use Rattle.rewriting.proofs.Family.{name_of, node_of, branch-of, argument-of}
 use Rattle.rewriting.proofs.Laws.Marks.{self-call}

@@ -47,8 +47,8 @@ header_is w list copies counts R S =
       S.all-arguments,
       R.name-row.count-is,
       R.definition-row.count-is,
-      R.Node-row.count-is,
-      R.Branch-row.count-is,
+      R.node_row.count-is,
+      R.branch_row.count-is,
       R.argument-row.count-is,
     )
 
@@ -152,7 +152,7 @@ module _ (w list : List ℕ) (copies : Counts) (R : Rows w list copies) where
   pub bodies-listed : (out one after : List ℕ) (a b r : ℕ) → Listed 262144 (flat (node_words w) (range (nodes w))) out a one b
       → Listed 1024 (flat (copy_words w Nodes) (slice 512 (512 + copies.nodes) list)) one b after r → Listed 263168 (node_part w) out a after r
   bodies-listed out one after a b r A B =
-      section w list (node_copies w) _ (node_part w) (copy_words w Nodes) 512 copies.nodes R.Node-row nodes-stay out one after a b r A B
+      section w list (node_copies w) _ (node_part w) (copy_words w Nodes) 512 copies.nodes R.node_row nodes-stay out one after a b r A B
 
   pub back-listed : (s1 n1 s2 n2 : ℕ) → s1 ≡ word w 11 → n1 ≡ branches w → s2 ≡ word w 12 → n2 ≡ arguments w → (out o1 o2 o3 after : List ℕ)
       (r0 r1 r2 r3 r : ℕ) → Listed 262144 (map (word w) (from s1 (4 * n1))) out r0 o1 r1
@@ -163,7 +163,7 @@ module _ (w list : List ℕ) (copies : Counts) (R : Rows w list copies) where
   unfolding back_words
   back-listed s1 n1 s2 n2 e1 f1 e2 f2 out o1 o2 o3 after r0 r1 r2 r3 r C D E F =
       let b =
-      section w list (branch_copies w) _ (branch_part w) (copy_words w Branches) 768 copies.branches R.Branch-row (branches-stay w s1 n1 e1 f1)
+      section w list (branch_copies w) _ (branch_part w) (copy_words w Branches) 768 copies.branches R.branch_row (branches-stay w s1 n1 e1 f1)
       _ _ _ _ _ _ C D in
       let a =
       section w list (argument_copies w) _ (argument_part w) (copy_words w Arguments) 1024 copies.arguments R.argument-row

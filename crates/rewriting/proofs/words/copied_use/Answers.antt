@@ -1,0 +1,14 @@
+use mathlib.Core.Path.{refl}
+use borrow.Author.Tests.{eq-eqb, ne_eqb}
+use Rattle.lists.specs.Lists.{same}
+use Rattle.rewriting.specs.Inner.Writing.{copied_use_of}
+use Rattle.rewriting.proofs.words.copied_use.Goals as goal
+
+pub returns-then-field4-eq0 : goal.returns-then-field4-eq0
+unfolding copied_use_of same
+returns-then-field4-eq0 c =
+    rw (← c.field4.ensures.is, eq-eqb _ _ c.if-field4-eq0.true) record { is = refl; small = c.requires.1 }
+
+pub returns : goal.returns
+unfolding copied_use_of same
+returns c = rw (← c.field4.ensures.is, ne_eqb _ _ c.if-field4-eq0.false) c.copy_name.ensures
