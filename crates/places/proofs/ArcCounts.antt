@@ -156,6 +156,7 @@ module _ (S : Scheme) (ok : Accepted S) where
       where
         apart : exists S U (equals a v) ≡ true → Memᴰ (equals a v) (differs f v ∷ []) → ⊥
         apart e (Memᴰ.head q) = let z : ◌≡◌ {A = ℕ} 0 1 = cc in omega arith
+        apart e (Memᴰ.tail m) = elim m [ ]
 
     pub copy-outputs : length (outputs (copying S U n m k f a v)) ≡ 2 + bit (leb S.publics a)
     copy-outputs =
@@ -173,6 +174,7 @@ module _ (S : Scheme) (ok : Accepted S) where
       where
         apart : exists S U (equals a v) ≡ true → Memᴰ (equals a v) (equals f v ∷ []) → ⊥
         apart e (Memᴰ.head q) = d (cc)
+        apart e (Memᴰ.tail m) = elim m [ ]
 
   -- ---- New
 

@@ -24,6 +24,7 @@ selves : (a b : ℕ) → (same a a && same b b) ≡ true
 selves a b = rw (same_self a, same_self b)
 
 one_in : {A : Type 0} (x y : A) → Memᴰ x (y ∷ []) → x ≡ y
+one_in {A = A} x y (Memᴰ.tail x5) = elim x5 [ ]
 one_in x y (Memᴰ.head e) = e
 
 module _ (S : Scheme) (U : Values) where

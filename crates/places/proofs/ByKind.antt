@@ -1,5 +1,5 @@
 -- Arcs by kind: which named places the net has, the places of a move, and the long lists of a New.
-use Rattle.std.proofs.Common.{◌≡◌, ℕ, zero, suc, ◌+◌, ◌-◌, ◌<◌, ◌≤◌, Bool, true, false, not, ◌&&◌, ltb, leb, List, [], ◌∷◌, ◌++◌, map, sym, refl, ap, ◌∙◌, arith, le-ltb, lt-ltb}
+use Rattle.std.proofs.Common.{◌≡◌, ℕ, zero, suc, ◌+◌, ◌-◌, ◌<◌, ◌≤◌, Bool, true, false, not, ◌&&◌, ltb, leb, List, [], ◌∷◌, ◌++◌, map, sym, refl, ap, subst, ◌∙◌, arith, le-ltb, lt-ltb}
 use borrow.Author.Tests.{lt-leb}
 use Rattle.lists.specs.Lists.{pick, from, range, keep, member, ascends}
 use Rattle.lists.proofs.Tests.{and_left, and_right, and-false}
@@ -86,23 +86,25 @@ module _ (S : Scheme) (U : Values) where
   differ-ascend : (v a n : ℕ) → S.publics ≤ a → ascends (row_start_of S U (a + n)) (row_start_of S U a) (differ_numbers v a n) ≡ true
   unfolding differ_numbers keep from ascends
   differ-ascend v a zero l = refl
-  differ-ascend v a (suc n) l = go (exists S U (differs a v)) refl (differ-ascend v (a + 1) n (omega arith))
+  differ-ascend v a (suc n) l =
+      subst (λ (h : ℕ). ascends (row_start_of S U h) (row_start_of S U a) (differ_numbers v a (suc n)) ≡ true) (sym sum)
+      (go (exists S U (differs a v)) refl (differ-ascend v (a + 1) n (omega arith)))
     where
       sum : a + suc n ≡ a + 1 + n
       sum = omega arith
 
       go : (b : Bool) → exists S U (differs a v) ≡ b → ascends (row_start_of S U (a + 1 + n)) (row_start_of S U (a + 1)) (differ_numbers v (a + 1) n) ≡ true
-          → ascends (row_start_of S U (a + suc n)) (row_start_of S U a)
+          → ascends (row_start_of S U (a + 1 + n)) (row_start_of S U a)
           (map (λ x. number_of S U (differs x v))
           (pick b (a ∷ keep (λ x. exists S U (differs x v)) (from (a + 1) n)) (keep (λ x. exists S U (differs x v)) (from (a + 1) n)))) ≡ true
       go true e ih =
           let i = differs-inside S U a v (exists-has S U (differs a v) e) in
           let u = row-rises S U (a + 1) (a + 1 + n) (omega arith) (omega arith) in
-          rw sum (ascends-cons (row_start_of S U (a + 1 + n)) (row_start_of S U a) (number_of S U (differs a v)) (differ_numbers v (a + 1) n) (omega (arith, i.0))
+          (ascends-cons (row_start_of S U (a + 1 + n)) (row_start_of S U a) (number_of S U (differs a v)) (differ_numbers v (a + 1) n) (omega (arith, i.0))
           (omega (arith, i.1))
           ∙ ascends-lower (row_start_of S U (a + 1 + n)) (row_start_of S U (a + 1)) (number_of S U (differs a v) + 1) (differ_numbers v (a + 1) n)
           (omega (arith, i.1)) ih)
-      go false e ih = rw sum (ascends-lower (row_start_of S U (a + 1 + n)) (row_start_of S U (a + 1)) (row_start_of S U a) (differ_numbers v (a + 1) n)
+      go false e ih = (ascends-lower (row_start_of S U (a + 1 + n)) (row_start_of S U (a + 1)) (row_start_of S U a) (differ_numbers v (a + 1) n)
           (row-rises S U a (a + 1) l (omega arith)) ih)
 
   -- within any wider limits

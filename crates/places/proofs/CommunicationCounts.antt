@@ -40,6 +40,7 @@ module _ (S : Scheme) (ok : Accepted S) where
     where
       apart : exists S U (control n 0) ≡ true → Memᴰ (control n 0) (control m 0 ∷ []) → ⊥
       apart e (Memᴰ.head q) = let k : n ≡ m = cc in d (ap S.thread k)
+      apart e (Memᴰ.tail m) = elim m [ ]
 
   usable-below : (n x : ℕ) → Usable S n x → x < S.publics + S.bounds
   usable-below n x (inl h) = omega arith
@@ -153,15 +154,18 @@ module _ (S : Scheme) (ok : Accepted S) where
           one h (Memᴰ.head q) = not-e a i ua bit-a h (cc)
           one h (Memᴰ.tail (Memᴰ.head q)) = d (cc)
           one h (Memᴰ.tail (Memᴰ.tail (Memᴰ.head q))) = let w : ◌≡◌ {A = ℕ} 0 1 = cc in omega arith
+          one h (Memᴰ.tail (Memᴰ.tail (Memᴰ.tail m))) = elim m [ ]
 
           two : exists S U (equals e i) ≡ true → Memᴰ (equals e i) (equals z j ∷ differs y j ∷ []) → ⊥
           two h (Memᴰ.head q) =
               let k : z ≡ e = cc in
               not-e z j uz bit-z (ap (exists S U) (sym q) ∙ h) k
           two h (Memᴰ.tail (Memᴰ.head q)) = let w : ◌≡◌ {A = ℕ} 0 1 = cc in omega arith
+          two h (Memᴰ.tail (Memᴰ.tail m)) = elim m [ ]
 
           three : exists S U (equals z j) ≡ true → Memᴰ (equals z j) (differs y j ∷ []) → ⊥
           three h (Memᴰ.head q) = let w : ◌≡◌ {A = ℕ} 0 1 = cc in omega arith
+          three h (Memᴰ.tail m) = elim m [ ]
 
       pub communication-outputs : (z ≡ a → ⊥) → length (outputs (communicating S U s a z l r e y m i j)) ≡ 3 + (bound a + (bound e + bound z))
       communication-outputs d =
@@ -185,15 +189,18 @@ module _ (S : Scheme) (ok : Accepted S) where
           one h (Memᴰ.head q) = not-e a i ua bit-a h (cc)
           one h (Memᴰ.tail (Memᴰ.head q)) = d (cc)
           one h (Memᴰ.tail (Memᴰ.tail (Memᴰ.head q))) = not-y a ua (cc)
+          one h (Memᴰ.tail (Memᴰ.tail (Memᴰ.tail m))) = elim m [ ]
 
           two : exists S U (equals e i) ≡ true → Memᴰ (equals e i) (equals z j ∷ equals y j ∷ []) → ⊥
           two h (Memᴰ.head q) =
               let k : z ≡ e = cc in
               not-e z j uz bit-z (ap (exists S U) (sym q) ∙ h) k
           two h (Memᴰ.tail (Memᴰ.head q)) = e-not-y (cc)
+          two h (Memᴰ.tail (Memᴰ.tail m)) = elim m [ ]
 
           three : exists S U (equals z j) ≡ true → Memᴰ (equals z j) (equals y j ∷ []) → ⊥
           three h (Memᴰ.head q) = not-y z uz (cc)
+          three h (Memᴰ.tail m) = elim m [ ]
 
     -- "A name sent on itself has only j=i."
     module _ (i : ℕ) (is : z ≡ a) (ia : member i (values_of S U a) ≡ true) (ie : member i (values_of S U e) ≡ true) (iy : member i (values_of S U y) ≡ true) where
@@ -235,9 +242,11 @@ module _ (S : Scheme) (ok : Accepted S) where
           one : exists S U (equals e i) ≡ true → Memᴰ (equals e i) (equals a i ∷ differs y i ∷ []) → ⊥
           one h (Memᴰ.head q) = e-not-a h (cc)
           one h (Memᴰ.tail (Memᴰ.head q)) = let w : ◌≡◌ {A = ℕ} 0 1 = cc in omega arith
+          one h (Memᴰ.tail (Memᴰ.tail m)) = elim m [ ]
 
           two : exists S U (equals a i) ≡ true → Memᴰ (equals a i) (differs y i ∷ []) → ⊥
           two h (Memᴰ.head q) = let w : ◌≡◌ {A = ℕ} 0 1 = cc in omega arith
+          two h (Memᴰ.tail m) = elim m [ ]
 
       given-y' : exists S U (equals y i) ≡ true
       given-y' = has-exists S U (equals y i) (value-exists S U y i (ny.low, ny.high) iy)
@@ -261,6 +270,8 @@ module _ (S : Scheme) (ok : Accepted S) where
           one : exists S U (equals e i) ≡ true → Memᴰ (equals e i) (equals a i ∷ equals y i ∷ []) → ⊥
           one h (Memᴰ.head q) = e-not-a h (cc)
           one h (Memᴰ.tail (Memᴰ.head q)) = e-not-y (cc)
+          one h (Memᴰ.tail (Memᴰ.tail m)) = elim m [ ]
 
           two : exists S U (equals a i) ≡ true → Memᴰ (equals a i) (equals y i ∷ []) → ⊥
           two h (Memᴰ.head q) = not-y a ua (cc)
+          two h (Memᴰ.tail m) = elim m [ ]

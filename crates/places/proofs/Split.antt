@@ -215,7 +215,9 @@ module _ (S : Scheme) (U : Values) where
       go true (Memᴰ.head e) = rw e
       go true (Memᴰ.tail m) = differ-rows v p m
       go false (Memᴰ.head e) = rw e
+      go false (Memᴰ.tail m) = elim m [ ]
   taken-rows (release z v) p (Memᴰ.head e) = rw e
+  taken-rows (release z v) p (Memᴰ.tail m) = elim m [ ]
 
   given-rows : (c : Command) (p : Place) → Memᴰ p (given_places S c) → is_control p ≡ false
   given-rows skip p i = elim i [ ]
@@ -229,7 +231,9 @@ module _ (S : Scheme) (U : Values) where
     where
       go : (b : Bool) → Memᴰ p (pick b (free v ∷ []) (differs z v ∷ [])) → is_control p ≡ false
       go true (Memᴰ.head e) = rw e
+      go true (Memᴰ.tail m) = elim m [ ]
       go false (Memᴰ.head e) = rw e
+      go false (Memᴰ.tail m) = elim m [ ]
 
   either : (xs ys : List Place) (p : Place) → (Memᴰ p xs → is_control p ≡ false) → (Memᴰ p ys → is_control p ≡ false) → Memᴰ p (xs ++ ys)
       → is_control p ≡ false

@@ -9,7 +9,6 @@ use Rattle.table.specs.Causes.{cause}
 use Rattle.table.proofs.Accepted.{accepted}
 use Rattle.net.specs.Net.{Net, input_total, output_total, header_words}
 use Rattle.net.proofs.Encode
-use Rattle.places.specs.Places.{places}
 use Rattle.places.specs.Transitions.{Description, from_node_descriptions, of_pair, descriptions}
 use Rattle.places.specs.Image.{transition_of, net_with, net_of, image_of}
 use Rattle.places.specs.Plan.{places_at, tokens_at, Laid}

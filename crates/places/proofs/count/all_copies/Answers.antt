@@ -1,0 +1,37 @@
+use Rattle.std.proofs.Common.{◌-◌, map, sym, ◌∙◌, arith}
+use Rattle.lists.specs.Lists.{from}
+use Rattle.scheme.specs.Words.{argument}
+use Rattle.places.specs.Answers.{sums_of}
+use Rattle.places.specs.Inner.Counting.{over, copy_sums}
+use Rattle.places.proofs.Adding.{copy-grows, map-few, map_on, map-done}
+use Rattle.places.proofs.count.all_copies.Goals as goal
+
+pub copies-r-requires : goal.copies-r-requires
+copies-r-requires c =
+    let a = c.args in
+    let w = a.table.now in
+    let l = c.loop-i in
+    let x = c.field1 in (
+      c.requires.0,
+      map-few (copy_sums w) (copy-grows w) (argument w) (over (copy_sums w) (sums_of a.t) (map (argument w) (from a.first (a.end - a.first))))
+          (sums_of l.r) l.i a.end x.result l.invariant.0 c.loop-i-test.true x.ensures.is c.requires.1,
+    )
+
+pub loop-i-preserved : goal.loop-i-preserved
+loop-i-preserved c =
+    let a = c.args in
+    let w = a.table.now in
+    let l = c.loop-i in
+    let x = c.field1 in
+    let r = c.copies-r in (
+      map_on (copy_sums w) (argument w) (over (copy_sums w) (sums_of a.t) (map (argument w) (from a.first (a.end - a.first)))) (sums_of l.r)
+          (sums_of r.result) l.i a.end x.result l.invariant.0 c.loop-i-test.true x.ensures.is r.ensures,
+      omega (arith, l.invariant.1),
+    )
+
+pub returns : goal.returns
+returns c =
+    let a = c.args in
+    let w = a.table.now in
+    let l = c.loop-i in
+    sym (l.invariant.0 ∙ map-done (copy_sums w) (argument w) (sums_of l.r) l.i a.end c.loop-i-test.false)

@@ -1,0 +1,43 @@
+use Rattle.std.proofs.Common.{◌≡◌, ◌+◌, ◌/◌, ◌%◌, ◌^◌, ◌≤◌, map, length, ap, ◌∙◌, arith}
+use lib.Seq.{length-sets}
+use Rattle.lists.specs.Lists.{word, range}
+use Rattle.scheme.specs.Words.{names}
+use Rattle.places.proofs.Controls.{few-publics, few-bounds}
+use Rattle.places.proofs.Filling.{empty-from, reaches-put}
+use Rattle.places.proofs.rounds.fill_reaches.Goals as goal
+
+pub put_digits-requires : goal.put_digits-requires
+put_digits-requires c =
+    let settled = c.settle in
+    let w = c.args.table.now in (
+      (let few : c.word16-publics.result + c.word16-bounds.result ≤ 64 = omega (arith, (let count : c.word16-publics.result + c.word16-bounds.result ≡ names c.args.table.now = omega (arith, c.word16-publics.ensures.is, c.word16-bounds.ensures.is) in count), few-publics c.args.table.now c.requires.0.accepted, few-bounds c.args.table.now c.requires.0.accepted) in few),
+      empty-from w settled.new.words settled.ensures _ ((let count : c.word16-publics.result + c.word16-bounds.result ≡ names c.args.table.now = omega (arith, c.word16-publics.ensures.is, c.word16-bounds.ensures.is) in count)),
+      omega arith,
+      omega (arith, c.word16-publics.ensures.is, few-publics w c.requires.0.accepted),
+      omega arith,
+      omega (arith, c.requires.1),
+    )
+
+pub put_digits-requires-2 : goal.put_digits-requires-2
+put_digits-requires-2 c =
+    let put = c.put_digits in
+    let settled = c.settle in
+    let w = c.args.table.now in
+    let ws = settled.new.words in (
+      (let few : c.word16-publics.result + c.word16-bounds.result ≤ 64 = omega (arith, (let count : c.word16-publics.result + c.word16-bounds.result ≡ names c.args.table.now = omega (arith, c.word16-publics.ensures.is, c.word16-bounds.ensures.is) in count), few-publics c.args.table.now c.requires.0.accepted, few-bounds c.args.table.now c.requires.0.accepted) in few),
+      empty-from w ws settled.ensures _ ((let count : c.word16-publics.result + c.word16-bounds.result ≡ names c.args.table.now = omega (arith, c.word16-publics.ensures.is, c.word16-bounds.ensures.is) in count)),
+      omega (arith, c.word16-publics.ensures.is, few-publics w c.requires.0.accepted),
+      omega (arith, c.word16-bounds.ensures.is, few-bounds w c.requires.0.accepted),
+      omega arith,
+      omega (
+        arith,
+        c.requires.1,
+        ap length put.ensures ∙ length-sets c.args.index.now 832 (map (λ x. word ws x / 2 ^ 0 % 2 ^ c.word16-publics.result) (range 64)),
+      ),
+    )
+
+pub returns : goal.returns
+returns c =
+    let settled = c.settle in
+    reaches-put c.args.table.now settled.new.words settled.ensures c.word16-publics.result c.word16-bounds.result
+    c.word16-publics.ensures.is c.word16-bounds.ensures.is c.args.index.now _ _ c.put_digits.ensures c.put_digits-2.ensures

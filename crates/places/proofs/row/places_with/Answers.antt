@@ -1,0 +1,30 @@
+use Rattle.std.proofs.Common.{arith}
+use Rattle.places.specs.Starts.{places_in}
+use Rattle.places.proofs.Starts.{total-more, total-done, span-told}
+use Rattle.places.proofs.row.places_with.Goals as goal
+
+pub loop-x-preserved : goal.loop-x-preserved
+loop-x-preserved c =
+    let a = c.args in
+    let l = c.loop-x in (
+      omega (
+        arith,
+        l.invariant.0,
+        c.places_of-count.ensures.0,
+        total-more (places_in c.word16-publics.result a.index.now a.privates) l.x c.smaller-last.result c.loop-x-test.true,
+      ),
+      omega (arith, l.invariant.1, c.places_of-count.ensures.1),
+      omega (arith, l.invariant.2),
+    )
+
+pub returns : goal.returns
+returns c =
+    let a = c.args in
+    let l = c.loop-x in
+    omega (
+      arith,
+      l.invariant.0,
+      total-done (places_in c.word16-publics.result a.index.now a.privates) l.x c.smaller-last.result c.loop-x-test.false,
+      span-told a.table.now a.index.now a.privates a.first a.end c.word16-publics.result c.word16.result c.larger-x.result
+          c.smaller-last.result c.word16-publics.ensures.is c.word16.ensures.is c.larger-x.ensures c.smaller-last.ensures,
+    )
