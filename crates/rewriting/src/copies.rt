@@ -201,6 +201,7 @@ pub(crate) fn with_copies(table: &[u16], copies: Counts) -> Counts
 }
 
 // Whether the counts are within their bounds.
+#[tactic(auto, unfolding(crate::specs::Inner::Counting::counts_within))]
 pub(crate) fn within(counts: Counts) -> bool
     ensures { result ≡ counts_within counts }
 {

@@ -160,6 +160,7 @@ fn copied_second(table: &[u16], places: &[u32], node: usize) -> usize
 }
 
 // A name that a branch's copy uses; a silent one uses none.
+#[tactic(auto, unfolding(crate::specs::Inner::Writing::copied_use_of, lists::specs::Lists::same))]
 fn copied_use(table: &[u16], places: &[u32], branch: usize, name: usize) -> usize
     requires { Placing table.now places.now × (name < 65536) }
     ensures { Number (copied_use_of table.now branch name) result }
