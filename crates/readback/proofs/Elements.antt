@@ -1,8 +1,8 @@
 -- Elements of appended, mapped and flattened lists, of ranges, and at positions.
-use Prim.Native.Nat.{ℕ, zero, suc, ◌+◌, ◌≤◌, ◌<◌}
-use mathlib.Core.Path.{◌≡◌, refl, sym, ap, ◌∙◌}
+use Prim.Native.Nat.{ℕ, zero, suc, ◌≤◌, ◌<◌}
+use mathlib.Core.Path.{◌≡◌, refl}
 use mathlib.Core.Logic.{◌⊎◌, inl, inr}
-use mathlib.Core.Bool.{Bool, true, false, ◌||◌, false≢true}
+use mathlib.Core.Bool.{Bool, true, false≢true}
 use mathlib.Core.List.{List, [], ◌∷◌, ◌++◌, map}
 use native.Mathlib.Omega.{arith}
 use native.Mathlib.Nat.{not-suc-le-zero, le_of_suc-le-suc}
@@ -29,6 +29,7 @@ module _ {A : Type 0} where
   element-cases (there e) = inr e
 
   pub element-left : {x : A} (xs ys : List A) → Element x xs → Element x (xs ++ ys)
+  element-left [] ys x'' = elim x'' [ ]
   element-left (y ∷ xs) ys here = here
   element-left (y ∷ xs) ys (there e) = there (element-left xs ys e)
 
@@ -53,6 +54,7 @@ module _ {A : Type 0} where
   element-at d (y ∷ xs) (suc k) h = there (element-at d xs k (le_of_suc-le-suc h))
 
   pub element-position : {x : A} (d : A) (xs : List A) → Element x xs → (k : ℕ) × (k < length xs) × (get_or xs k d ≡ x)
+  element-position d [] x'' = elim x'' [ ]
   element-position d (y ∷ xs) here = (0, omega arith, refl)
   element-position d (y ∷ xs) (there e) = let (k, l, q) = element-position d xs e in (suc k, omega arith, q)
 
@@ -70,21 +72,29 @@ module _ {A : Type 0} where
 
   pub element-some : (p : A → Bool) {x : A} (xs : List A) → Element x xs → p x ≡ true → Lists.some p xs ≡ true
   unfolding Lists.some
+  element-some p [] x3 h = elim x3 [ ]
   element-some p (y ∷ xs) here h = or_left (p y) (Lists.some p xs) h
   element-some p (y ∷ xs) (there e) h = or_right (p y) (Lists.some p xs) (element-some p xs e h)
 
 module _ {A B : Type 0} (f : A → B) where
   pub element-map : {x : A} (xs : List A) → Element x xs → Element (f x) (map f xs)
+  element-map [] x'' = elim x'' [ ]
   element-map (y ∷ xs) here = here
   element-map (y ∷ xs) (there e) = there (element-map xs e)
 
   pub map-element : {z : B} (xs : List A) → Element z (map f xs) → (x : A) × Element x xs × (z ≡ f x)
-  map-element (y ∷ xs) here = (y, here, refl)
-  map-element (y ∷ xs) (there e) = let (x, i, q) = map-element xs e in (x, there i, q)
+  map-element [] e = no-element e
+  map-element {z} (y ∷ xs) e = go (element-cases e) (map-element xs)
+    where
+      go : (z ≡ f y) ⊎ Element z (map f xs) → (Element z (map f xs) → (x : A) × Element x xs × (z ≡ f x))
+          → (x : A) × Element x (y ∷ xs) × (z ≡ f x)
+      go (inl p) ih = (y, here, p)
+      go (inr q) ih = let (x, i, r) = ih q in (x, there i, r)
 
 module _ {A B : Type 0} (f : A → List B) where
   pub element-flat : {z : B} {x : A} (xs : List A) → Element x xs → Element z (f x) → Element z (flat f xs)
   unfolding flat
+  element-flat {z = z} [] x3 i = elim x3 [ ]
   element-flat (y ∷ xs) here i = element-left (f y) (flat f xs) i
   element-flat (y ∷ xs) (there e) i = element-right (f y) (flat f xs) (element-flat xs e i)
 
@@ -101,6 +111,7 @@ module _ {A B : Type 0} (f : A → List B) where
 -- ---- numbers
 
 pub element-member : {x : ℕ} (xs : List ℕ) → Element x xs → member x xs ≡ true
+element-member {x = x} [] x'' = elim x'' [ ]
 element-member {x} (y ∷ xs) here = member-here x xs
 element-member {x} (y ∷ xs) (there e) = member-there x y xs (element-member xs e)
 

@@ -6,7 +6,7 @@ use Prim.Native.Nat.{ℕ, zero, suc, ◌+◌, ◌≤◌, ◌<◌}
 use native.Mathlib.Numerals.{add-one}
 use native.Mathlib.Omega.{arith}
 use lib.ListN.{length, length-append}
-use Rattle.lists.specs.Lists.{pick, same, word, from, range, keep}
+use Rattle.lists.specs.Lists.{pick, word, from, range, keep}
 use Rattle.lists.proofs.Ranges.{from-snoc, from-length}
 use Rattle.lists.proofs.Members.{keep_append}
 use Rattle.lists.proofs.Ascending.{element-below}

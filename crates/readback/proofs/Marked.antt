@@ -1,9 +1,9 @@
 -- The places that a marking marks: those whose number has a token. So a place that exists is marked where its number has one.
-use mathlib.Core.Path.{◌≡◌, refl, sym, ap, subst, ◌∙◌}
+use mathlib.Core.Path.{◌≡◌, refl, sym, ap, subst}
 use mathlib.Core.Logic.{◌⊎◌, inl, inr}
 use mathlib.Core.Bool.{Bool, true, false, ◌&&◌, false≢true}
 use mathlib.Core.List.{List, [], ◌∷◌}
-use Prim.Native.Nat.{ℕ, zero, suc, ◌+◌, ◌≤◌, ◌<◌}
+use Prim.Native.Nat.{ℕ, suc, ◌<◌}
 use native.Mathlib.Omega.{arith}
 use lib.ListN.{length, get_or}
 use Rattle.lists.specs.Lists.{pick, same, word, every, keep}
@@ -74,6 +74,7 @@ place_same (control a b) (control c d) h = let (x, y) = two-same a b c d h in rw
 module _ (f : Place → Bool) where
   element-keep : {p : Place} (ps : List Place) → Element p ps → f p ≡ true → Element p (keep f ps)
   unfolding keep
+  element-keep {p = p} [] x'' h = elim x'' [ ]
   element-keep (p ∷ ps) here h = rw h here
   element-keep {p} (q ∷ ps) (there e) h = go (f q) (element-keep ps e h)
     where

@@ -1,17 +1,16 @@
 -- Marks put at the places of a list: one more, none, two lists, and which words they leave.
-use mathlib.Core.Path.{◌≡◌, refl, sym, ap, ◌∙◌}
+use mathlib.Core.Path.{◌≡◌, refl, sym, ◌∙◌}
 use mathlib.Core.Bool.{Bool, true, false, ◌||◌}
 use mathlib.Core.List.{List, [], ◌∷◌, ◌++◌}
 use Prim.Native.Nat.{ℕ, zero, suc, ◌+◌, ◌-◌, ◌≤◌, ◌<◌}
 use native.Mathlib.Decide.{ℕ_discrete, dec_lt}
 use native.Mathlib.Omega.{arith}
 use lib.Dec.{ltb}
-use lib.ListN.{length, set, take, replicate, length-set}
+use lib.ListN.{length, set, take, length-set}
 use lib.Seq.{slice, get_or-set_same, get_or-set_other}
 use borrow.Author.Tests.{lt-ltb, le-ltb}
-use Rattle.lists.specs.Lists.{pick, bit, same, word, from, range, flat, member}
+use Rattle.lists.specs.Lists.{pick, same, word, from, member}
 use Rattle.lists.proofs.Tests.{same_self, same-no}
-use Rattle.lists.proofs.Ranges.{from_more, from-done}
 use Rattle.scheme.specs.Words.{first_formal, formal_count, formals, node_first}
 use Rattle.net.specs.Firing.{put}
 

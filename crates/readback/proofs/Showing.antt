@@ -195,7 +195,7 @@ module _ (w : List ℕ) (n x j : ℕ) (C : CallOf w n x) where
   Told r = Valued (name_shown_at (scheme w) ((scheme w).node n) n (suc j) x) r
 
   here : node_first w n < definitions w
-  here = called-inside w C.node_of.accepted n C.node_of.inside C.is_call
+  here = called-inside w C.node_of.accepted n C.node_of.inside C.is-call
 
   abbrev first : ℕ
   first = first_formal w (node_first w n)
@@ -215,7 +215,7 @@ module _ (w : List ℕ) (n x j : ℕ) (C : CallOf w n x) where
   root-of = record { accepted = C.node_of.accepted; inside = root-inside }
 
   at_call : (scheme w).node n ≡ call (node_first w n)
-  at_call = call-node w C.node_of.accepted n C.node_of.inside C.is_call
+  at_call = call-node w C.node_of.accepted n C.node_of.inside C.is-call
 
   root_is : (scheme w).root (node_first w n) ≡ root w (node_first w n)
   unfolding scheme
@@ -233,7 +233,7 @@ module _ (w : List ℕ) (n x j : ℕ) (C : CallOf w n x) where
     told_is =
         let q : is_stop_node ((scheme w).node (root w (node_first w n))) ≡ false = no_stop w _ root-of (λ z. g (rw (f, e) z)) in
         let u : (scheme w).formals (node_first w n) ≡ formals w (node_first w n) = formals-of w C.node_of.accepted (node_first w n) here in
-        let v : (scheme w).arguments n ≡ arguments_of w n = arguments-of w C.node_of.accepted n C.node_of.inside C.is_call in
+        let v : (scheme w).arguments n ≡ arguments_of w n = arguments-of w C.node_of.accepted n C.node_of.inside C.is-call in
         rw (at_call, root_is, q, u, v)
 
     module _ (a : ℕ) (ea : a ≡ first_formal w d) where
@@ -260,7 +260,7 @@ module _ (w : List ℕ) (n x j : ℕ) (C : CallOf w n x) where
         pub told-argument : (s r : ℕ) → x - a < k → j ≤ x - a → s ≡ node_second w n → r ≡ argument w (s + (x - a)) → Told r
         told-argument s r l o es er =
             let i : s + (x - a) < arguments w =
-            omega (arith, es, count-is, arguments-inside w C.node_of.accepted n C.node_of.inside C.is_call) in
+            omega (arith, es, count-is, arguments-inside w C.node_of.accepted n C.node_of.inside C.is-call) in
             let b : r < names w = rw er (argument-inside w C.node_of.accepted _ i) in
             present r (omega (arith, b, few-names))
             (told_is ∙ chained-argument (argument w) x j first (node_second w n) count

@@ -1,15 +1,11 @@
 -- What stands at the elements of a list that pass a test.
-use Prim.Native.Nat.{ℕ, zero, suc, ◌+◌, ◌-◌, ◌≤◌, ◌<◌}
-use mathlib.Core.Path.{◌≡◌, refl, sym, ap, ◌∙◌, subst}
+use Prim.Native.Nat.{ℕ}
+use mathlib.Core.Path.{◌≡◌, refl, sym, ◌∙◌}
 use mathlib.Core.Logic.{◌≢◌, ◌⊎◌, inl, inr}
-use mathlib.Core.Bool.{Bool, true, false, not, ◌&&◌, ◌||◌, true≢false, false≢true}
-use mathlib.Core.Option.{Option, none, some}
+use mathlib.Core.Bool.{Bool, true, false, true≢false}
 use mathlib.Core.List.{List, [], ◌∷◌, ◌++◌, map, append-nil, append_assoc}
 use native.Mathlib.Decide.{ℕ_discrete}
-use native.Mathlib.Omega.{arith}
-use Rattle.lists.specs.Lists as Lists
-use Rattle.lists.specs.Lists.{pick, bit, same, from, range, keep, flat, member, Distinct}
-use Rattle.lists.proofs.Tests.{same_self, same-no, same_true}
+use Rattle.lists.specs.Lists.{pick, keep, flat, Distinct}
 use Rattle.lists.proofs.Members.{distinct_head, distinct_tail}
 use Rattle.readback.proofs.Elements.{Element, here, there, element-cases, element-member, no-element}
 

@@ -1,7 +1,6 @@
 -- What `read` answers and leaves in the lent words (document 01, Causes of refusal): "13", "17", and 10 last.
-use Rattle.std.specs.Prelude.{List, ◌++◌, ℕ, ◌+◌, ltb, length, drop}
+use Rattle.std.specs.Prelude.{List, ℕ, length}
 use Rattle.std.proofs.Math.Option.{Option, none, some}
-use Rattle.lists.specs.Lists.{pick, same}
 use Rattle.table.specs.Answer.{cause_of}
 use Rattle.table.specs.Causes.{cause}
 use Rattle.process.specs.Outcomes.{Outcome, refusal, answered, checked}

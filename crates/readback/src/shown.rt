@@ -79,6 +79,9 @@ fn name_called(table: &[u16], node: usize, copied: usize, name: usize) -> usize
     field1(table, 12, field3(table, 10, node, 2) + place)
 }
 
+// The kind of a Stop.
+const STOP: usize = 0;
+
 // The name whose value a name has where its thread stands at control place k of a node, 65535 where it has none.
 fn name_shown(table: &[u16], node: usize, k: usize, name: usize) -> usize
     requires { NodeOf table.now node × (name < 65535) }
@@ -86,7 +89,7 @@ fn name_shown(table: &[u16], node: usize, k: usize, name: usize) -> usize
         (name_shown_at (scheme table.now) ((scheme table.now).node node) node k name) result }
 {
     let kind = field3(table, 10, node, 0);
-    if kind == 0 {
+    if kind == STOP {
         return 65535;
     }
     if kind != 3 {

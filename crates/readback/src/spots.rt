@@ -41,13 +41,16 @@ fn note(
     store32(indexes, thread, f.first as u32);
 }
 
+// How many control places of a thread are marked.
+const MARKED: usize = 1;
+
 // Whether each thread has one marked control place.
 fn one_each(counts: &[u32], threads: usize) -> bool
     ensures { result ≡ every (λ t. same (word counts.now t) 1) (range threads) }
 {
     let mut t = 0;
     while t < threads {
-        if word32(counts, t) != 1 {
+        if word32(counts, t) != MARKED {
             return false;
         }
         t += 1;

@@ -1,0 +1,24 @@
+use mathlib.Core.Path.{◌∙◌}
+use native.Mathlib.Omega.{arith}
+use lib.ListN.{length}
+use borrow.Author.Tests.{le-leb}
+use Rattle.places.proofs.Controls.{few-publics, few-bounds}
+use Rattle.readback.proofs.shown.write_values.Goals as goal
+
+pub returns : goal.returns
+returns c =
+    let ok = c.requires.0.accepted in
+    let p = c.word16-publics.ensures.is in
+    let b = c.word16-bounds.ensures.is in
+    let t = c.word16-threads.ensures.is in
+    c.write_numbered.ensures.words ∙
+    rw (
+      le-leb c.word16-publics.result 32 (omega (arith, p, few-publics _ ok)),
+      le-leb c.word16-bounds.result 32 (omega (arith, b, few-bounds _ ok)),
+      le-leb c.word16-bounds.result (length c.fill_values.new.list)
+          (omega (arith, b, few-bounds _ ok, c.list-2-1.given)),
+      p,
+      b,
+      t,
+      c.fill_values.ensures,
+    )
