@@ -1,6 +1,6 @@
 /* Dekohuna: from a process table to a Petri net, its firings, and back to states of the process.
  *
- * For x86-64 Linux. `rt staticlib capi` writes target/staticlib/libcapi.a; link that archive, and the C library for
+ * For x86-64 Linux. `scripts/archive` writes target/staticlib/libcapi.a; link that archive, and the C library for
  * these functions:
  *     C library: memcpy memset
  * What each call returns and what it leaves in each buffer is proved in crates/capi.

@@ -1,4 +1,4 @@
-//! Links the archive that `rt staticlib capi` writes at the repository's root.
+//! Links the archive that scripts/archive writes below the repository's root.
 fn main() {
     let root = std::env::var("CARGO_MANIFEST_DIR").unwrap() + "/../..";
     println!("cargo:rustc-link-search=native={root}/target/staticlib");

@@ -1,12 +1,13 @@
 // The listing program: reads a table's words on standard input and prints its net.
 #![tactic(auto)]
 
-use libc::{STDIN_FILENO, STDOUT_FILENO};
+use std::io;
+use std::io::{Read, Write};
 
-fn main() {
-    let mut bytes = io::large_buffer();
-    let count = io::read_full(STDIN_FILENO, &mut bytes);
+fn main(rt: HostRuntime) -> io::Result<()> {
+    let mut bytes = Vec::new(rt.alloc());
+    rt.stdin().take(65536).read_to_end(&mut bytes)?;
     let mut text = [0u8; 262144];
-    let size = print::list_all(&bytes[..count], &mut text);
-    io::write_all(STDOUT_FILENO, &text[..size]);
+    let size = print::list_all(&bytes, &mut text);
+    rt.stdout().write_all(&text[..size])
 }

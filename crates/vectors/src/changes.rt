@@ -2,6 +2,8 @@
 use crate::line::{Request, byte, half, number_at, word};
 use crate::sizes::{Sizes, cut16, least};
 use crate::text;
+use std::io;
+use std::io::Write;
 
 // What a request does to a list: its length, and that the items from `from` to `to` become the fields from `first` on.
 #[derive(Clone, Copy)]
@@ -96,53 +98,89 @@ fn set64(fields: &[usize], first: usize, words: &mut [u64], from: usize, to: usi
 }
 
 // w, j, i: the image's words, its length, or one of its words.
-pub fn image(request: Request, fields: &[usize], mut sizes: Sizes, image: &mut [u32]) -> Sizes {
+pub fn image(
+    out: &mut impl Write,
+    request: Request,
+    fields: &[usize],
+    mut sizes: Sizes,
+    image: &mut [u32],
+) -> io::Result<Sizes> {
     let change = change_of(request, sizes.image, image.len());
     set32(fields, change.first, image, change.from, change.to);
-    text::number(change.length);
+    text::number(out, change.length)?;
     sizes.image = change.length;
-    sizes
+    Ok(sizes)
 }
 
 // p, l, m: the marking's bytes, its length, or one of its bytes.
-pub fn marking(request: Request, fields: &[usize], mut sizes: Sizes, marking: &mut [u8]) -> Sizes {
+pub fn marking(
+    out: &mut impl Write,
+    request: Request,
+    fields: &[usize],
+    mut sizes: Sizes,
+    marking: &mut [u8],
+) -> io::Result<Sizes> {
     let change = change_of(request, sizes.marking, marking.len());
     set8(fields, change.first, marking, change.from, change.to);
-    text::number(change.length);
+    text::number(out, change.length)?;
     sizes.marking = change.length;
-    sizes
+    Ok(sizes)
 }
 
 // x, y: the state's words, or one of them.
-pub fn state(request: Request, fields: &[usize], mut sizes: Sizes, state: &mut [u16]) -> Sizes {
+pub fn state(
+    out: &mut impl Write,
+    request: Request,
+    fields: &[usize],
+    mut sizes: Sizes,
+    state: &mut [u16],
+) -> io::Result<Sizes> {
     let change = change_of(request, sizes.state, state.len());
     set16(fields, change.first, state, change.from, change.to);
-    text::number(change.length);
+    text::number(out, change.length)?;
     sizes.state = change.length;
-    sizes
+    Ok(sizes)
 }
 
 // d: one of the counts.
-pub fn counts(request: Request, fields: &[usize], sizes: Sizes, counts: &mut [u32]) -> Sizes {
+pub fn counts(
+    out: &mut impl Write,
+    request: Request,
+    fields: &[usize],
+    sizes: Sizes,
+    counts: &mut [u32],
+) -> io::Result<Sizes> {
     let change = change_of(request, sizes.counts, counts.len());
     set32(fields, change.first, counts, change.from, change.to);
-    text::number(change.length);
-    sizes
+    text::number(out, change.length)?;
+    Ok(sizes)
 }
 
 // n: one of the words of the set.
-pub fn enabled(request: Request, fields: &[usize], sizes: Sizes, enabled: &mut [u64]) -> Sizes {
+pub fn enabled(
+    out: &mut impl Write,
+    request: Request,
+    fields: &[usize],
+    sizes: Sizes,
+    enabled: &mut [u64],
+) -> io::Result<Sizes> {
     let change = change_of(request, sizes.enabled, enabled.len());
     set64(fields, change.first, enabled, change.from, change.to);
-    text::number(change.length);
-    sizes
+    text::number(out, change.length)?;
+    Ok(sizes)
 }
 
 // t: the table's words, which are checked.
-pub fn table(request: Request, fields: &[usize], mut sizes: Sizes, table: &mut [u16]) -> Sizes {
+pub fn table(
+    out: &mut impl Write,
+    request: Request,
+    fields: &[usize],
+    mut sizes: Sizes,
+    table: &mut [u16],
+) -> io::Result<Sizes> {
     set16(fields, 1, table, 0, request.count);
     let words = cut16(request.count, table);
-    text::number(table::number(table::check(&table[..words])));
+    text::number(out, table::number(table::check(&table[..words])))?;
     sizes.table = words;
-    sizes
+    Ok(sizes)
 }

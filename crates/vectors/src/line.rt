@@ -2,8 +2,10 @@
 ghost use Rattle.std.specs.Prelude.{◌≤◌};
 
 use crate::sizes::least;
-use libc::STDIN_FILENO;
 use lists::word8;
+use std::alloc::Global;
+use std::io;
+use std::io::Read;
 
 // A request: its letter, how many numbers it has, and the first four.
 #[derive(Clone, Copy)]
@@ -16,9 +18,11 @@ pub struct Request {
     pub d: usize,
 }
 
-// Reads the input, and answers how many bytes it has, at most 1,048,576.
-pub fn read(input: &mut [u8; 1048576]) -> usize {
-    io::read_full(STDIN_FILENO, input)
+// Reads the input: all its bytes, at most 1,048,576.
+pub fn read(alloc: Global, from: impl Read + Drop) -> io::Result<Vec<u8>> {
+    let mut input = Vec::new(alloc);
+    from.take(1048576).read_to_end(&mut input)?;
+    Ok(input)
 }
 
 // Where the line that starts at `from` has its line feed, 10; `count`, where the input ends, if there is none.

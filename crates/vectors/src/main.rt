@@ -64,9 +64,12 @@ mod tables;
 mod text;
 
 use crate::sizes::Sizes;
+use std::io;
+use std::io::{BufWriter, Write};
 
 // Answers the request of a line's fields, and tells the lengths of what is kept after it.
 fn answer(
+    out: &mut impl Write,
     fields: &[usize],
     count: usize,
     sizes: Sizes,
@@ -77,38 +80,38 @@ fn answer(
     enabled: &mut [u64; 512],
     history: &mut [u32; 4096],
     state: &mut [u16; 64],
-) -> Sizes {
+) -> io::Result<Sizes> {
     let request = line::request_of(fields, count);
     let letter = request.letter;
-    text::byte(letter);
+    text::byte(out, letter)?;
     match letter {
-        b't' => changes::table(request, fields, sizes, table),
-        b'w' | b'j' | b'i' => changes::image(request, fields, sizes, image),
-        b'p' | b'l' | b'm' => changes::marking(request, fields, sizes, marking),
-        b'x' | b'y' => changes::state(request, fields, sizes, state),
-        b'b' => nets::build(request, sizes, table, image),
-        b'z' => nets::size(sizes, table),
-        b'f' | b'r' | b'h' => nets::play(request, fields, sizes, image, marking, history),
-        b'e' => nets::look(request, sizes, image, marking),
-        b'c' => summaries::make(request, sizes, image, marking, counts, enabled),
-        b'd' => changes::counts(request, fields, sizes, counts),
-        b'n' => changes::enabled(request, fields, sizes, enabled),
-        b'F' => summaries::fire(request, sizes, image, marking, counts, enabled),
-        b'K' => summaries::check(sizes, image, marking, counts, enabled),
-        b'L' => summaries::find(sizes, enabled),
-        b'u' | b'U' => nets::run(request, sizes, image, marking, history),
-        b'g' | b's' | b'k' => states::next(request, sizes, table, marking, state),
-        b'o' => states::open_steps(request, sizes, table, state),
-        b'v' => tables::rewrite(request, sizes, table),
-        b'a' => tables::original(request, sizes, table),
-        _ => sizes,
+        b't' => changes::table(out, request, fields, sizes, table),
+        b'w' | b'j' | b'i' => changes::image(out, request, fields, sizes, image),
+        b'p' | b'l' | b'm' => changes::marking(out, request, fields, sizes, marking),
+        b'x' | b'y' => changes::state(out, request, fields, sizes, state),
+        b'b' => nets::build(out, request, sizes, table, image),
+        b'z' => nets::size(out, sizes, table),
+        b'f' | b'r' | b'h' => nets::play(out, request, fields, sizes, image, marking, history),
+        b'e' => nets::look(out, request, sizes, image, marking),
+        b'c' => summaries::make(out, request, sizes, image, marking, counts, enabled),
+        b'd' => changes::counts(out, request, fields, sizes, counts),
+        b'n' => changes::enabled(out, request, fields, sizes, enabled),
+        b'F' => summaries::fire(out, request, sizes, image, marking, counts, enabled),
+        b'K' => summaries::check(out, sizes, image, marking, counts, enabled),
+        b'L' => summaries::find(out, sizes, enabled),
+        b'u' | b'U' => nets::run(out, request, sizes, image, marking, history),
+        b'g' | b's' | b'k' => states::next(out, request, sizes, table, marking, state),
+        b'o' => states::open_steps(out, request, sizes, table, state),
+        b'v' => tables::rewrite(out, request, sizes, table),
+        b'a' => tables::original(out, request, sizes, table),
+        _ => Ok(sizes),
     }
 }
 
 // Answers the request of each whole line.
 fn answer_lines(
-    input: &[u8; 1048576],
-    count: usize,
+    out: &mut impl Write,
+    input: &[u8],
     table: &mut [u16; 4096],
     image: &mut [u32; 131072],
     marking: &mut [u8; 32768],
@@ -116,26 +119,27 @@ fn answer_lines(
     enabled: &mut [u64; 512],
     history: &mut [u32; 4096],
     state: &mut [u16; 64],
-) {
+) -> io::Result<()> {
+    let count = input.len();
     let mut sizes = sizes::none();
     let mut at: usize = 0;
     while at < count {
         let end = line::end_from(input, at, count);
         if end == count {
-            return;
+            return Ok(());
         }
         let mut fields = [0usize; 4096];
         let numbers = line::fields_of(input, at, end, &mut fields);
         sizes = answer(
-            &fields, numbers, sizes, table, image, marking, counts, enabled, history, state,
-        );
-        text::byte(b'\n');
+            out, &fields, numbers, sizes, table, image, marking, counts, enabled, history, state,
+        )?;
+        text::byte(out, b'\n')?;
         at = end + 1;
     }
+    Ok(())
 }
 
-fn main() {
-    let mut input = [0u8; 1048576];
+fn main(rt: HostRuntime) -> io::Result<()> {
     let mut table = [0u16; 4096];
     let mut image = [0u32; 131072];
     let mut marking = [0u8; 32768];
@@ -143,10 +147,11 @@ fn main() {
     let mut enabled = [0u64; 512];
     let mut history = [0u32; 4096];
     let mut state = [0u16; 64];
-    let count = line::read(&mut input);
+    let input = line::read(rt.alloc(), rt.stdin())?;
+    let mut out = BufWriter::new(rt.alloc(), rt.stdout())?;
     answer_lines(
+        &mut out,
         &input,
-        count,
         &mut table,
         &mut image,
         &mut marking,
@@ -154,5 +159,6 @@ fn main() {
         &mut enabled,
         &mut history,
         &mut state,
-    );
+    )?;
+    out.flush()
 }

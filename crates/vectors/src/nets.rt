@@ -5,6 +5,8 @@ use crate::line::{Request, word};
 use crate::sizes::{Sizes, cut8, cut16, cut32, least};
 use crate::{causes, text};
 use net::{Ran, Replayed};
+use std::io;
+use std::io::Write;
 
 // Fills the first `count` words, or all if there are fewer.
 pub fn fill32(words: &mut [u32], count: usize) {
@@ -17,22 +19,28 @@ pub fn fill32(words: &mut [u32], count: usize) {
 }
 
 // b: builds the table's image.
-pub fn build(request: Request, mut sizes: Sizes, table: &[u16], image: &mut [u32]) -> Sizes {
+pub fn build(
+    out: &mut impl Write,
+    request: Request,
+    mut sizes: Sizes,
+    table: &[u16],
+    image: &mut [u32],
+) -> io::Result<Sizes> {
     let words = cut16(sizes.table, table);
     fill32(image, request.a);
     let room = cut32(request.a, image);
     let built = causes::of_build(builder::build(&table[..words], &mut image[..room]));
-    text::outcome(built);
-    text::list32(image, room);
+    text::outcome(out, built)?;
+    text::list32(out, image, room)?;
     sizes.image = built.1;
-    sizes
+    Ok(sizes)
 }
 
 // z: tells the size of the table's image.
-pub fn size(sizes: Sizes, table: &[u16]) -> Sizes {
+pub fn size(out: &mut impl Write, sizes: Sizes, table: &[u16]) -> io::Result<Sizes> {
     let words = cut16(sizes.table, table);
-    text::outcome(causes::of_size(builder::size(&table[..words])));
-    sizes
+    text::outcome(out, causes::of_size(builder::size(&table[..words])))?;
+    Ok(sizes)
 }
 
 // Replays the numbers of the request.
@@ -44,43 +52,55 @@ fn replay_given(fields: &[usize], count: usize, image: &[u32], marking: &mut [u8
 }
 
 // Answers a replay.
-fn tell(replayed: Replayed) {
+fn tell(out: &mut impl Write, replayed: Replayed) -> io::Result<()> {
     let outcome = replayed.outcome;
-    text::number(causes::of_firing(outcome));
-    text::number(replayed.firings);
+    text::number(out, causes::of_firing(outcome))?;
+    text::number(out, replayed.firings)
 }
 
 // Fires by number, replays the numbers of the request, or replays a history.
-fn fire(request: Request, fields: &[usize], image: &[u32], marking: &mut [u8], history: &[u32]) {
+fn fire(
+    out: &mut impl Write,
+    request: Request,
+    fields: &[usize],
+    image: &[u32],
+    marking: &mut [u8],
+    history: &[u32],
+) -> io::Result<()> {
     let letter = request.letter;
     match letter {
-        b'f' => text::number(causes::of_firing(net::fire(image, marking, word(request.a)))),
-        b'r' => tell(replay_given(fields, request.count, image, marking)),
-        _ => tell(net::replay(image, marking, history)),
+        b'f' => text::number(
+            out,
+            causes::of_firing(net::fire(image, marking, word(request.a))),
+        ),
+        b'r' => tell(out, replay_given(fields, request.count, image, marking)),
+        _ => tell(out, net::replay(image, marking, history)),
     }
 }
 
 // f, r, h: fires by number, replays the numbers given or the first words of the history.
 pub fn play(
+    out: &mut impl Write,
     request: Request,
     fields: &[usize],
     sizes: Sizes,
     image: &[u32],
     marking: &mut [u8],
     history: &[u32],
-) -> Sizes {
+) -> io::Result<Sizes> {
     let words = cut32(sizes.image, image);
     let bytes = cut8(sizes.marking, marking);
     let end = cut32(least(request.a, sizes.history), history);
     fire(
+        out,
         request,
         fields,
         &image[..words],
         &mut marking[..bytes],
         &history[..end],
-    );
-    text::list8(marking, bytes);
-    sizes
+    )?;
+    text::list8(out, marking, bytes)?;
+    Ok(sizes)
 }
 
 // Looks at a firing in the first bytes of a list.
@@ -90,20 +110,27 @@ fn show(image: &[u32], marking: &[u8], number: u32, list: &mut [u8], room: usize
 }
 
 // e: looks at a firing.
-pub fn look(request: Request, sizes: Sizes, image: &[u32], marking: &[u8]) -> Sizes {
+pub fn look(
+    out: &mut impl Write,
+    request: Request,
+    sizes: Sizes,
+    image: &[u32],
+    marking: &[u8],
+) -> io::Result<Sizes> {
     let mut space = [170u8; 32768];
     let words = cut32(sizes.image, image);
     let bytes = cut8(sizes.marking, marking);
     let room = least(request.b, 32768);
-    text::outcome(show(
+    let shown = show(
         &image[..words],
         &marking[..bytes],
         word(request.a),
         &mut space,
         room,
-    ));
-    text::list8(&space, room);
-    sizes
+    );
+    text::outcome(out, shown)?;
+    text::list8(out, &space, room)?;
+    Ok(sizes)
 }
 
 // Runs by the rule of the request's letter.
@@ -116,12 +143,13 @@ fn run_by(letter: u8, image: &[u32], marking: &mut [u8], limit: u64, history: &m
 
 // u, U: runs.
 pub fn run(
+    out: &mut impl Write,
     request: Request,
     mut sizes: Sizes,
     image: &[u32],
     marking: &mut [u8],
     history: &mut [u32],
-) -> Sizes {
+) -> io::Result<Sizes> {
     let words = cut32(sizes.image, image);
     let bytes = cut8(sizes.marking, marking);
     fill32(history, request.b);
@@ -134,10 +162,10 @@ pub fn run(
         &mut history[..room],
     );
     let reason = ran.reason;
-    text::outcome(causes::of_run(reason));
-    text::number(ran.firings);
-    text::list32(history, room);
-    text::list8(marking, bytes);
+    text::outcome(out, causes::of_run(reason))?;
+    text::number(out, ran.firings)?;
+    text::list32(out, history, room)?;
+    text::list8(out, marking, bytes)?;
     sizes.history = room;
-    sizes
+    Ok(sizes)
 }

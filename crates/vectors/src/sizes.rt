@@ -1,6 +1,6 @@
 // The lengths of what is kept, and of parts to lend.
 ghost use Rattle.std.specs.Prelude.{◌≤◌};
-ghost use Rattle.io.specs.Counts.{IsPrefixLen};
+ghost use Rattle.vectors.specs.Counts.{IsPrefixLen};
 
 // The lengths of the table, the image, the marking, the state, the history, and a summary's counts and set.
 #[derive(Clone, Copy)]

@@ -4,6 +4,8 @@ use crate::line::{Request, word};
 use crate::sizes::{Sizes, cut8, cut16, cut32, least};
 use crate::{causes, text};
 use lists::{store16, word16};
+use std::io;
+use std::io::Write;
 
 // Copies the first words to the start of a list, as many as it has room for.
 fn copy(from: &[u16], count: usize, to: &mut [u16]) {
@@ -49,12 +51,13 @@ fn room_of(request: Request) -> usize {
 
 // g, s, k: reads the marking back, starts, or takes a step. The state is kept if it was not refused.
 pub fn next(
+    out: &mut impl Write,
     request: Request,
     mut sizes: Sizes,
     table: &[u16],
     marking: &[u8],
     state: &mut [u16],
-) -> Sizes {
+) -> io::Result<Sizes> {
     let mut space = [43690u16; 64];
     let words = cut16(sizes.table, table);
     let bytes = cut8(sizes.marking, marking);
@@ -68,14 +71,14 @@ pub fn next(
         &mut space,
         room,
     );
-    text::outcome(made);
-    text::list16(&space, room);
+    text::outcome(out, made)?;
+    text::list16(out, &space, room)?;
     if made.0 != 0 {
-        return sizes;
+        return Ok(sizes);
     }
     copy(&space, room, state);
     sizes.state = made.1;
-    sizes
+    Ok(sizes)
 }
 
 // Lists the open steps in the first words of a list.
@@ -85,12 +88,21 @@ fn list_steps(table: &[u16], state: &[u16], labels: &mut [u32], room: usize) -> 
 }
 
 // o: the open steps.
-pub fn open_steps(request: Request, sizes: Sizes, table: &[u16], state: &[u16]) -> Sizes {
+pub fn open_steps(
+    out: &mut impl Write,
+    request: Request,
+    sizes: Sizes,
+    table: &[u16],
+    state: &[u16],
+) -> io::Result<Sizes> {
     let mut labels = [2863311530u32; 4096];
     let words = cut16(sizes.table, table);
     let held = cut16(sizes.state, state);
     let room = least(request.a, 4096);
-    text::outcome(list_steps(&table[..words], &state[..held], &mut labels, room));
-    text::list32(&labels, room);
-    sizes
+    text::outcome(
+        out,
+        list_steps(&table[..words], &state[..held], &mut labels, room),
+    )?;
+    text::list32(out, &labels, room)?;
+    Ok(sizes)
 }

@@ -3,6 +3,8 @@ use crate::causes::Outcome;
 use crate::line::{Request, word};
 use crate::sizes::{Sizes, cut16, least};
 use crate::{causes, text};
+use std::io;
+use std::io::Write;
 
 // Writes the rewritten table in the first words of a list.
 fn write(table: &[u16], list: &mut [u16], room: usize) -> Outcome {
@@ -11,13 +13,18 @@ fn write(table: &[u16], list: &mut [u16], room: usize) -> Outcome {
 }
 
 // v: rewrites the table.
-pub fn rewrite(request: Request, sizes: Sizes, table: &[u16]) -> Sizes {
+pub fn rewrite(
+    out: &mut impl Write,
+    request: Request,
+    sizes: Sizes,
+    table: &[u16],
+) -> io::Result<Sizes> {
     let mut space = [43690u16; 4096];
     let words = cut16(sizes.table, table);
     let room = least(request.a, 4096);
-    text::outcome(write(&table[..words], &mut space, room));
-    text::list16(&space, room);
-    sizes
+    text::outcome(out, write(&table[..words], &mut space, room))?;
+    text::list16(out, &space, room)?;
+    Ok(sizes)
 }
 
 // The original of a node, a branch or a name, by the kind modulo 3.
@@ -31,8 +38,13 @@ fn read_back(table: &[u16], kind: usize, number: u32) -> Outcome {
 }
 
 // a: reads a number of the rewritten table back.
-pub fn original(request: Request, sizes: Sizes, table: &[u16]) -> Sizes {
+pub fn original(
+    out: &mut impl Write,
+    request: Request,
+    sizes: Sizes,
+    table: &[u16],
+) -> io::Result<Sizes> {
     let words = cut16(sizes.table, table);
-    text::outcome(read_back(&table[..words], request.a, word(request.b)));
-    sizes
+    text::outcome(out, read_back(&table[..words], request.a, word(request.b)))?;
+    Ok(sizes)
 }

@@ -1,98 +1,96 @@
-// The text of answers, on standard output.
+// The text of answers, to a writer.
 use crate::causes::Outcome;
 use crate::digest::{Digest, long_at, of_bytes, of_halves, of_longs, of_words};
-use libc::STDOUT_FILENO;
 use lists::{word8, word16, word32};
+use std::io;
+use std::io::Write;
 
 // A byte.
-pub fn byte(byte: u8) {
+pub fn byte(out: &mut impl Write, byte: u8) -> io::Result<()> {
     let text = [byte];
-    io::write_all(STDOUT_FILENO, &text);
+    out.write_all(&text)
 }
 
 // A space and a number.
-pub fn number(value: usize) {
-    byte(b' ');
-    io::print_decimal(STDOUT_FILENO, value as u64);
+pub fn number(out: &mut impl Write, value: usize) -> io::Result<()> {
+    write!(out, " {value}")
 }
 
 // A cause or 0, and a count.
-pub fn outcome(outcome: Outcome) {
-    number(outcome.0);
-    number(outcome.1);
+pub fn outcome(out: &mut impl Write, outcome: Outcome) -> io::Result<()> {
+    number(out, outcome.0)?;
+    number(out, outcome.1)
 }
 
 // Item i of a list, a space before all but the first.
-fn item(i: usize, value: usize) {
+fn item(out: &mut impl Write, i: usize, value: usize) -> io::Result<()> {
     if i > 0 {
-        byte(b' ');
+        byte(out, b' ')?;
     }
-    io::print_decimal(STDOUT_FILENO, value as u64);
+    write!(out, "{value}")
 }
 
 // A digest after its sign.
-fn digest(digest: Digest) {
-    byte(b'#');
-    io::print_hex(STDOUT_FILENO, digest.high as u64, 8);
-    io::print_hex(STDOUT_FILENO, digest.low as u64, 8);
+fn digest(out: &mut impl Write, digest: Digest) -> io::Result<()> {
+    write!(out, "#{:08x}{:08x}", digest.high, digest.low)
 }
 
 // A space and the list of the first bytes.
-pub fn list8(list: &[u8], count: usize) {
-    number(count);
+pub fn list8(out: &mut impl Write, list: &[u8], count: usize) -> io::Result<()> {
+    number(out, count)?;
     if count > 128 {
-        digest(of_bytes(list, count));
-        return;
+        return digest(out, of_bytes(list, count));
     }
-    byte(b':');
+    byte(out, b':')?;
     let mut i: usize = 0;
     while i < count {
-        item(i, word8(list, i));
+        item(out, i, word8(list, i))?;
         i += 1;
     }
+    Ok(())
 }
 
 // A space and the list of the first 16-bit words.
-pub fn list16(list: &[u16], count: usize) {
-    number(count);
+pub fn list16(out: &mut impl Write, list: &[u16], count: usize) -> io::Result<()> {
+    number(out, count)?;
     if count > 128 {
-        digest(of_halves(list, count));
-        return;
+        return digest(out, of_halves(list, count));
     }
-    byte(b':');
+    byte(out, b':')?;
     let mut i: usize = 0;
     while i < count {
-        item(i, word16(list, i));
+        item(out, i, word16(list, i))?;
         i += 1;
     }
+    Ok(())
 }
 
 // A space and the list of the first 32-bit words.
-pub fn list32(list: &[u32], count: usize) {
-    number(count);
+pub fn list32(out: &mut impl Write, list: &[u32], count: usize) -> io::Result<()> {
+    number(out, count)?;
     if count > 128 {
-        digest(of_words(list, count));
-        return;
+        return digest(out, of_words(list, count));
     }
-    byte(b':');
+    byte(out, b':')?;
     let mut i: usize = 0;
     while i < count {
-        item(i, word32(list, i));
+        item(out, i, word32(list, i))?;
         i += 1;
     }
+    Ok(())
 }
 
 // A space and the list of the first 64-bit words.
-pub fn list64(list: &[u64], count: usize) {
-    number(count);
+pub fn list64(out: &mut impl Write, list: &[u64], count: usize) -> io::Result<()> {
+    number(out, count)?;
     if count > 128 {
-        digest(of_longs(list, count));
-        return;
+        return digest(out, of_longs(list, count));
     }
-    byte(b':');
+    byte(out, b':')?;
     let mut i: usize = 0;
     while i < count {
-        item(i, long_at(list, i));
+        item(out, i, long_at(list, i))?;
         i += 1;
     }
+    Ok(())
 }
