@@ -1,13 +1,13 @@
 -- One turn of the loops that write words.
-use mathlib.Core.Path.{◌≡◌, refl, sym, ap, ◌∙◌}
+use mathlib.Core.Path.{◌≡◌, sym, ap, ◌∙◌}
 use mathlib.Core.List.{List, [], ◌∷◌, ◌++◌}
-use Prim.Native.Nat.{ℕ, zero, suc, ◌+◌, ◌-◌, ◌≤◌, ◌<◌}
+use Prim.Native.Nat.{ℕ, suc, ◌+◌, ◌-◌, ◌≤◌, ◌<◌}
 use native.Mathlib.Omega.{arith}
 use lib.ListN.{length, get_or, take, set, length-append}
 use lib.Seq.{slice, length-take-le}
 use Rattle.lists.specs.Lists.{from}
 use Rattle.lists.proofs.Slices.{slice-step, slice-none}
-use Rattle.builder.specs.Inner.Writing.{writes, Heads, heads, put_one_transition}
+use Rattle.builder.specs.Inner.Writing.{writes, heads, put_one_transition}
 use Rattle.builder.specs.Inner.Parts.{arrow}
 use Rattle.builder.proofs.Writing.{writes_one, writes-none, writes-append}
 

@@ -1,5 +1,5 @@
 -- Writing the places that are marked at first: rows one after the other, entry roots put in order.
-use mathlib.Core.Path.{◌≡◌, refl, sym, ap, ◌∙◌}
+use mathlib.Core.Path.{◌≡◌, refl, sym, ap, ◌∙◌, subst}
 use mathlib.Core.Bool.{Bool, true, false, not, ◌||◌}
 use mathlib.Core.List.{List, [], ◌∷◌, ◌++◌, map}
 use mathlib.Core.Logic.{◌⊎◌, inl, inr}
@@ -37,7 +37,6 @@ use Rattle.places.proofs.Names.{is_name_read}
 use Rattle.places.proofs.ReachRows.{public_list_of, values-count, privates-count}
 use Rattle.places.proofs.Reaches.{publics-kept}
 use Rattle.places.specs.declared.reach.Reach.{Reach}
-use Rattle.places.proofs.Controls.{publics-are}
 use Rattle.places.proofs.Initial.{some-control}
 use Rattle.places.proofs.Sorted.{insert-ascends, member-insert, insert-length}
 use Rattle.builder.proofs.Writing.{writes-none, writes-append, writes-length}
@@ -246,7 +245,9 @@ module _ (w : List ℕ) (h : cause w ≡ 0) where
   spots-rise : (a n : ℕ) → ascends (control_of w (a + n)) (control_of w a) (flat marks_at (from a n)) ≡ true
   unfolding flat from ascends
   spots-rise a zero = refl
-  spots-rise a (suc n) = go (starts_at S (today w) a) (spots-rise (a + 1) n)
+  spots-rise a (suc n) =
+      subst (λ (h : ℕ). ascends (control_of w h) (control_of w a) (flat marks_at (from a (suc n))) ≡ true) (sym sum)
+      (go (starts_at S (today w) a) (spots-rise (a + 1) n))
     where
       sum : a + suc n ≡ a + 1 + n
       sum = omega arith
@@ -258,13 +259,13 @@ module _ (w : List ℕ) (h : cause w ≡ 0) where
       top = control-rises S (today w) (a + 1) (a + 1 + n) (omega arith)
 
       go : (b : Bool) → ascends (control_of w (a + 1 + n)) (control_of w (a + 1)) (flat marks_at (from (a + 1) n)) ≡ true
-          → ascends (control_of w (a + suc n)) (control_of w a) (pick b (control_of w a ∷ []) [] ++ flat marks_at (from (a + 1) n)) ≡ true
+          → ascends (control_of w (a + 1 + n)) (control_of w a) (pick b (control_of w a ∷ []) [] ++ flat marks_at (from (a + 1) n)) ≡ true
       go true ih =
-          rw sum (ascends-cons (control_of w (a + 1 + n)) (control_of w a) (control_of w a) (flat marks_at (from (a + 1) n)) (omega arith)
+          (ascends-cons (control_of w (a + 1 + n)) (control_of w a) (control_of w a) (flat marks_at (from (a + 1) n)) (omega arith)
           (omega (arith, next, top))
           ∙ ascends-lower (control_of w (a + 1 + n)) (control_of w (a + 1)) (control_of w a + 1) (flat marks_at (from (a + 1) n)) (omega (arith, next)) ih)
       go false ih =
-          rw sum (ascends-lower (control_of w (a + 1 + n)) (control_of w (a + 1)) (control_of w a) (flat marks_at (from (a + 1) n)) (omega (arith, next)) ih)
+          (ascends-lower (control_of w (a + 1 + n)) (control_of w (a + 1)) (control_of w a) (flat marks_at (from (a + 1) n)) (omega (arith, next)) ih)
 
   root-inside : (t : ℕ) → t < threads w → root w (entry w t) < nodes w
   unfolding scheme

@@ -1,11 +1,11 @@
 -- Insertion into the first words of a list: looked for from the end, the words behind moved up by one.
 use mathlib.Core.Path.{◌≡◌, refl, sym, ap, ◌∙◌}
-use mathlib.Core.Bool.{true, false}
+use mathlib.Core.Bool.{true}
 use mathlib.Core.List.{List, [], ◌∷◌, ◌++◌, append_assoc}
 use Prim.Native.Nat.{ℕ, zero, suc, ◌+◌, ◌-◌, ◌≤◌, ◌<◌}
 use native.Mathlib.Omega.{arith}
-use lib.ListN.{length, get_or, take, drop, set, length-append, length-take, length-drop, get_or-append, take-append-drop}
-use lib.Seq.{slice, take-suc, set_at, set-append_left, get_or-take, length-take-le, length-slice, take_at, take-take}
+use lib.ListN.{length, get_or, take, drop, set, length-append, get_or-append, take-append-drop}
+use lib.Seq.{slice, take-suc, set_at, get_or-take, length-take-le, length-slice, take_at, take-take}
 use Rattle.lists.specs.Lists.{ascends}
 use Rattle.lists.proofs.Slices.{slice-step, slice-none}
 use Rattle.lists.proofs.Ascending.{ascends-first, ascends-rest}

@@ -1,0 +1,109 @@
+use mathlib.Core.Path.{sym, ◌∙◌}
+use native.Mathlib.Omega.{arith}
+use Rattle.places.proofs.Plans.{privates-are, row_small}
+use Rattle.builder.specs.Inner.Parts.{state}
+use Rattle.builder.proofs.Released.{Listed, releasable, publics-fit, privates-fit, publics-inside, publics-only, privates-inside, privates-too}
+use Rattle.builder.proofs.chain.release_name.Goals as goal
+
+pub release_publics-q-requires : goal.release_publics-q-requires
+release_publics-q-requires c =
+    let listed : let a = c.args in
+    Listed a.table.now a.index.now a.c a.x.k a.x.name c.reach_of-r.result a.row c.publics_of-count.result =
+    let p = c.requires in
+    record {
+      laid = p.0;
+      chained = p.1;
+      inside = p.2;
+      low = p.3;
+      high = p.4;
+      reach-told = c.reach_of-r.ensures;
+      row_told = p.5;
+      count-told = c.publics_of-count.ensures.0;
+    } in
+    let a = c.args in
+    let p = c.requires in
+    let q = listed in (
+      releasable q,
+      publics-fit q,
+      publics-inside q (state a.out.now a.h) p.6,
+    )
+
+pub returns-then-not-has_privates : goal.returns-then-not-has_privates
+returns-then-not-has_privates c =
+    let listed : let a = c.args in
+    Listed a.table.now a.index.now a.c a.x.k a.x.name c.reach_of-r.result a.row c.publics_of-count.result =
+    let p = c.requires in
+    record {
+      laid = p.0;
+      chained = p.1;
+      inside = p.2;
+      low = p.3;
+      high = p.4;
+      reach-told = c.reach_of-r.ensures;
+      row_told = p.5;
+      count-told = c.publics_of-count.ensures.0;
+    } in
+    let a = c.args in
+    let q = listed in
+    publics-only q (state a.out.now a.h) _ c.release_publics-q.ensures
+    (sym c.has_privates.ensures ∙ c.if-not-has_privates.true)
+
+pub overflow_add-first : goal.overflow_add-first
+overflow_add-first c =
+    omega (
+      arith,
+      c.requires.5,
+      row_small c.args.table.now c.requires.0.accepted c.args.x.name (omega (arith, c.requires.4)),
+      c.publics_of-count.ensures.1,
+    )
+
+pub release_privates-requires : goal.release_privates-requires
+release_privates-requires c =
+    let listed : let a = c.args in
+    Listed a.table.now a.index.now a.c a.x.k a.x.name c.reach_of-r.result a.row c.publics_of-count.result =
+    let p = c.requires in
+    record {
+      laid = p.0;
+      chained = p.1;
+      inside = p.2;
+      low = p.3;
+      high = p.4;
+      reach-told = c.reach_of-r.ensures;
+      row_told = p.5;
+      count-told = c.publics_of-count.ensures.0;
+    } in
+    let a = c.args in
+    let p = c.requires in
+    let q = listed in
+    let g = c.given_back-back in
+    let e = c.privates.ensures.is ∙ privates-are a.table.now a.index.now p.0 in
+    let f = privates-fit q g.result c.privates.result g.ensures e in (
+      releasable q,
+      f.0,
+      f.1,
+      privates-inside q (state a.out.now a.h) _ c.release_publics-q.ensures
+          (sym c.has_privates.ensures ∙ c.if-not-has_privates.false) g.result g.ensures
+          c.privates.result e p.6,
+    )
+
+pub returns : goal.returns
+returns c =
+    let listed : let a = c.args in
+    Listed a.table.now a.index.now a.c a.x.k a.x.name c.reach_of-r.result a.row c.publics_of-count.result =
+    let p = c.requires in
+    record {
+      laid = p.0;
+      chained = p.1;
+      inside = p.2;
+      low = p.3;
+      high = p.4;
+      reach-told = c.reach_of-r.ensures;
+      row_told = p.5;
+      count-told = c.publics_of-count.ensures.0;
+    } in
+    let a = c.args in
+    let g = c.given_back-back in
+    let n = c.privates in
+    privates-too listed (state a.out.now a.h) _ c.release_publics-q.ensures
+    (sym c.has_privates.ensures ∙ c.if-not-has_privates.false) g.result g.ensures n.result
+    (n.ensures.is ∙ privates-are a.table.now a.index.now c.requires.0) _ c.release_privates.ensures

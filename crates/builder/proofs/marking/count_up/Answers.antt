@@ -1,0 +1,21 @@
+use mathlib.Core.Path.{refl, sym, ◌∙◌}
+use Prim.Native.Nat.{◌+◌}
+use native.Mathlib.Omega.{arith}
+use lib.ListN.{length-set}
+use Rattle.builder.proofs.Loops.{up_more, up_done}
+use Rattle.builder.proofs.marking.count_up.Goals as goal
+
+pub loop-i-preserved : goal.loop-i-preserved
+loop-i-preserved c =
+    let a = c.args in
+    let l = c.loop-i in
+    let s = c.store32 in (
+      l.invariant.0 ∙ up_more l.out a.at a.first l.i a.count (omega arith) ∙ rw s.ensures,
+      rw s.ensures (length-set l.out (a.at + l.i) (a.first + l.i) ∙ l.invariant.1),
+    )
+
+pub returns : goal.returns
+returns c =
+    let a = c.args in
+    let l = c.loop-i in
+    (refl, sym (l.invariant.0 ∙ up_done l.out a.at a.first l.i a.count c.loop-i-test.false))

@@ -1,0 +1,14 @@
+use mathlib.Core.Path.{◌≡◌}
+use Prim.Native.Nat.{◌-◌, ◌≤◌}
+use lib.ListN.{length}
+use Rattle.scheme.specs.Words.{publics}
+use Rattle.places.specs.Inner.Plan.{row_of}
+use Rattle.builder.specs.Inner.Parts.{Filled}
+use Rattle.builder.proofs.Making.{differs_below}
+use Rattle.builder.proofs.nodes.differences.Given as goal
+
+abbrev pub invariant-loop-x : goal.invariant-loop-x
+invariant-loop-x l = Filled l.table l.list l.count (differs_below l.table l.v l.x) × (length l.list ≡ length l.initial.list) × (publics l.table ≤ l.x) × (l.x ≤ l.end) × (l.row ≡ row_of l.table l.x)
+
+abbrev pub decreases-loop-x : goal.decreases-loop-x
+decreases-loop-x l = l.end - l.x

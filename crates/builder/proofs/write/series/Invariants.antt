@@ -1,0 +1,17 @@
+use mathlib.Core.Path.{◌≡◌}
+use mathlib.Core.List.{[], ◌∷◌}
+use Prim.Native.Nat.{◌-◌}
+use lib.ListN.{length}
+use Rattle.lists.specs.Lists.{from, range}
+use Rattle.builder.specs.Inner.Writing.{heads, put_all}
+use Rattle.builder.specs.Inner.Parts.{risen}
+use Rattle.builder.proofs.write.series.Given as goal
+
+abbrev pub invariant-loop-t : goal.invariant-loop-t
+invariant-loop-t l =
+    (put_all (risen l.label.kind l.label.a l.label.b l.arcs (l.a ∷ l.b ∷ l.c ∷ l.d ∷ l.e ∷ [])) (heads l.initial.out l.initial.place l.initial.arc) (range l.count)
+    ≡ put_all (risen l.label.kind l.label.a l.label.b l.arcs (l.a ∷ l.b ∷ l.c ∷ l.d ∷ l.e ∷ [])) (heads l.out l.place l.arc) (from l.t (l.count - l.t)))
+    × (length l.out ≡ length l.initial.out)
+
+abbrev pub decreases-loop-t : goal.decreases-loop-t
+decreases-loop-t l = l.count - l.t
