@@ -1,7 +1,7 @@
 -- The text of a listing (document 01, Table E and its listing), of any words: a word past the end of the image is 0, and of arcs that reach
 -- past it those within are listed.
 use Rattle.std.specs.Prelude.{List, [], ◌∷◌, ◌++◌, ℕ}
-use Rattle.lists.specs.Lists.{word, range, flat}
+use Rattle.lists.specs.Lists.{range, flat}
 use Rattle.net.specs.Image.{place_count_of, transition_count, input_arcs, output_arcs, initial_tokens, label_at, inputs_at, outputs_at}
 use Rattle.print.specs.Text.{decimal, numbers, line}
 

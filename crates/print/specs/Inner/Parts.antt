@@ -4,7 +4,7 @@ use Rattle.lists.specs.Lists.{pick, same, flat}
 use Rattle.table.specs.Causes.{cause}
 use Rattle.net.specs.Image.{record_offset, label_at, inputs_at, outputs_at}
 use Rattle.places.specs.Image.{image_of}
-use Rattle.print.specs.Text.{decimal, numbers, spaced, refusal}
+use Rattle.print.specs.Text.{numbers, spaced, refusal}
 use Rattle.print.specs.Listing.{before_inputs, before_outputs}
 use Rattle.print.specs.Program.{image_text}
 
