@@ -1,9 +1,8 @@
 // A line of input taken apart: field 0 is its letter, the fields after it are its numbers.
-ghost use Rattle.std.specs.Prelude.{◌≤◌};
+ghost use Rattle.std.specs.Prelude.{◌≤◌, IfOk};
 
 use crate::sizes::least;
 use lists::word8;
-use std::alloc::Global;
 use std::io;
 use std::io::Read;
 
@@ -18,11 +17,19 @@ pub struct Request {
     pub d: usize,
 }
 
-// Reads the input: all its bytes, at most 1,048,576.
-pub fn read(alloc: Global, from: impl Read + Drop) -> io::Result<Vec<u8>> {
-    let mut input = Vec::new(alloc);
-    from.take(1048576).read_to_end(&mut input)?;
-    Ok(input)
+// Reads the input until it ends or `input` is full, and answers how many bytes it has.
+pub fn read(from: &mut impl Read, input: &mut [u8; 1048576]) -> io::Result<usize>
+    ensures { IfOk result (λ n. n ≤ 1048576) }
+{
+    let mut count = 0;
+    while count < 1048576 {
+        let more = from.read(&mut input[count..])?;
+        if more == 0 {
+            return Ok(count);
+        }
+        count += more;
+    }
+    Ok(count)
 }
 
 // Where the line that starts at `from` has its line feed, 10; `count`, where the input ends, if there is none.

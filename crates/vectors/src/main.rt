@@ -65,7 +65,7 @@ mod text;
 
 use crate::sizes::Sizes;
 use std::io;
-use std::io::{BufWriter, Write};
+use std::io::Write;
 
 // Answers the request of a line's fields, and tells the lengths of what is kept after it.
 fn answer(
@@ -147,11 +147,11 @@ fn main(rt: HostRuntime) -> io::Result<()> {
     let mut enabled = [0u64; 512];
     let mut history = [0u32; 4096];
     let mut state = [0u16; 64];
-    let input = line::read(rt.alloc(), rt.stdin())?;
-    let mut out = BufWriter::new(rt.alloc(), rt.stdout())?;
+    let mut input = [0u8; 1048576];
+    let count = line::read(&mut rt.stdin(), &mut input)?;
     answer_lines(
-        &mut out,
-        &input,
+        &mut rt.stdout(),
+        &input[..count],
         &mut table,
         &mut image,
         &mut marking,
@@ -159,6 +159,5 @@ fn main(rt: HostRuntime) -> io::Result<()> {
         &mut enabled,
         &mut history,
         &mut state,
-    )?;
-    out.flush()
+    )
 }

@@ -1,0 +1,9 @@
+-- What is read so far is at most what fits. Measure: what is left to fill.
+use Rattle.std.proofs.Common.{◌-◌, ◌≤◌, length}
+use Rattle.listing.proofs.read.Given as goal
+
+abbrev pub invariant-loop-count : goal.invariant-loop-count
+invariant-loop-count g l = l.count ≤ length l.input
+
+abbrev pub decreases-loop-count : goal.decreases-loop-count
+decreases-loop-count g l = length l.input - l.count
