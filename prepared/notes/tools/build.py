@@ -1,6 +1,6 @@
 import glob, re, os
 G='/tmp/lang-gen1/Rattle·language·proofs/proofs/'
-C='/work/clones/language/crates/language/proofs/'
+C='$WORK/clones/language/crates/language/proofs/'
 def parse(file):
     L=open(file).read().split('\n')
     rec,cur,needs={},None,{}

@@ -60,7 +60,7 @@ def mk(crate,path,comment,uses,bodies,inv=None,unf={}):
     names=(['Inv-loop','μ-loop'] if inv else [])+order
     spec=fn.replace('_','-')+'-spec'
     out+=f'pub {spec} : {{M : Type 1}} → statement M\n{spec} =\n    tie.close\n    (tie.spec\n    '+'\n    '.join(names)+')\n'
-    d='/work/clones/language/crates/%s/proofs/'%crate+path
+    d='$WORK/clones/language/crates/%s/proofs/'%crate+path
     os.makedirs(d,exist_ok=True)
     open(d+'/Proof.antt','w').write(out)
     for n in bodies:

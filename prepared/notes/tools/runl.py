@@ -1,5 +1,5 @@
 import subprocess,struct,re,collections,sys
-D='/work/main/prepared/notes/speed/'
+D='$WORK/main/prepared/notes/speed/'
 def words(f): b=open(D+f,'rb').read(); return list(struct.unpack('<%dH'%(len(b)//2),b))
 def inp(t,names,mode=0,times=1,size=65535,text=b''):
     return times.to_bytes(2,'little')+b'\0'+bytes([mode])+len(t).to_bytes(2,'little')+len(names).to_bytes(2,'little')+size.to_bytes(2,'little')+struct.pack('<%dH'%len(t),*t)+names+text
