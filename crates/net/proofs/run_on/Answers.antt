@@ -16,7 +16,24 @@ use Rattle.net.proofs.Passes.{Searched, kept-found, kept-nothing, passed_start, 
 use Rattle.net.proofs.Passes.{searched-stop, found_right}
 use Rattle.net.proofs.Runs.{run-limit, run-full, run-nothing, run-malformed, run-refused, run_on, rest-kept, leaves-ended}
 use Rattle.net.proofs.run_on.Goals as goal
-use Rattle.net.proofs.run_on.Goals.{else-scan-test, then-scan-test+in-Arcs+else-loop-i-test+then-ends_at}
+use Rattle.net.proofs.run_on.Goals.{Left-scan, Else-room-made, else-scan-test, then-scan-test+in-Arcs+else-loop-i-test+then-ends_at}
+
+-- where the ways out of the search meet
+found : (c : Left-scan)
+    → Searched c.args.image.now c.loop-made.marking c.args.settle (transition_count c.args.image.now) c.scan-test.best c.scan-test.transition
+found c =
+    elim c.scan-test.branch [
+      | else-scan-test w ↦ rw (w.best-is, w.transition-is) (searched-end _ _ _ _ _ _ c.scan.invariant w.scan-test.false)
+      | then-scan-test+in-Arcs+else-loop-i-test+then-ends_at w ↦
+          let g = was-right _ _ _ _ _ (sym w.record_at.ensures ∙ w.in-Arcs.is) in
+          let l = w.loop-i in
+          rw (w.best-is ∙ l.invariant.0, w.transition-is ∙ l.invariant.0)
+          (searched-stop _ _ _ _ _ _ c.scan.invariant w.scan-test.true g.right _ g.inputs (l.invariant.2 ∙ enabled-none _ _ _ w.loop-i-test.false _)
+          (ap (is_end_at c.args.image.now c.args.settle) (sym l.invariant.0) ∙ sym w.ends_at.ensures ∙ w.if-ends_at.true))
+    ]
+
+room : (c : Else-room-made) → c.loop-made.made < length c.args.history.now
+room c = omega (arith, c.if-room-made.false, c.loop-made.invariant.2)
 
 pub returns-then-room-made : goal.returns-then-room-made
 returns-then-room-made c =
@@ -29,9 +46,8 @@ scan-init c = passed_start _ _ _ _ refl
 
 pub returns-in_default : goal.returns-in_default
 returns-in_default c =
-    let room : c.loop-made.made < length c.args.history.now = omega (arith, c.if-room-made.false, c.loop-made.invariant.2) in
     leaves-ended _ _ _ _ _ _ _ _ c.loop-made.invariant.5
-    (run-malformed _ _ _ _ _ _ c.loop-made-test.true room
+    (run-malformed _ _ _ _ _ _ c.loop-made-test.true (room (goal.at.returns-in_default c).Else-room-made)
     (passed-wrong _ _ _ _ _ _ c.scan.invariant c.scan-test.true (was-wrong _ _ (sym c.record_at.ensures ∙ c.in_default.is))))
     refl refl (omega arith) c.loop-made.invariant.3
 
@@ -84,53 +100,24 @@ scan-preserved c =
 
 pub returns-then-count-best : goal.returns-then-count-best
 returns-then-count-best c =
-    let room : c.loop-made.made < length c.args.history.now = omega (arith, c.if-room-made.false, c.loop-made.invariant.2) in
-    let found : Searched c.args.image.now c.loop-made.marking c.args.settle (transition_count c.args.image.now) c.scan-test.best c.scan-test.transition =
-    elim c.scan-test.branch [
-      | else-scan-test w ↦ rw (w.best-is, w.transition-is) (searched-end _ _ _ _ _ _ c.scan.invariant w.scan-test.false)
-      | then-scan-test+in-Arcs+else-loop-i-test+then-ends_at w ↦
-          let g = was-right _ _ _ _ _ (sym w.record_at.ensures ∙ w.in-Arcs.is) in
-          let l = w.loop-i in
-          rw (w.best-is ∙ l.invariant.0, w.transition-is ∙ l.invariant.0)
-          (searched-stop _ _ _ _ _ _ c.scan.invariant w.scan-test.true g.right _ g.inputs (l.invariant.2 ∙ enabled-none _ _ _ w.loop-i-test.false _)
-          (ap (is_end_at c.args.image.now c.args.settle) (sym l.invariant.0) ∙ sym w.ends_at.ensures ∙ w.if-ends_at.true))
-    ] in
+    let met = found (goal.at.returns-then-count-best c).Left-scan in
     leaves-ended _ _ _ _ _ _ _ _ c.loop-made.invariant.5
-    (run-nothing _ _ _ _ _ _ c.loop-made-test.true room (found.finds ∙ sym (kept-nothing _ _ c.if-count-best.true)))
+    (run-nothing _ _ _ _ _ _ c.loop-made-test.true (room (goal.at.returns-then-count-best c).Else-room-made) (met.finds ∙ sym (kept-nothing _ _ c.if-count-best.true)))
     refl refl (omega arith) c.loop-made.invariant.3
 
 pub fire_enabled-requires : goal.fire_enabled-requires
 fire_enabled-requires c =
     let below = c.if-count-best.false in
-    let found : Searched c.args.image.now c.loop-made.marking c.args.settle (transition_count c.args.image.now) c.scan-test.best c.scan-test.transition =
-    elim c.scan-test.branch [
-      | else-scan-test w ↦ rw (w.best-is, w.transition-is) (searched-end _ _ _ _ _ _ c.scan.invariant w.scan-test.false)
-      | then-scan-test+in-Arcs+else-loop-i-test+then-ends_at w ↦
-          let g = was-right _ _ _ _ _ (sym w.record_at.ensures ∙ w.in-Arcs.is) in
-          let l = w.loop-i in
-          rw (w.best-is ∙ l.invariant.0, w.transition-is ∙ l.invariant.0)
-          (searched-stop _ _ _ _ _ _ c.scan.invariant w.scan-test.true g.right _ g.inputs (l.invariant.2 ∙ enabled-none _ _ _ w.loop-i-test.false _)
-          (ap (is_end_at c.args.image.now c.args.settle) (sym l.invariant.0) ∙ sym w.ends_at.ensures ∙ w.if-ends_at.true))
-    ] in
-    (c.requires.0, c.loop-made.invariant.1 ∙ c.requires.1, below, found.best-right below, found.enabled below)
+    let met = found (goal.at.fire_enabled-requires c).Left-scan in
+    (c.requires.0, c.loop-made.invariant.1 ∙ c.requires.1, below, met.best-right below, met.enabled below)
 
 pub returns-then-not-fire_enabled : goal.returns-then-not-fire_enabled
 returns-then-not-fire_enabled c =
     let f = c.fire_enabled.ensures in
     let r = c.if-not-fire_enabled.true in
-    let room : c.loop-made.made < length c.args.history.now = omega (arith, c.if-room-made.false, c.loop-made.invariant.2) in
-    let found : Searched c.args.image.now c.loop-made.marking c.args.settle (transition_count c.args.image.now) c.scan-test.best c.scan-test.transition =
-    elim c.scan-test.branch [
-      | else-scan-test w ↦ rw (w.best-is, w.transition-is) (searched-end _ _ _ _ _ _ c.scan.invariant w.scan-test.false)
-      | then-scan-test+in-Arcs+else-loop-i-test+then-ends_at w ↦
-          let g = was-right _ _ _ _ _ (sym w.record_at.ensures ∙ w.in-Arcs.is) in
-          let l = w.loop-i in
-          rw (w.best-is ∙ l.invariant.0, w.transition-is ∙ l.invariant.0)
-          (searched-stop _ _ _ _ _ _ c.scan.invariant w.scan-test.true g.right _ g.inputs (l.invariant.2 ∙ enabled-none _ _ _ w.loop-i-test.false _)
-          (ap (is_end_at c.args.image.now c.args.settle) (sym l.invariant.0) ∙ sym w.ends_at.ensures ∙ w.if-ends_at.true))
-    ] in
+    let met = found (goal.at.returns-then-not-fire_enabled c).Left-scan in
     leaves-ended _ _ _ _ _ _ _ _ c.loop-made.invariant.5
-    (run-refused _ _ _ _ _ _ c.loop-made-test.true room _ 16 (found.finds ∙ sym (kept-found _ _ c.if-count-best.false)) (f.step_is ∙ pick-false _ _ r))
+    (run-refused _ _ _ _ _ _ c.loop-made-test.true (room (goal.at.returns-then-not-fire_enabled c).Else-room-made) _ 16 (met.finds ∙ sym (kept-found _ _ c.if-count-best.false)) (f.step_is ∙ pick-false _ _ r))
     refl (f.left r) (omega arith) c.loop-made.invariant.3
 
 pub loop-made-preserved : goal.loop-made-preserved
@@ -139,28 +126,18 @@ loop-made-preserved c =
     let r : c.fire_enabled.result ≡ true = c.if-not-fire_enabled.false in
     let t = c.scan-test.best in
     let below = c.if-count-best.false in
-    let room : c.loop-made.made < length c.args.history.now = omega (arith, c.if-room-made.false, c.loop-made.invariant.2) in
-    let found : Searched c.args.image.now c.loop-made.marking c.args.settle (transition_count c.args.image.now) c.scan-test.best c.scan-test.transition =
-    elim c.scan-test.branch [
-      | else-scan-test w ↦ rw (w.best-is, w.transition-is) (searched-end _ _ _ _ _ _ c.scan.invariant w.scan-test.false)
-      | then-scan-test+in-Arcs+else-loop-i-test+then-ends_at w ↦
-          let g = was-right _ _ _ _ _ (sym w.record_at.ensures ∙ w.in-Arcs.is) in
-          let l = w.loop-i in
-          rw (w.best-is ∙ l.invariant.0, w.transition-is ∙ l.invariant.0)
-          (searched-stop _ _ _ _ _ _ c.scan.invariant w.scan-test.true g.right _ g.inputs (l.invariant.2 ∙ enabled-none _ _ _ w.loop-i-test.false _)
-          (ap (is_end_at c.args.image.now c.args.settle) (sym l.invariant.0) ∙ sym w.ends_at.ensures ∙ w.if-ends_at.true))
-    ] in (
+    let met = found (goal.at.loop-made-preserved c).Left-scan in (
       omega arith,
       omega arith,
       simp length-set c.loop-made.invariant.2,
       rest-kept c.loop-made.history c.args.history.now c.loop-made.made t c.loop-made.invariant.3,
       λ k p. ⊎_elim
-          (λ q. ⊎_elim (λ x. c.loop-made.invariant.4 k x) (λ x. found.right k x) (c.larger.ensures.none_between k q))
-          (λ q. found_right _ _ _ _ _ _ found below k q)
+          (λ q. ⊎_elim (λ x. c.loop-made.invariant.4 k x) (λ x. met.right k x) (c.larger.ensures.none_between k q))
+          (λ q. found_right _ _ _ _ _ _ met below k q)
           (c.larger-seen.ensures.none_between k p),
       run_on c.args.image.now (rule_of c.args.settle c.args.image.now) c.loop-made.marking c.loop-made.history c.args.limit (length c.args.history.now)
-          c.loop-made.made _ c.loop-made.invariant.5 c.loop-made-test.true room c.loop-made.invariant.2 _ _
-          (found.finds ∙ sym (kept-found _ _ below)) (f.step_is ∙ pick_true _ _ r),
+          c.loop-made.made _ c.loop-made.invariant.5 c.loop-made-test.true (room (goal.at.loop-made-preserved c).Else-room-made) c.loop-made.invariant.2 _ _
+          (met.finds ∙ sym (kept-found _ _ below)) (f.step_is ∙ pick_true _ _ r),
     )
 
 pub returns : goal.returns

@@ -20,21 +20,51 @@ use Rattle.builder.proofs.Writing.{put-none}
 use Rattle.builder.proofs.Chains.{chain-few, state-length}
 use Rattle.builder.proofs.HeldChains.{held-bounded}
 use Rattle.builder.proofs.ChainLoops.{part-inside, part-more, taken-member, releases-start, releases-more, releases-done}
+use Rattle.builder.proofs.chain.release_all.Goals.{After-held_names-count}
 use Rattle.builder.proofs.chain.release_all.Goals as goal
 
+-- ---- the held names
+
+-- the list has room for them
+fit : (c : After-held_names-count) → c.held_names-count.result ≤ length c.held_names-count.new.out
+fit c =
+    names-fit c.args.table.now c.args.index.now (known _ _ c.requires.0) c.args.c.node c.requires.1.node-inside _ _ _ c.held_names-count.ensures
+    (omega arith)
+
+-- what is read of the list is the node's held names
+taken : (c : After-held_names-count) → take c.held_names-count.result c.held_names-count.new.out ≡ held c.args.table.now c.args.c.node
+taken c =
+    names-taken c.args.table.now c.args.index.now (known _ _ c.requires.0) c.args.c.node c.requires.1.node-inside _ _ _
+    c.held_names-count.ensures (omega arith)
+
+-- the chain has controls for all of them
+few : (c : After-held_names-count) → c.args.k + c.held_names-count.result ≤ c.args.c.controls
+few c =
+    let n = c.held_names-count.result in
+    let e : length (take n c.held_names-count.new.out) ≡ n = length-take-le n c.held_names-count.new.out (fit c) in
+    omega (arith, c.requires.2, e, ap (λ (xs : List ℕ). length xs) (taken c))
+
+-- their releases are written within the buffer
+inside : (c : After-held_names-count)
+    → let a = c.args in
+    Inside (put a.table.now a.out.now a.h
+    (releases (scheme a.table.now) (today a.table.now) a.c.node a.c.to a.k (take c.held_names-count.result c.held_names-count.new.out)))
+inside c =
+    let a = c.args in
+    let w = a.table.now in
+    subst (λ (zs : List ℕ). Inside (put w a.out.now a.h (releases (scheme w) (today w) a.c.node a.c.to a.k zs))) (sym (taken c)) c.requires.3
+
+-- ---- the answers
+
 pub overflow_cast-c : goal.overflow_cast-c
-overflow_cast-c c = omega (
-  arith,
-  few-nodes c.args.table.now
-      c.requires.0.accepted,
-  c.requires.1.node-inside,
-)
+overflow_cast-c c = omega (arith, few-nodes c.args.table.now c.requires.0.accepted, c.requires.1.node-inside)
 
 pub loop-i-init : goal.loop-i-init
 loop-i-init c =
     let a = c.args in
     let w = a.table.now in (
-      ap (put w a.out.now a.h) (releases-start (scheme w) (today w) a.c.node a.c.to a.k (take c.held_names-count.result c.held_names-count.new.out)),
+      ap (put w a.out.now a.h)
+          (releases-start (scheme w) (today w) a.c.node a.c.to a.k (take c.held_names-count.result c.held_names-count.new.out)),
       refl,
       omega arith,
       right-first w a.index.now c.requires.0,
@@ -42,35 +72,12 @@ loop-i-init c =
 
 pub overflow_add-k : goal.overflow_add-k
 overflow_add-k c =
-    let fit : c.held_names-count.result ≤ length c.held_names-count.new.out =
-    names-fit c.args.table.now c.args.index.now (known _ _ c.requires.0) c.args.c.node c.requires.1.node-inside _ _ _ c.held_names-count.ensures
-    (omega arith) in
-    let taken : take c.held_names-count.result c.held_names-count.new.out ≡ held c.args.table.now c.args.c.node =
-    names-taken c.args.table.now c.args.index.now (known _ _ c.requires.0) c.args.c.node c.requires.1.node-inside _ _ _
-    c.held_names-count.ensures (omega arith) in
-    let few : c.args.k + c.held_names-count.result ≤ c.args.c.controls =
-    let e : length (take c.held_names-count.result c.held_names-count.new.out) ≡ c.held_names-count.result = length-take-le c.held_names-count.result c.held_names-count.new.out fit in
-    omega (arith, c.requires.2, e, ap (λ (xs : List ℕ). length xs) taken) in
-    omega (arith, (chain-few c.args.table.now c.requires.0.accepted c.args.c c.requires.1).0, few, c.loop-i-test.true)
+    let f = few (goal.at.overflow_add-k c).After-held_names-count in
+    omega (arith, (chain-few c.args.table.now c.requires.0.accepted c.args.c c.requires.1).0, f, c.loop-i-test.true)
 
 pub release_name-q-requires : goal.release_name-q-requires
 release_name-q-requires c =
-    let taken : take c.held_names-count.result c.held_names-count.new.out ≡ held c.args.table.now c.args.c.node =
-    names-taken c.args.table.now c.args.index.now (known _ _ c.requires.0) c.args.c.node c.requires.1.node-inside _ _ _
-    c.held_names-count.ensures (omega arith) in
-    let fit : c.held_names-count.result ≤ length c.held_names-count.new.out =
-    names-fit c.args.table.now c.args.index.now (known _ _ c.requires.0) c.args.c.node c.requires.1.node-inside _ _ _ c.held_names-count.ensures
-    (omega arith) in
-    let few : c.args.k + c.held_names-count.result ≤ c.args.c.controls =
-    let e : length (take c.held_names-count.result c.held_names-count.new.out) ≡ c.held_names-count.result = length-take-le c.held_names-count.result c.held_names-count.new.out fit in
-    omega (arith, c.requires.2, e, ap (λ (xs : List ℕ). length xs) taken) in
-    let inside : let a = c.args in
-    Inside (put a.table.now a.out.now a.h
-    (releases (scheme a.table.now) (today a.table.now) a.c.node a.c.to a.k (take c.held_names-count.result c.held_names-count.new.out))) =
-    let a = c.args in
-    let w = a.table.now in
-    subst (λ (zs : List ℕ). Inside (put w a.out.now a.h (releases (scheme w) (today w) a.c.node a.c.to a.k zs))) (sym taken)
-    c.requires.3 in
+    let h = (goal.at.release_name-q-requires c).After-held_names-count in
     let l = c.loop-i in
     let a = c.args in
     let p = c.requires in
@@ -81,22 +88,20 @@ release_name-q-requires c =
     let s = c.row_on-s in
     let u = c.loop-i-test.true in
     let b = held-bounded w x p.0 a.c.node p.1.node-inside z.result
-    (subst (λ (zs : List ℕ). member z.result zs ≡ true) taken (taken-member c.held_names-count.new.out n l.i u fit z.result z.ensures.is)) in
-    let e = releases-more (scheme w) (today w) a.c.node a.c.to a.k c.held_names-count.new.out n l.i z.result u fit z.ensures.is in (
+    (subst (λ (zs : List ℕ). member z.result zs ≡ true) (taken h) (taken-member c.held_names-count.new.out n l.i u (fit h) z.result z.ensures.is)) in
+    let e = releases-more (scheme w) (today w) a.c.node a.c.to a.k c.held_names-count.new.out n l.i z.result u (fit h) z.ensures.is in (
       p.0,
       p.1,
-      omega (arith, few, u),
+      omega (arith, few h, u),
       b.0,
       b.1,
       on_row w x p.0 l.s l.invariant.3 s.result z.result s.ensures b.0 b.1,
-      part-inside (of_table w) _ (state l.out l.q) _ _ (l.invariant.0 ∙ ap (put w l.out l.q) e) inside,
+      part-inside (of_table w) _ (state l.out l.q) _ _ (l.invariant.0 ∙ ap (put w l.out l.q) e) (inside h),
     )
 
 pub loop-i-preserved : goal.loop-i-preserved
 loop-i-preserved c =
-    let fit : c.held_names-count.result ≤ length c.held_names-count.new.out =
-    names-fit c.args.table.now c.args.index.now (known _ _ c.requires.0) c.args.c.node c.requires.1.node-inside _ _ _ c.held_names-count.ensures
-    (omega arith) in
+    let h = (goal.at.loop-i-preserved c).After-held_names-count in
     let l = c.loop-i in
     let a = c.args in
     let w = a.table.now in
@@ -104,7 +109,7 @@ loop-i-preserved c =
     let s = c.row_on-s in
     let u = c.loop-i-test.true in
     let r = c.release_name-q.ensures in
-    let e = releases-more (scheme w) (today w) a.c.node a.c.to a.k c.held_names-count.new.out c.held_names-count.result l.i z.result u fit
+    let e = releases-more (scheme w) (today w) a.c.node a.c.to a.k c.held_names-count.new.out c.held_names-count.result l.i z.result u (fit h)
     z.ensures.is in (
       part-more (of_table w) _ (state l.out l.q) _ _ (l.invariant.0 ∙ ap (put w l.out l.q) e) _ r,
       state-length w l.out _ l.q _ _ r ∙ l.invariant.1,
@@ -114,16 +119,11 @@ loop-i-preserved c =
 
 pub returns : goal.returns
 returns c =
-    let fit : c.held_names-count.result ≤ length c.held_names-count.new.out =
-    names-fit c.args.table.now c.args.index.now (known _ _ c.requires.0) c.args.c.node c.requires.1.node-inside _ _ _ c.held_names-count.ensures
-    (omega arith) in
-    let taken : take c.held_names-count.result c.held_names-count.new.out ≡ held c.args.table.now c.args.c.node =
-    names-taken c.args.table.now c.args.index.now (known _ _ c.requires.0) c.args.c.node c.requires.1.node-inside _ _ _
-    c.held_names-count.ensures (omega arith) in
+    let h = (goal.at.returns c).After-held_names-count in
     let a = c.args in
     let w = a.table.now in
     let l = c.loop-i in
-    let e = releases-done (scheme w) (today w) a.c.node a.c.to a.k c.held_names-count.new.out c.held_names-count.result l.i (omega (arith, c.loop-i-test.false))
-    fit in
+    let e = releases-done (scheme w) (today w) a.c.node a.c.to a.k c.held_names-count.new.out c.held_names-count.result l.i
+    (omega (arith, c.loop-i-test.false)) (fit h) in
     sym (l.invariant.0 ∙ ap (put w l.out l.q) e ∙ put-none (of_table w) (state l.out l.q))
-    ∙ ap (λ (zs : List ℕ). put w a.out.now a.h (releases (scheme w) (today w) a.c.node a.c.to a.k zs)) taken
+    ∙ ap (λ (zs : List ℕ). put w a.out.now a.h (releases (scheme w) (today w) a.c.node a.c.to a.k zs)) (taken h)

@@ -6,7 +6,13 @@ use native.Mathlib.Omega.{arith}
 use lib.ListN.{length, get_or, take, set, length-set}
 use lib.Seq.{length-take-le}
 use Rattle.builder.proofs.Shifts.{shifted, insert-found, insert-at, shift-more, shift-put, put-length}
+use Rattle.builder.proofs.insertion.insert.Goals.{Left-loop-at}
 use Rattle.builder.proofs.insertion.insert.Goals as goal
+
+-- where the search ends, the word before is smaller
+smaller-left : (c : Left-loop-at) → 0 < c.loop-at.at
+    → get_or c.args.list.now (c.loop-at.at - 1) 0 < c.args.x
+smaller-left c = ⊎_elim (λ w p. absurd (omega (arith, w))) (λ w p. omega (arith, w)) c.loop-at-test.branch-raw
 
 pub returns-then-list-at-2 : goal.returns-then-list-at-2
 returns-then-list-at-2 c =
@@ -35,8 +41,7 @@ returns c =
     let l = c.loop-at in
     let m = c.loop-k in
     let q : m.k ≡ l.at = omega (arith, m.invariant.0, c.loop-k-test.false) in
-    let e = insert-at a.list.now a.count a.x p.room p.rises l.at l.invariant.0 ((let smaller-left : 0 < c.loop-at.at
-    → get_or c.args.list.now (c.loop-at.at - 1) 0 < c.args.x = ⊎_elim (λ w p. absurd (omega (arith, w))) (λ w p. omega (arith, w)) c.loop-at-test.branch-raw in smaller-left)) l.invariant.1 in
+    let e = insert-at a.list.now a.count a.x p.room p.rises l.at l.invariant.0 ((smaller-left (goal.at.returns c).Left-loop-at)) l.invariant.1 in
     let s : m.list ≡ shifted a.list.now l.at a.count = m.invariant.2 ∙ ap (λ (k : ℕ). shifted a.list.now k a.count) q in
     record {
       size = sym (ap (λ (xs : List ℕ). length xs) e ∙ put-length a.list.now a.count p.room l.at a.x l.invariant.0);

@@ -12,108 +12,77 @@ use Rattle.places.proofs.Plans.{laid-reached, row-none, row_small}
 use Rattle.places.proofs.Starts.{row-goes-on}
 use Rattle.builder.proofs.Counted.{Counted, counted}
 use Rattle.builder.proofs.Marked.{rows-begin, rows-skip, rows-put, rows-room, rows-close}
-use Rattle.builder.proofs.marking.initial_rows.Goals.{then-is_read, else-is_read}
+use Rattle.builder.proofs.marking.initial_rows.Goals.{After-privates-privates, After-publics_of, After-row_places-row, then-is_read, else-is_read}
 use Rattle.builder.proofs.marking.initial_rows.Goals as goal
+
+-- the counts, as they are read
+told : (c : After-privates-privates) → Counted c.args.table.now c.word16-publics.result c.privates-privates.result
+told c = counted c.args.table.now c.args.index.now _ _ c.requires c.word16-publics.ensures.is c.privates-privates.ensures.is
+
+-- the sums that are formed are small
+room : (c : After-publics_of)
+    → Counted c.args.table.now c.word16-publics.result c.privates-privates.result
+    → (c.loop-x.row + (c.publics_of.result + c.privates-privates.result) + c.privates-privates.result ≤ 4096) × (c.loop-x.at ≤ 4096)
+room c d =
+    let l = c.loop-x in
+    let r = rows-room c.args.table.now c.args.index.now c.requires _ _ c.word16.result d c.word16.ensures.is c.args.out.now
+    l.out l.at l.x l.row l.invariant.0 c.loop-x-test.true l.invariant.1 in
+    (omega (arith, r.0, c.publics_of.ensures.1), r.1)
+
+-- one name on
+on : (c : After-row_places-row)
+    → Counted c.args.table.now c.word16-publics.result c.privates-privates.result
+    → c.loop-x.row + c.row_places-row.result ≡ row_of c.args.table.now (c.loop-x.x + 1)
+on c d =
+    let l = c.loop-x in
+    omega (
+      arith,
+      l.invariant.1,
+      c.row_places-row.ensures,
+      row-goes-on c.args.table.now c.args.index.now c.requires l.x l.invariant.0.low
+          (omega (arith, c.loop-x-test.true, d.publics-are, c.word16.ensures.is)),
+    )
 
 pub loop-x-init : goal.loop-x-init
 loop-x-init c =
-    let told : Counted c.args.table.now
-    c.word16-publics.result c.privates-privates.result =
-    counted c.args.table.now
-    c.args.index.now _ _ c.requires
-    c.word16-publics.ensures.is c.privates-privates.ensures.is in
     let w = c.args.table.now in (
-      rows-begin w c.args.index.now c.requires _ _ c.word16.result told c.word16.ensures.is c.args.out.now,
+      rows-begin w c.args.index.now c.requires _ _ c.word16.result (told (goal.at.loop-x-init c).After-privates-privates) c.word16.ensures.is
+          c.args.out.now,
       sym (row-none w c.word16-publics.result (omega (arith, c.word16-publics.ensures.is))),
     )
 
 pub overflow_add-row : goal.overflow_add-row
 overflow_add-row c =
-    let told : Counted c.args.table.now
-    c.word16-publics.result c.privates-privates.result =
-    counted c.args.table.now
-    c.args.index.now _ _ c.requires
-    c.word16-publics.ensures.is c.privates-privates.ensures.is in
-    let room : let l = c.loop-x in
-    let n = c.privates-privates.result in
-    (l.row + (c.publics_of.result + n) + n ≤ 4096) × (l.at ≤ 4096) =
-    let l = c.loop-x in
-    let r = rows-room c.args.table.now c.args.index.now c.requires _ _ c.word16.result told c.word16.ensures.is c.args.out.now
-    l.out l.at l.x l.row l.invariant.0 c.loop-x-test.true l.invariant.1 in
-    (omega (arith, r.0, c.publics_of.ensures.1), r.1) in
-    omega (arith, room)
+    let x = goal.at.overflow_add-row c in
+    omega (arith, room x.After-publics_of (told x.After-privates-privates))
 
 pub count_up-at-requires : goal.count_up-at-requires
 count_up-at-requires c =
-    let told : Counted c.args.table.now
-    c.word16-publics.result c.privates-privates.result =
-    counted c.args.table.now
-    c.args.index.now _ _ c.requires
-    c.word16-publics.ensures.is c.privates-privates.ensures.is in
-    let room : let l = c.loop-x in
-    let n = c.privates-privates.result in
-    (l.row + (c.publics_of.result + n) + n ≤ 4096) × (l.at ≤ 4096) =
-    let l = c.loop-x in
-    let r = rows-room c.args.table.now c.args.index.now c.requires _ _ c.word16.result told c.word16.ensures.is c.args.out.now
-    l.out l.at l.x l.row l.invariant.0 c.loop-x-test.true l.invariant.1 in
-    (omega (arith, r.0, c.publics_of.ensures.1), r.1) in
-    let r = room in (omega (arith, r.0), omega (arith, r.1))
+    let x = goal.at.count_up-at-requires c in
+    let r = room x.After-publics_of (told x.After-privates-privates) in
+    (omega (arith, r.0), omega (arith, r.1))
 
 pub overflow_add-row-in-loop-x : goal.overflow_add-row-in-loop-x
 overflow_add-row-in-loop-x c =
-    let told : Counted c.args.table.now
-    c.word16-publics.result c.privates-privates.result =
-    counted c.args.table.now
-    c.args.index.now _ _ c.requires
-    c.word16-publics.ensures.is c.privates-privates.ensures.is in
-    let on : let l = c.loop-x in
-    l.row + c.row_places-row.result ≡ row_of c.args.table.now (l.x + 1) =
-    let w = c.args.table.now in
-    let l = c.loop-x in
-    let d = told in
+    let x = goal.at.overflow_add-row-in-loop-x c in
+    let d = told x.After-privates-privates in
     omega (
       arith,
-      l.invariant.1,
-      c.row_places-row.ensures,
-      row-goes-on w c.args.index.now c.requires l.x l.invariant.0.low
-          (omega (arith, c.loop-x-test.true, d.publics-are, c.word16.ensures.is)),
-    ) in
-    let l = c.loop-x in
-    let w = c.args.table.now in
-    let d = told in
-    omega (
-      arith,
-      on,
-      row_small w c.requires.accepted (l.x + 1)
+      on x.After-row_places-row d,
+      row_small c.args.table.now c.requires.accepted (c.loop-x.x + 1)
           (omega (arith, c.loop-x-test.true, d.publics-are, c.word16.ensures.is)),
     )
 
 pub loop-x-preserved : goal.loop-x-preserved
 loop-x-preserved c =
-    let told : Counted c.args.table.now
-    c.word16-publics.result c.privates-privates.result =
-    counted c.args.table.now
-    c.args.index.now _ _ c.requires
-    c.word16-publics.ensures.is c.privates-privates.ensures.is in
-    let on : let l = c.loop-x in
-    l.row + c.row_places-row.result ≡ row_of c.args.table.now (l.x + 1) =
-    let w = c.args.table.now in
-    let l = c.loop-x in
-    let d = told in
-    omega (
-      arith,
-      l.invariant.1,
-      c.row_places-row.ensures,
-      row-goes-on w c.args.index.now c.requires l.x l.invariant.0.low
-          (omega (arith, c.loop-x-test.true, d.publics-are, c.word16.ensures.is)),
-    ) in
+    let x = goal.at.loop-x-preserved c in
     let a = c.args in
     let p = c.requires in
     let w = a.table.now in
     let y = a.index.now in
     let l = c.loop-x in
     let b = c.word16 in
-    let d = told in
+    let d = told x.After-privates-privates in
     let t = c.loop-x-test.true in
     let k = read-tells w p.accepted y (laid-reached w y p) l.x c.is_read.result c.is_read.ensures in (
       elim c.if-is_read.branch [
@@ -128,17 +97,12 @@ loop-x-preserved c =
         | else-is_read v ↦ rows-skip w y p _ _ b.result d b.ensures.is a.out.now l.out c.if-is_read.out l.at c.if-is_read.at l.x l.invariant.0 t
             (sym k ∙ v.if-is_read.false) v.at-is v.out-is
       ],
-      on,
+      on x.After-row_places-row d,
     )
 
 pub returns : goal.returns
 returns c =
-    let told : Counted c.args.table.now
-    c.word16-publics.result c.privates-privates.result =
-    counted c.args.table.now
-    c.args.index.now _ _ c.requires
-    c.word16-publics.ensures.is c.privates-privates.ensures.is in
     let l = c.loop-x in
-    rows-close c.args.table.now c.args.index.now c.requires _ _ c.word16.result told
+    rows-close c.args.table.now c.args.index.now c.requires _ _ c.word16.result (told (goal.at.returns c).After-privates-privates)
     c.word16.ensures.is c.args.out.now
     l.out l.at l.x l.invariant.0 c.loop-x-test.false

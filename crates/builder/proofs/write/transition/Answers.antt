@@ -5,7 +5,17 @@ use lib.ListN.{length}
 use Rattle.builder.specs.Inner.Parts.{state, arrow}
 use Rattle.builder.proofs.Loops.{arcs-size, put-arrow}
 use Rattle.builder.proofs.Writing.{one-room}
+use Rattle.builder.proofs.write.transition.Goals.{Start}
 use Rattle.builder.proofs.write.transition.Goals as goal
+
+-- there is room for the record and for the arcs
+room : (c : Start) → let a = c.args in (a.h.place + 6 ≤ length a.out.now) × (a.h.arc + (a.inputs + a.outputs) ≤ length a.out.now)
+room c =
+    let a = c.args in
+    let p = c.requires in
+    let r = one-room (state a.out.now a.h)
+    (arrow a.label.kind a.label.a a.label.b (take a.inputs a.ins.now) (take a.outputs a.outs.now)) p.4 in
+    (r.0, omega (arith, r.1, arcs-size a.ins.now a.outs.now a.inputs a.outputs p.2 p.3))
 
 pub put_record-requires : goal.put_record-requires
 put_record-requires c =
@@ -13,11 +23,7 @@ put_record-requires c =
     let p = c.requires in
     let z = arcs-size a.ins.now a.outs.now a.inputs a.outputs p.2 p.3 in
     let m = p.4.arc-small in (
-      ((let room : let a = c.args in (a.h.place + 6 ≤ length a.out.now) × (a.h.arc + (a.inputs + a.outputs) ≤ length a.out.now) = let a = c.args in
-          let p = c.requires in
-          let r = one-room (state a.out.now a.h)
-          (arrow a.label.kind a.label.a a.label.b (take a.inputs a.ins.now) (take a.outputs a.outs.now)) p.4 in
-          (r.0, omega (arith, r.1, arcs-size a.ins.now a.outs.now a.inputs a.outputs p.2 p.3)) in room)).0,
+      ((room (goal.at.put_record-requires c).Start)).0,
       p.0,
       p.1,
       omega arith,
@@ -30,11 +36,7 @@ lay-middle-requires c = (
   c.requires.2,
   omega (
     arith,
-    ((let room : let a = c.args in (a.h.place + 6 ≤ length a.out.now) × (a.h.arc + (a.inputs + a.outputs) ≤ length a.out.now) = let a = c.args in
-        let p = c.requires in
-        let r = one-room (state a.out.now a.h)
-        (arrow a.label.kind a.label.a a.label.b (take a.inputs a.ins.now) (take a.outputs a.outs.now)) p.4 in
-        (r.0, omega (arith, r.1, arcs-size a.ins.now a.outs.now a.inputs a.outputs p.2 p.3)) in room)).1,
+    ((room (goal.at.lay-middle-requires c).Start)).1,
     c.put_record.auto.out,
   ),
 )
@@ -44,11 +46,7 @@ lay-end-requires c = (
   c.requires.3,
   omega (
     arith,
-    ((let room : let a = c.args in (a.h.place + 6 ≤ length a.out.now) × (a.h.arc + (a.inputs + a.outputs) ≤ length a.out.now) = let a = c.args in
-        let p = c.requires in
-        let r = one-room (state a.out.now a.h)
-        (arrow a.label.kind a.label.a a.label.b (take a.inputs a.ins.now) (take a.outputs a.outs.now)) p.4 in
-        (r.0, omega (arith, r.1, arcs-size a.ins.now a.outs.now a.inputs a.outputs p.2 p.3)) in room)).1,
+    ((room (goal.at.lay-end-requires c).Start)).1,
     c.lay-middle.ensures.0,
     c.lay-middle.auto.out,
     c.put_record.auto.out,

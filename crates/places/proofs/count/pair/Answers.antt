@@ -12,6 +12,7 @@ use Rattle.places.specs.declared.count.Side.{Side}
 use Rattle.places.specs.declared.reach.Reach.{Reach}
 use Rattle.places.proofs.NodeCounts.{Twice, Read, reads, privates-few, self-sums, other-sums, bound-few}
 use Rattle.places.proofs.NodeCounts.{first-few, second-few, both-added}
+use Rattle.places.proofs.count.pair.Goals.{After-privates_of-privates}
 use Rattle.places.proofs.count.pair.Goals as goal
 
 -- what is read of the send and the receive: 1 for a bound channel of the receive, the common public and private values
@@ -68,119 +69,60 @@ module _ {w x : List ℕ} {s : Sending} {r : Side} {i : Reach} {be c v : ℕ} (d
       other-sums w s.branch r.branch a z e i s.channels be c v read so_far s.names s.publics s.privates
       (λ k. n (d.sends.name-is ∙ k ∙ sym d.sends.channel-is)) d.sends.names-are d.sends.publics-are d.sends.privates-are
 
+told : (c : After-privates_of-privates)
+    → Told c.args.table.now c.args.index.now c.args.s c.args.r c.args.i
+    c.bound.result c.publics_of-publics.result c.privates_of-privates.result
+told c = record {
+  laid = c.requires.0;
+  sends = c.requires.1;
+  heard = c.requires.2;
+  both = c.requires.3;
+  bound = c.bound.ensures;
+  publics-are = c.publics_of-publics.ensures;
+  privates-are = c.privates_of-privates.ensures;
+}
+
 pub more-requires : goal.more-requires
 more-requires c =
-    let d : Told c.args.table.now c.args.index.now c.args.s c.args.r c.args.i c.bound.result c.publics_of-publics.result c.privates_of-privates.result = record {
-      laid = c.requires.0;
-      sends = c.requires.1;
-      heard = c.requires.2;
-      both = c.requires.3;
-      bound = c.bound.ensures;
-      publics-are = c.publics_of-publics.ensures;
-      privates-are = c.privates_of-privates.ensures;
-    } in
+    let d = told (goal.at.more-requires c).After-privates_of-privates in
     first-few (self d (sums_of c.args.t) c.if-s.true) c.requires.4
 
 pub more-requires-then-s : goal.more-requires-then-s
 more-requires-then-s c =
-    let d : Told c.args.table.now c.args.index.now c.args.s c.args.r c.args.i c.bound.result c.publics_of-publics.result c.privates_of-privates.result = record {
-      laid = c.requires.0;
-      sends = c.requires.1;
-      heard = c.requires.2;
-      both = c.requires.3;
-      bound = c.bound.ensures;
-      publics-are = c.publics_of-publics.ensures;
-      privates-are = c.privates_of-privates.ensures;
-    } in
+    let d = told (goal.at.more-requires-then-s c).After-privates_of-privates in
     second-few (self d (sums_of c.args.t) c.if-s.true) _ c.more.ensures c.requires.4
 
 pub returns-then-s : goal.returns-then-s
 returns-then-s c =
-    let d : Told c.args.table.now c.args.index.now c.args.s c.args.r c.args.i c.bound.result c.publics_of-publics.result c.privates_of-privates.result = record {
-      laid = c.requires.0;
-      sends = c.requires.1;
-      heard = c.requires.2;
-      both = c.requires.3;
-      bound = c.bound.ensures;
-      publics-are = c.publics_of-publics.ensures;
-      privates-are = c.privates_of-privates.ensures;
-    } in
+    let d = told (goal.at.returns-then-s c).After-privates_of-privates in
     both-added (self d (sums_of c.args.t) c.if-s.true) _ _ c.more.ensures c.more-then-s.ensures
 
 pub overflow_add-all : goal.overflow_add-all
 overflow_add-all c =
-    let d : Told c.args.table.now c.args.index.now c.args.s c.args.r c.args.i c.bound.result c.publics_of-publics.result c.privates_of-privates.result = record {
-      laid = c.requires.0;
-      sends = c.requires.1;
-      heard = c.requires.2;
-      both = c.requires.3;
-      bound = c.bound.ensures;
-      publics-are = c.publics_of-publics.ensures;
-      privates-are = c.privates_of-privates.ensures;
-    } in
+    let d = told (goal.at.overflow_add-all c).After-privates_of-privates in
     omega (arith, all-few d)
 
 pub overflow_mul-all : goal.overflow_mul-all
 overflow_mul-all c =
-    let d : Told c.args.table.now c.args.index.now c.args.s c.args.r c.args.i c.bound.result c.publics_of-publics.result c.privates_of-privates.result = record {
-      laid = c.requires.0;
-      sends = c.requires.1;
-      heard = c.requires.2;
-      both = c.requires.3;
-      bound = c.bound.ensures;
-      publics-are = c.publics_of-publics.ensures;
-      privates-are = c.privates_of-privates.ensures;
-    } in
+    let d = told (goal.at.overflow_mul-all c).After-privates_of-privates in
     omega (arith, mul-le-mul (all-few d) c.requires.1.few-publics)
 
 pub more-requires-2 : goal.more-requires-2
 more-requires-2 c =
-    let d : Told c.args.table.now c.args.index.now c.args.s c.args.r c.args.i c.bound.result c.publics_of-publics.result c.privates_of-privates.result = record {
-      laid = c.requires.0;
-      sends = c.requires.1;
-      heard = c.requires.2;
-      both = c.requires.3;
-      bound = c.bound.ensures;
-      publics-are = c.publics_of-publics.ensures;
-      privates-are = c.privates_of-privates.ensures;
-    } in
+    let d = told (goal.at.more-requires-2 c).After-privates_of-privates in
     first-few (other d (sums_of c.args.t) c.if-s.false) c.requires.4
 
 pub overflow_mul-all-2 : goal.overflow_mul-all-2
 overflow_mul-all-2 c =
-    let d : Told c.args.table.now c.args.index.now c.args.s c.args.r c.args.i c.bound.result c.publics_of-publics.result c.privates_of-privates.result = record {
-      laid = c.requires.0;
-      sends = c.requires.1;
-      heard = c.requires.2;
-      both = c.requires.3;
-      bound = c.bound.ensures;
-      publics-are = c.publics_of-publics.ensures;
-      privates-are = c.privates_of-privates.ensures;
-    } in
+    let d = told (goal.at.overflow_mul-all-2 c).After-privates_of-privates in
     omega (arith, mul-le-mul (all-few d) c.requires.1.few-privates)
 
 pub more-requires-3 : goal.more-requires-3
 more-requires-3 c =
-    let d : Told c.args.table.now c.args.index.now c.args.s c.args.r c.args.i c.bound.result c.publics_of-publics.result c.privates_of-privates.result = record {
-      laid = c.requires.0;
-      sends = c.requires.1;
-      heard = c.requires.2;
-      both = c.requires.3;
-      bound = c.bound.ensures;
-      publics-are = c.publics_of-publics.ensures;
-      privates-are = c.privates_of-privates.ensures;
-    } in
+    let d = told (goal.at.more-requires-3 c).After-privates_of-privates in
     second-few (other d (sums_of c.args.t) c.if-s.false) _ c.more-2.ensures c.requires.4
 
 pub returns : goal.returns
 returns c =
-    let d : Told c.args.table.now c.args.index.now c.args.s c.args.r c.args.i c.bound.result c.publics_of-publics.result c.privates_of-privates.result = record {
-      laid = c.requires.0;
-      sends = c.requires.1;
-      heard = c.requires.2;
-      both = c.requires.3;
-      bound = c.bound.ensures;
-      publics-are = c.publics_of-publics.ensures;
-      privates-are = c.privates_of-privates.ensures;
-    } in
+    let d = told (goal.at.returns c).After-privates_of-privates in
     both-added (other d (sums_of c.args.t) c.if-s.false) _ _ c.more-2.ensures c.more-3.ensures

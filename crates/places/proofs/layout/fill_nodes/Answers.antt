@@ -4,7 +4,13 @@ use Rattle.lists.proofs.Stores.{store-more}
 use Rattle.places.specs.Plan.{node_word, node_words}
 use Rattle.places.proofs.Controls.{few-nodes}
 use Rattle.places.proofs.Plans.{node-inside, node-past, node-small, rest-same}
+use Rattle.places.proofs.layout.fill_nodes.Goals.{At-loop-n}
 use Rattle.places.proofs.layout.fill_nodes.Goals as goal
+
+-- there are words for all nodes
+nodes-few : (c : At-loop-n) → c.word16-count.result ≤ 256
+nodes-few c =
+    omega (arith, c.word16-count.ensures.is, few-nodes c.args.table.now c.requires.0)
 
 pub loop-n-init : goal.loop-n-init
 unfolding from
@@ -37,7 +43,7 @@ slice_bounds-repeat-start c =
     omega (arith, nodes-few)
 
 pub slice_bounds-repeat-count : goal.slice_bounds-repeat-count
-slice_bounds-repeat-count c = omega (arith, (let nodes-few : c.word16-count.result ≤ 256 = omega (arith, c.word16-count.ensures.is, few-nodes c.args.table.now c.requires.0) in nodes-few))
+slice_bounds-repeat-count c = omega (arith, (nodes-few (goal.at.slice_bounds-repeat-count c).At-loop-n))
 
 pub overflow_cast-at-2 : goal.overflow_cast-at-2
 overflow_cast-at-2 c =
@@ -50,7 +56,7 @@ returns c =
     let l = c.loop-n in
     let n = c.word16-count.result in
     let i = c.word16-count.ensures.is in
-    let few = (let nodes-few : c.word16-count.result ≤ 256 = omega (arith, c.word16-count.ensures.is, few-nodes c.args.table.now c.requires.0) in nodes-few) in
+    let few = (nodes-few (goal.at.returns c).At-loop-n) in
     let e : l.n ≡ n = omega (arith, l.invariant.2, c.loop-n-test.false) in
     let q : n + (1217 - (960 + n)) ≡ 257 = omega (arith, few) in
     let o = l.invariant.0 ∙ node-past w l.n (omega (arith, i, e)) in (

@@ -4,14 +4,24 @@ use Rattle.lists.specs.Lists.{word, range}
 use Rattle.scheme.specs.Words.{names}
 use Rattle.places.proofs.Controls.{few-publics, few-bounds}
 use Rattle.places.proofs.Filling.{empty-from, reaches-put}
+use Rattle.places.proofs.rounds.fill_reaches.Goals.{After-word16-bounds}
 use Rattle.places.proofs.rounds.fill_reaches.Goals as goal
+
+few : (c : After-word16-bounds) → c.word16-publics.result + c.word16-bounds.result ≤ 64
+few c =
+    omega (arith, (let count : c.word16-publics.result + c.word16-bounds.result ≡ names c.args.table.now = omega (arith, c.word16-publics.ensures.is, c.word16-bounds.ensures.is) in count), few-publics c.args.table.now c.requires.0.accepted, few-bounds c.args.table.now c.requires.0.accepted)
+
+-- how many names there are
+count : (c : After-word16-bounds) → c.word16-publics.result + c.word16-bounds.result ≡ names c.args.table.now
+count c =
+    omega (arith, c.word16-publics.ensures.is, c.word16-bounds.ensures.is)
 
 pub put_digits-requires : goal.put_digits-requires
 put_digits-requires c =
     let settled = c.settle in
     let w = c.args.table.now in (
-      (let few : c.word16-publics.result + c.word16-bounds.result ≤ 64 = omega (arith, (let count : c.word16-publics.result + c.word16-bounds.result ≡ names c.args.table.now = omega (arith, c.word16-publics.ensures.is, c.word16-bounds.ensures.is) in count), few-publics c.args.table.now c.requires.0.accepted, few-bounds c.args.table.now c.requires.0.accepted) in few),
-      empty-from w settled.new.words settled.ensures _ ((let count : c.word16-publics.result + c.word16-bounds.result ≡ names c.args.table.now = omega (arith, c.word16-publics.ensures.is, c.word16-bounds.ensures.is) in count)),
+      (few (goal.at.put_digits-requires c).After-word16-bounds),
+      empty-from w settled.new.words settled.ensures _ ((count (goal.at.put_digits-requires c).After-word16-bounds)),
       omega arith,
       omega (arith, c.word16-publics.ensures.is, few-publics w c.requires.0.accepted),
       omega arith,
@@ -24,8 +34,8 @@ put_digits-requires-2 c =
     let settled = c.settle in
     let w = c.args.table.now in
     let ws = settled.new.words in (
-      (let few : c.word16-publics.result + c.word16-bounds.result ≤ 64 = omega (arith, (let count : c.word16-publics.result + c.word16-bounds.result ≡ names c.args.table.now = omega (arith, c.word16-publics.ensures.is, c.word16-bounds.ensures.is) in count), few-publics c.args.table.now c.requires.0.accepted, few-bounds c.args.table.now c.requires.0.accepted) in few),
-      empty-from w ws settled.ensures _ ((let count : c.word16-publics.result + c.word16-bounds.result ≡ names c.args.table.now = omega (arith, c.word16-publics.ensures.is, c.word16-bounds.ensures.is) in count)),
+      (few (goal.at.put_digits-requires-2 c).After-word16-bounds),
+      empty-from w ws settled.ensures _ ((count (goal.at.put_digits-requires-2 c).After-word16-bounds)),
       omega (arith, c.word16-publics.ensures.is, few-publics w c.requires.0.accepted),
       omega (arith, c.word16-bounds.ensures.is, few-bounds w c.requires.0.accepted),
       omega arith,

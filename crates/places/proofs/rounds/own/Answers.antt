@@ -4,23 +4,32 @@ use Rattle.places.proofs.Bits.{one_shifted}
 use Rattle.places.proofs.Controls.{few-publics, few-bounds}
 use Rattle.places.proofs.Filling.{Owned, own-none, own-yes, own-no, own-done}
 use Rattle.places.proofs.rounds.own.Goals.{then-is_source, else-is_source}
+use Rattle.places.proofs.rounds.own.Goals.{At-loop-x}
 use Rattle.places.proofs.rounds.own.Goals as goal
+
+few : (c : At-loop-x) → c.word16.result + c.word16-2.result ≤ 64
+few c =
+    omega (arith, (let names-are : c.word16.result + c.word16-2.result ≡ names c.args.table.now = omega (arith, c.word16.ensures.is, c.word16-2.ensures.is) in names-are), few-publics c.args.table.now c.requires.0, few-bounds c.args.table.now c.requires.0)
+
+-- the names that are looked at
+names-are : (c : At-loop-x) → c.word16.result + c.word16-2.result ≡ names c.args.table.now
+names-are c = omega (arith, c.word16.ensures.is, c.word16-2.ensures.is)
 
 pub loop-x-init : goal.loop-x-init
 loop-x-init c =
     (own-none c.args.table.now c.args.words.now c.requires.1, omega arith)
 
 pub overflow_shl-words : goal.overflow_shl-words
-overflow_shl-words c = omega (arith, (let few : c.word16.result + c.word16-2.result ≤ 64 = omega (arith, (let names-are : c.word16.result + c.word16-2.result ≡ names c.args.table.now = omega (arith, c.word16.ensures.is, c.word16-2.ensures.is) in names-are), few-publics c.args.table.now c.requires.0, few-bounds c.args.table.now c.requires.0) in few), c.loop-x-test.true)
+overflow_shl-words c = omega (arith, (few (goal.at.overflow_shl-words c).At-loop-x), c.loop-x-test.true)
 
 pub bounds-words-x : goal.bounds-words-x
-bounds-words-x c = omega (arith, (let few : c.word16.result + c.word16-2.result ≤ 64 = omega (arith, (let names-are : c.word16.result + c.word16-2.result ≡ names c.args.table.now = omega (arith, c.word16.ensures.is, c.word16-2.ensures.is) in names-are), few-publics c.args.table.now c.requires.0, few-bounds c.args.table.now c.requires.0) in few), c.loop-x-test.true, c.loop-x.invariant.0.0)
+bounds-words-x c = omega (arith, (few (goal.at.bounds-words-x c).At-loop-x), c.loop-x-test.true, c.loop-x.invariant.0.0)
 
 pub loop-x-preserved : goal.loop-x-preserved
 loop-x-preserved c =
     let w = c.args.table.now in
     let l = c.loop-x in
-    let k : l.x < 64 = omega (arith, (let few : c.word16.result + c.word16-2.result ≤ 64 = omega (arith, (let names-are : c.word16.result + c.word16-2.result ≡ names c.args.table.now = omega (arith, c.word16.ensures.is, c.word16-2.ensures.is) in names-are), few-publics c.args.table.now c.requires.0, few-bounds c.args.table.now c.requires.0) in few), c.loop-x-test.true) in
+    let k : l.x < 64 = omega (arith, (few (goal.at.loop-x-preserved c).At-loop-x), c.loop-x-test.true) in
     let is = c.is_source.ensures in (
       elim c.if-is_source.branch [
         | then-is_source v ↦ subst (λ (ws : List ℕ). Owned w (l.x + 1) ws) (sym v.words-is)
@@ -34,4 +43,4 @@ loop-x-preserved c =
 pub returns : goal.returns
 returns c =
     let l = c.loop-x in
-    own-done c.args.table.now l.words l.x (omega (arith, (let names-are : c.word16.result + c.word16-2.result ≡ names c.args.table.now = omega (arith, c.word16.ensures.is, c.word16-2.ensures.is) in names-are), l.invariant.1, c.loop-x-test.false)) l.invariant.0
+    own-done c.args.table.now l.words l.x (omega (arith, (names-are (goal.at.returns c).At-loop-x), l.invariant.1, c.loop-x-test.false)) l.invariant.0

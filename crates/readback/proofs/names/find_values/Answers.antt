@@ -9,7 +9,18 @@ use Rattle.readback.specs.Inner.Standing.{value_right}
 use Rattle.places.specs.Inner.Plan.{row_of}
 use Rattle.places.proofs.Plans.{row-none}
 use Rattle.readback.proofs.Valuing.{values-start, values-more, end-few, row_on}
+use Rattle.readback.proofs.names.find_values.Goals.{After-row_places-row}
 use Rattle.readback.proofs.names.find_values.Goals as goal
+
+-- one name on
+on : (c : After-row_places-row) →
+    let w = c.args.table.now in
+    (c.loop-x.row + c.row_places-row.result ≡ row_of w (c.loop-x.x + 1)) × (row_of w (c.loop-x.x + 1) ≤ 3072)
+on c =
+    let l = c.loop-x in
+    row_on c.args.table.now c.args.index.now c.requires.0 c.word16-publics.result c.word16.result c.word16-publics.ensures.is
+    c.word16.ensures.is l.x l.row c.row_places-row.result l.invariant.3 c.loop-x-test.true
+    l.invariant.5 c.row_places-row.ensures
 
 pub loop-x-init : goal.loop-x-init
 loop-x-init c = (
@@ -34,16 +45,8 @@ returns-then-not-find_value c =
 pub overflow_add-row : goal.overflow_add-row
 overflow_add-row c = omega (
   arith,
-  ((let on : let w = c.args.table.now in
-      (c.loop-x.row + c.row_places-row.result ≡ row_of w (c.loop-x.x + 1)) × (row_of w (c.loop-x.x + 1) ≤ 3072) = let l = c.loop-x in
-      row_on c.args.table.now c.args.index.now c.requires.0 c.word16-publics.result c.word16.result c.word16-publics.ensures.is
-      c.word16.ensures.is l.x l.row c.row_places-row.result l.invariant.3 c.loop-x-test.true
-      l.invariant.5 c.row_places-row.ensures in on)).0,
-  ((let on : let w = c.args.table.now in
-      (c.loop-x.row + c.row_places-row.result ≡ row_of w (c.loop-x.x + 1)) × (row_of w (c.loop-x.x + 1) ≤ 3072) = let l = c.loop-x in
-      row_on c.args.table.now c.args.index.now c.requires.0 c.word16-publics.result c.word16.result c.word16-publics.ensures.is
-      c.word16.ensures.is l.x l.row c.row_places-row.result l.invariant.3 c.loop-x-test.true
-      l.invariant.5 c.row_places-row.ensures in on)).1,
+  ((on (goal.at.overflow_add-row c).After-row_places-row)).0,
+  ((on (goal.at.overflow_add-row c).After-row_places-row)).1,
 )
 
 pub loop-x-preserved : goal.loop-x-preserved
@@ -64,11 +67,7 @@ loop-x-preserved c =
       c.values-1.given ∙ l.invariant.2,
       omega (arith, l.invariant.3),
       omega arith,
-      ((let on : let w = c.args.table.now in
-          (c.loop-x.row + c.row_places-row.result ≡ row_of w (c.loop-x.x + 1)) × (row_of w (c.loop-x.x + 1) ≤ 3072) = let l = c.loop-x in
-          row_on c.args.table.now c.args.index.now c.requires.0 c.word16-publics.result c.word16.result c.word16-publics.ensures.is
-          c.word16.ensures.is l.x l.row c.row_places-row.result l.invariant.3 c.loop-x-test.true
-          l.invariant.5 c.row_places-row.ensures in on)).0,
+      ((on (goal.at.loop-x-preserved c).After-row_places-row)).0,
     )
 
 pub returns : goal.returns

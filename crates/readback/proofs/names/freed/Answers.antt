@@ -8,7 +8,22 @@ use Rattle.places.proofs.Plans.{few-counted}
 use Rattle.readback.specs.Inner.Standing.{holds_at}
 use Rattle.readback.proofs.Valuing.{is_name}
 use Rattle.readback.proofs.Freeing.{private-word, taken, taken-inside, counting-start, counting-twice, counting_more, counting-done}
+use Rattle.readback.proofs.names.freed.Goals.{After-private_value-n}
 use Rattle.readback.proofs.names.freed.Goals as goal
+
+-- what the private value of x tells
+told : (c : After-private_value-n) →
+    let w = c.args.table.now in
+    ((k : ℕ) → k < privates_word w → holds_at (scheme w) c.args.marking.now k c.loop-x.x ≡ same c.private_value-n.result k)
+    × (c.private_value-n.result < 64 → c.private_value-n.result < privates_word w)
+told c =
+    let nm = is_name c.args.table.now c.args.marking.now c.word16-publics.result c.word16.result c.word16-publics.ensures.is
+    c.word16.ensures.is c.loop-x.x c.loop-x.invariant.1 c.loop-x-test.true in (
+      taken c.args.table.now c.args.marking.now c.args.values.now c.requires.0.accepted c.requires.1 c.loop-x.x nm
+          c.private_value-n.result c.private_value-n.ensures,
+      taken-inside c.args.table.now c.args.marking.now c.args.values.now c.requires.0.accepted c.requires.1 c.loop-x.x nm
+          c.private_value-n.result c.private_value-n.ensures,
+    )
 
 pub free_values-set-requires : goal.free_values-set-requires
 free_values-set-requires c =
@@ -33,37 +48,13 @@ pub returns-then-has : goal.returns-then-has
 returns-then-has c =
     let l = c.loop-x in
     sym (counting-twice c.args.table.now c.args.marking.now c.requires.0.accepted l.set l.x _ l.invariant.0 c.loop-x-test.true
-    c.private_value-n.result ((let told : let w = c.args.table.now in
-    ((k : ℕ) → k < privates_word w → holds_at (scheme w) c.args.marking.now k c.loop-x.x ≡ same c.private_value-n.result k)
-    × (c.private_value-n.result < 64 → c.private_value-n.result < privates_word w) = let nm = is_name c.args.table.now c.args.marking.now c.word16-publics.result c.word16.result c.word16-publics.ensures.is
-    c.word16.ensures.is c.loop-x.x c.loop-x.invariant.1 c.loop-x-test.true in (
-      taken c.args.table.now c.args.marking.now c.args.values.now c.requires.0.accepted c.requires.1 c.loop-x.x nm
-          c.private_value-n.result c.private_value-n.ensures,
-      taken-inside c.args.table.now c.args.marking.now c.args.values.now c.requires.0.accepted c.requires.1 c.loop-x.x nm
-          c.private_value-n.result c.private_value-n.ensures,
-    ) in told)).0 (sym c.has.ensures ∙ c.if-has.true))
+    c.private_value-n.result ((told (goal.at.returns-then-has c).After-private_value-n)).0 (sym c.has.ensures ∙ c.if-has.true))
 
 pub loop-x-preserved : goal.loop-x-preserved
 loop-x-preserved c =
     let l = c.loop-x in (
       counting_more c.args.table.now c.args.marking.now c.requires.0.accepted l.set l.x _ l.invariant.0 c.loop-x-test.true
-          c.private_value-n.result ((let told : let w = c.args.table.now in
-          ((k : ℕ) → k < privates_word w → holds_at (scheme w) c.args.marking.now k c.loop-x.x ≡ same c.private_value-n.result k)
-          × (c.private_value-n.result < 64 → c.private_value-n.result < privates_word w) = let nm = is_name c.args.table.now c.args.marking.now c.word16-publics.result c.word16.result c.word16-publics.ensures.is
-          c.word16.ensures.is c.loop-x.x c.loop-x.invariant.1 c.loop-x-test.true in (
-            taken c.args.table.now c.args.marking.now c.args.values.now c.requires.0.accepted c.requires.1 c.loop-x.x nm
-                c.private_value-n.result c.private_value-n.ensures,
-            taken-inside c.args.table.now c.args.marking.now c.args.values.now c.requires.0.accepted c.requires.1 c.loop-x.x nm
-                c.private_value-n.result c.private_value-n.ensures,
-          ) in told)).0 _ (sym c.has.ensures ∙ c.if-has.false) ((let told : let w = c.args.table.now in
-          ((k : ℕ) → k < privates_word w → holds_at (scheme w) c.args.marking.now k c.loop-x.x ≡ same c.private_value-n.result k)
-          × (c.private_value-n.result < 64 → c.private_value-n.result < privates_word w) = let nm = is_name c.args.table.now c.args.marking.now c.word16-publics.result c.word16.result c.word16-publics.ensures.is
-          c.word16.ensures.is c.loop-x.x c.loop-x.invariant.1 c.loop-x-test.true in (
-            taken c.args.table.now c.args.marking.now c.args.values.now c.requires.0.accepted c.requires.1 c.loop-x.x nm
-                c.private_value-n.result c.private_value-n.ensures,
-            taken-inside c.args.table.now c.args.marking.now c.args.values.now c.requires.0.accepted c.requires.1 c.loop-x.x nm
-                c.private_value-n.result c.private_value-n.ensures,
-          ) in told)).1
+          c.private_value-n.result ((told (goal.at.loop-x-preserved c).After-private_value-n)).0 _ (sym c.has.ensures ∙ c.if-has.false) ((told (goal.at.loop-x-preserved c).After-private_value-n)).1
           c.with_number-set.ensures,
       omega (arith, l.invariant.1),
     )

@@ -7,7 +7,18 @@ use Rattle.readback.specs.Inner.Standing.{is_opposed_for}
 use Rattle.places.specs.Inner.Plan.{row_of}
 use Rattle.places.proofs.Plans.{row-none}
 use Rattle.readback.proofs.Valuing.{opposed-start, row_on}
+use Rattle.readback.proofs.names.opposed.Goals.{After-row_places-row}
 use Rattle.readback.proofs.names.opposed.Goals as goal
+
+-- one name on
+on : (c : After-row_places-row) →
+    let w = c.args.table.now in
+    (c.loop-x.row + c.row_places-row.result ≡ row_of w (c.loop-x.x + 1)) × (row_of w (c.loop-x.x + 1) ≤ 3072)
+on c =
+    let l = c.loop-x in
+    row_on c.args.table.now c.args.index.now c.requires c.word16-publics.result c.word16.result c.word16-publics.ensures.is
+    c.word16.ensures.is l.x l.row c.row_places-row.result l.invariant.1 c.loop-x-test.true l.invariant.2
+    c.row_places-row.ensures
 
 pub loop-x-init : goal.loop-x-init
 loop-x-init c = (
@@ -27,16 +38,8 @@ returns-then-not-opposed_for c =
 pub overflow_add-row : goal.overflow_add-row
 overflow_add-row c = omega (
   arith,
-  ((let on : let w = c.args.table.now in
-      (c.loop-x.row + c.row_places-row.result ≡ row_of w (c.loop-x.x + 1)) × (row_of w (c.loop-x.x + 1) ≤ 3072) = let l = c.loop-x in
-      row_on c.args.table.now c.args.index.now c.requires c.word16-publics.result c.word16.result c.word16-publics.ensures.is
-      c.word16.ensures.is l.x l.row c.row_places-row.result l.invariant.1 c.loop-x-test.true l.invariant.2
-      c.row_places-row.ensures in on)).0,
-  ((let on : let w = c.args.table.now in
-      (c.loop-x.row + c.row_places-row.result ≡ row_of w (c.loop-x.x + 1)) × (row_of w (c.loop-x.x + 1) ≤ 3072) = let l = c.loop-x in
-      row_on c.args.table.now c.args.index.now c.requires c.word16-publics.result c.word16.result c.word16-publics.ensures.is
-      c.word16.ensures.is l.x l.row c.row_places-row.result l.invariant.1 c.loop-x-test.true l.invariant.2
-      c.row_places-row.ensures in on)).1,
+  ((on (goal.at.overflow_add-row c).After-row_places-row)).0,
+  ((on (goal.at.overflow_add-row c).After-row_places-row)).1,
 )
 
 pub loop-x-preserved : goal.loop-x-preserved
@@ -46,11 +49,7 @@ loop-x-preserved c =
           (c.word16-publics.result + c.word16.result) c.loop-x-test.true
           (sym c.opposed_for.ensures ∙ c.if-not-opposed_for.false),
       omega (arith, l.invariant.1),
-      ((let on : let w = c.args.table.now in
-          (c.loop-x.row + c.row_places-row.result ≡ row_of w (c.loop-x.x + 1)) × (row_of w (c.loop-x.x + 1) ≤ 3072) = let l = c.loop-x in
-          row_on c.args.table.now c.args.index.now c.requires c.word16-publics.result c.word16.result c.word16-publics.ensures.is
-          c.word16.ensures.is l.x l.row c.row_places-row.result l.invariant.1 c.loop-x-test.true l.invariant.2
-          c.row_places-row.ensures in on)).0,
+      ((on (goal.at.loop-x-preserved c).After-row_places-row)).0,
     )
 
 pub returns : goal.returns
