@@ -17,7 +17,7 @@ ghost use Rattle.places.specs.Inner.Plan.{Holds, Reads, Named, Frees};
 use crate::insertion::{insert, insert_equals};
 use crate::layout::{differs, value_at, value_count};
 use crate::write::{Heads, Label, transition};
-use lists::{word16, word32};
+use lists::word;
 use places::count::publics_of;
 use places::lookup::{free_start, privates};
 use places::reach::{has_privates, reach_of};
@@ -189,7 +189,7 @@ pub(crate) fn release_all(
     let mut s = Start { name: 0, row: 0 };
     let mut i = 0;
     while i < count {
-        let z = word32(&names, i);
+        let z = word(&names, i);
         s = row_on(table, index, s, z);
         q = release_name(table, index, out, q, c, Held { k: k + i, name: z }, s.row);
         i += 1;
@@ -230,7 +230,7 @@ fn copy(
         x.argument v.value
         ∷ []) }
 {
-    let publics = word16(table, 0);
+    let publics = word(table, 0);
     let mut ins = [0u32; 4];
     let mut i = insert_equals(table, index, &mut ins, 0, v.argument, x.argument, v.value);
     let mut outs = ins;
@@ -273,7 +273,7 @@ fn copy_formal(
         (map (copying (scheme table.now) (today table.now) c.node c.to x.k x.formal
         x.argument) (values table.now x.argument)) }
 {
-    let publics = word16(table, 0);
+    let publics = word(table, 0);
     let r = reach_of(index, x.argument);
     let count = value_count(publics, privates(index), r);
     let formal = row_start(table, index, x.formal);

@@ -17,7 +17,7 @@ use crate::insertion::{insert, insert_spot};
 use crate::layout::{differs, equals, value_count};
 use crate::spans::{Span, Values, behind, behind_one, first_run, first_value, is_none, values_of};
 use crate::write::{Arcs, Heads, Label, Risers, series, transition, words};
-use lists::{store32, word16, word32};
+use lists::{store, word};
 use places::count::{Side, receive_at, side_of};
 use places::lookup::privates;
 use places::pairs::SETS;
@@ -105,7 +105,7 @@ fn spot(table: &[u16], index: &[u32], row: u32, name: usize, v: usize) -> u32
     requires { Laid table.now index.now × Reads table.now name v × Begins table.now name row }
     ensures { result ≡ spot_of table.now (equals name v) }
 {
-    if name < word16(table, 0) {
+    if name < word(table, 0) {
         return 4294967295;
     }
     equals(table, index, row as usize, name, v)
@@ -117,7 +117,7 @@ fn free_spot(table: &[u16], index: &[u32], row: u32, name: usize, v: usize) -> u
         × Begins table.now name row }
     ensures { result ≡ spot_of table.now (differs name v) }
 {
-    if v < word16(table, 0) {
+    if v < word(table, 0) {
         return 4294967295;
     }
     differs(table, index, row as usize, name, v)
@@ -285,7 +285,7 @@ fn pair_up(table: &[u16], index: &[u32], out: &mut [u32], h: Heads, p: Pair, c: 
         ≡ put table.now out.old h (pair_told table.now p.send p.receive) }
 {
     let both = common(reach_of(index, p.channel), reach_of(index, p.heard));
-    let shared = values_of(word16(table, 0), privates(index), both);
+    let shared = values_of(word(table, 0), privates(index), both);
     let inner = either(c.channels, shared, c.values);
     let mut left = either(c.channels, c.values, shared);
     let mut q = h;
@@ -306,7 +306,7 @@ fn course_of(table: &[u16], index: &[u32], channel: usize, name: usize) -> Cours
     requires { Laid table.now index.now }
     ensures { Coursed table.now channel name result }
 {
-    let publics = word16(table, 0);
+    let publics = word(table, 0);
     let privates = privates(index);
     if name == channel {
         let values = Values {
@@ -354,7 +354,7 @@ fn receive_rows(table: &[u16], index: &[u32]) -> Rows
     requires { Laid table.now index.now }
     ensures { StartsOf table.now result.at (receives_of table.now) }
 {
-    let branches = word16(table, 5);
+    let branches = word(table, 5);
     let mut at = [0u32; 64];
     let mut a = Start { name: 0, row: 0 };
     let mut z = Start { name: 0, row: 0 };
@@ -364,8 +364,8 @@ fn receive_rows(table: &[u16], index: &[u32]) -> Rows
         if field4(table, 11, b, 0) == 2 {
             a = row_on(table, index, a, field4(table, 11, b, 1));
             z = row_on(table, index, z, field4(table, 11, b, 2));
-            store32(&mut at, k, a.row as u32);
-            store32(&mut at, k + 1, z.row as u32);
+            store(&mut at, k, a.row as u32);
+            store(&mut at, k + 1, z.row as u32);
             k += 2;
         }
         b += 1;
@@ -422,14 +422,14 @@ pub(crate) fn communications(
     ensures { state out.new result
         ≡ put table.now out.old h (all_told table.now) }
 {
-    let branches = word16(table, 5);
+    let branches = word(table, 5);
     let rows = receive_rows(table, index);
     let mut q = h;
     let mut a = Start { name: 0, row: 0 };
     let mut z = Start { name: 0, row: 0 };
     let mut s = 0;
     while s < branches {
-        let set = word32(pairs, SETS + s) as u64;
+        let set = word(pairs, SETS + s) as u64;
         if set != 0 {
             let side = side_of(table, index, s as u32);
             a = row_on(table, index, a, side.channel as usize);

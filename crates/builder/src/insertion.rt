@@ -5,7 +5,7 @@ ghost use Rattle.places.specs.Inner.Plan.{Reads};
 ghost use Rattle.builder.specs.Inner.Parts.{Rising, Inserted, Entered, Placed, Begins};
 
 use crate::layout::equals;
-use lists::word16;
+use lists::word;
 
 // Puts x into the ascending first `count` numbers, where it is not there yet, and returns how many there are then.
 pub(crate) fn insert(list: &mut [u32], count: usize, x: u32) -> usize
@@ -46,7 +46,7 @@ pub(crate) fn insert_equals(
         × Begins table.now name row }
     ensures { Placed table.now (equals name v) count list.old result list.new }
 {
-    if name < word16(table, 0) {
+    if name < word(table, 0) {
         return count;
     }
     insert(list, count, equals(table, index, row, name, v))

@@ -8,7 +8,7 @@ ghost use Rattle.places.specs.Plan.{Laid};
 ghost use Rattle.places.specs.Inner.Plan.{today, privates_word, row_of, Holds, Differs};
 ghost use Rattle.builder.specs.Inner.Parts.{ValueAt, CountOf};
 
-use lists::word16;
+use lists::word;
 use places::count::publics_of;
 use places::lookup::{free_start, privates};
 use places::reach::{Reach, has_privates, nth, rank, reach_of};
@@ -43,7 +43,7 @@ pub(crate) fn equals(table: &[u16], index: &[u32], row: usize, name: usize, v: u
     ensures { result ≡ number_of (scheme table.now) (today table.now) (equals name v) }
 {
     let r = reach_of(index, name);
-    let publics = word16(table, 0);
+    let publics = word(table, 0);
     if v < publics {
         return (row + rank(r.publics, v)) as u32;
     }
@@ -57,7 +57,7 @@ pub(crate) fn differs(table: &[u16], index: &[u32], row: usize, name: usize, v: 
 {
     let r = reach_of(index, name);
     let first = row + publics_of(table, r) + privates(index);
-    (first + (v - word16(table, 0))) as u32
+    (first + (v - word(table, 0))) as u32
 }
 
 // The number of [*≠v].
@@ -66,5 +66,5 @@ pub(crate) fn free_place(table: &[u16], index: &[u32], v: usize) -> u32
         × (v < publics table.now + privates_word table.now) }
     ensures { result ≡ number_of (scheme table.now) (today table.now) (free v) }
 {
-    (free_start(index) + (v - word16(table, 0))) as u32
+    (free_start(index) + (v - word(table, 0))) as u32
 }

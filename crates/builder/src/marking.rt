@@ -10,7 +10,7 @@ ghost use Rattle.builder.specs.Inner.Parts.{initial_row_places, initial_spot_pla
 
 use crate::insertion::insert;
 use crate::write::words;
-use lists::{store32, word16};
+use lists::{store, word};
 use places::count::publics_of;
 use places::layout::is_read;
 use places::lookup::{free_start, node_start, privates};
@@ -24,7 +24,7 @@ fn count_up(out: &mut [u32], at: usize, first: usize, count: usize) -> usize
 {
     let mut i = 0;
     while i < count {
-        store32(out, at + i, (first + i) as u32);
+        store(out, at + i, (first + i) as u32);
         i += 1;
     }
     at + count
@@ -35,9 +35,9 @@ fn initial_rows(table: &[u16], index: &[u32], out: &mut [u32]) -> usize
     ensures { (result ≡ 8 + length (initial_row_places table.now)) × (result < 65536)
         × (out.new ≡ writes out.old 8 (initial_row_places table.now)) }
 {
-    let publics = word16(table, 0);
+    let publics = word(table, 0);
     let privates = privates(index);
-    let end = publics + word16(table, 1);
+    let end = publics + word(table, 1);
     let mut at = 8;
     let mut row = 0;
     let mut x = publics;
@@ -57,7 +57,7 @@ fn initial_spots(table: &[u16], index: &[u32], out: &mut [u32], at: usize)
     requires { Laid table.now index.now × (at < 65536) }
     ensures { out.new ≡ writes out.old at (initial_spot_places table.now) }
 {
-    let threads = word16(table, 3);
+    let threads = word(table, 3);
     let mut list = [0u32; 8];
     let mut count = 0;
     let mut t = 0;

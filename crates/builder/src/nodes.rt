@@ -17,7 +17,7 @@ use crate::chain::{Chain, Passed, copy_all, on, release_all};
 use crate::insertion::{insert, insert_equals};
 use crate::layout::{differs, free_place};
 use crate::write::{Heads, Label, go, transition};
-use lists::word16;
+use lists::word;
 use places::layout::is_read;
 use places::lookup::{node_start, privates};
 use places::row::{row_places, row_start};
@@ -70,8 +70,8 @@ fn differences(table: &[u16], index: &[u32], list: &mut [u32], v: usize) -> usiz
         × (result ≡ length (numbers_for (scheme table.now) (today table.now)
         (all_differ (scheme table.now) v))) }
 {
-    let publics = word16(table, 0);
-    let end = publics + word16(table, 1);
+    let publics = word(table, 0);
+    let end = publics + word(table, 1);
     let mut count = 0;
     let mut row = 0;
     let mut x = publics;
@@ -93,7 +93,7 @@ fn first_reads(table: &[u16], index: &[u32], list: &mut [u32]) -> usize
     if privates(index) == 0 {
         return 0;
     }
-    differences(table, index, list, word16(table, 0))
+    differences(table, index, list, word(table, 0))
 }
 
 // The node of a New, its place, the place of the node behind it, how many rows it reads, and where the row of its name
@@ -120,7 +120,7 @@ fn risen(table: &[u16], first: &[u32], count: usize, v: usize, list: &mut [u32])
         × (result ≡ length (numbers_for (scheme table.now) (today table.now)
         (all_differ (scheme table.now) v))) }
 {
-    let rise = (v - word16(table, 0)) as u32;
+    let rise = (v - word(table, 0)) as u32;
     let mut i = 0;
     while i < count {
         list[i] = first[i] + rise;
@@ -183,7 +183,7 @@ fn news(
         ≡ put table.now out.old h
         (map (made table.now n) (from (publics table.now) (privates_word table.now))) }
 {
-    let publics = word16(table, 0);
+    let publics = word(table, 0);
     let privates = privates(index);
     if privates == 0 {
         return h;
@@ -300,7 +300,7 @@ pub(crate) fn nodes(table: &[u16], index: &[u32], out: &mut [u32], h: Heads) -> 
 {
     let mut reads = [0u32; 40];
     let read = first_reads(table, index, &mut reads);
-    let count = word16(table, 4);
+    let count = word(table, 4);
     let mut q = h;
     let mut n = 0;
     while n < count {

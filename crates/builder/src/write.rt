@@ -9,7 +9,7 @@ ghost use Rattle.places.specs.Inner.Counting.{Few};
 ghost use Rattle.builder.specs.Inner.Parts.{state, arrow, risen, risers_in, Short};
 ghost use Rattle.places.specs.Inner.Plan.{header_of};
 
-use lists::store32;
+use lists::store;
 use places::count::Totals;
 use places::lookup::{place_count, token_count};
 
@@ -54,7 +54,7 @@ pub(crate) fn words(out: &mut [u32], at: usize, list: &[u32], count: usize) -> u
 {
     let mut i = 0;
     while i < count {
-        store32(out, at + i, list[i]);
+        store(out, at + i, list[i]);
         i += 1;
     }
     at + count

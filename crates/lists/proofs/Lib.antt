@@ -10,3 +10,4 @@ pub mod Positions
 pub mod Sums
 pub mod Numbered
 pub mod Standing
+pub mod Chains

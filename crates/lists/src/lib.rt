@@ -1,59 +1,82 @@
 // Reads and writes that are total: 0 past the end, and no write past the end.
 #![tactic(auto)]
 
-ghost use Rattle.std.specs.Prelude.{◌≡◌, set};
+ghost use Rattle.std.specs.Prelude.{◌≡◌, ◌≤◌, ◌<◌, ℕ, List, [], ◌∷◌, length, set, slice_index_or};
 ghost use Rattle.lists.specs.Lists.{Word};
+ghost use Rattle.lists.specs.Words.{word_inside, word_past};
 
-// Word i of a list of 16-bit words, 0 past its end.
-pub fn word16(words: &[u16], i: usize) -> usize
-    ensures { Word 65536 words.now i result }
-{
-    if i < words.len() {
-        return words[i] as usize;
-    }
-    0
+// An unsigned integer type whose values fit `usize`.
+pub trait Unsigned: Copy {
+    // The type's values lie below it.
+    ghost limit: { ℕ };
+    // The numbers of a list of the type's values.
+    ghost numbers: { List Self → List ℕ };
+
+    // The value as a number: that of a list of it alone.
+    fn number(self) -> usize
+        ensures { Word limit (numbers (self ∷ [])) 0 result };
+
+    // An item's number is the number at its place.
+    ghost inside: { (w : List Self) (i n : ℕ) (x : Self) → i < length w → x ≡ slice_index_or w i x
+        → Word limit (numbers (x ∷ [])) 0 n → Word limit (numbers w) i n };
+    // There is no number past the end.
+    ghost past: { (w : List Self) (i : ℕ) → length w ≤ i → Word limit (numbers w) i 0 };
 }
 
-// Word i of a list of 32-bit words, 0 past its end.
-pub fn word32(words: &[u32], i: usize) -> usize
-    ensures { Word 4294967296 words.now i result }
-{
-    if i < words.len() {
-        return words[i] as usize;
+impl Unsigned for u8 {
+    ghost limit = { 256 };
+
+    ghost numbers = { λ w. w };
+
+    fn number(self) -> usize {
+        self as usize
     }
-    0
+
+    ghost inside = { word_inside 256 };
+
+    ghost past = { word_past 255 };
 }
 
-// Byte i of a list of bytes, 0 past its end.
-pub fn word8(words: &[u8], i: usize) -> usize
-    ensures { Word 256 words.now i result }
+impl Unsigned for u16 {
+    ghost limit = { 65536 };
+
+    ghost numbers = { λ w. w };
+
+    fn number(self) -> usize {
+        self as usize
+    }
+
+    ghost inside = { word_inside 65536 };
+
+    ghost past = { word_past 65535 };
+}
+
+impl Unsigned for u32 {
+    ghost limit = { 4294967296 };
+
+    ghost numbers = { λ w. w };
+
+    fn number(self) -> usize {
+        self as usize
+    }
+
+    ghost inside = { word_inside 4294967296 };
+
+    ghost past = { word_past 4294967295 };
+}
+
+// Word i of a list, 0 past its end.
+pub fn word<T: Unsigned>(words: &[T], i: usize) -> usize
+    ensures { Word T.limit (T.numbers words.now) i result }
 {
     if i < words.len() {
-        return words[i] as usize;
+        return words[i].number();
     }
     0
 }
 
 // Writes v at i, and nothing past the end.
-pub fn store16(out: &mut [u16], i: usize, v: u16)
-    ensures { out.new ≡ set out.old i v }
-{
-    if i < out.len() {
-        out[i] = v;
-    }
-}
-
-// Writes v at i, and nothing past the end.
-pub fn store32(out: &mut [u32], i: usize, v: u32)
-    ensures { out.new ≡ set out.old i v }
-{
-    if i < out.len() {
-        out[i] = v;
-    }
-}
-
-// Writes v at i, and nothing past the end.
-pub fn store8(out: &mut [u8], i: usize, v: u8)
+pub fn store<T: Copy>(out: &mut [T], i: usize, v: T)
     ensures { out.new ≡ set out.old i v }
 {
     if i < out.len() {

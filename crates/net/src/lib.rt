@@ -336,7 +336,7 @@ fn ends_at(image: &[u32], settle: bool, transition: usize) -> bool
     if !settle {
         return true;
     }
-    lists::word32(image, 8 + lists::word32(image, 4) + 6 * transition) <= 1
+    lists::word(image, 8 + lists::word(image, 4) + 6 * transition) <= 1
 }
 
 // Fires what the rule finds, on an image and at a marking that are right, and writes each number to the history. A run

@@ -17,7 +17,7 @@ use crate::layout::reading_names;
 use crate::lookup::{node_start, privates};
 use crate::pairs::SETS;
 use crate::reach::{Reach, common, has_privates, public_word, rank, reach_of, restricted_word};
-use lists::{store32, word16, word32};
+use lists::{store, word};
 use scheme::fields::{field1, field3, field4};
 use scheme::lookup::{branch_thread, held_names, home};
 
@@ -45,7 +45,7 @@ fn more(t: Totals, times: usize, inputs: usize, outputs: usize) -> Totals
 pub fn publics_of(table: &[u16], values: Reach) -> usize
     ensures { (result ≡ length (keep (bit_at values.publics) (range (publics table.now)))) × (result ≤ 64) }
 {
-    rank(values.publics, word16(table, 0))
+    rank(values.publics, word(table, 0))
 }
 
 // How many private ones.
@@ -78,7 +78,7 @@ fn all_releases(table: &[u16], index: &[u32], t: Totals, names: &[u32], count: u
     let mut r = t;
     let mut i = 0;
     while i < count {
-        r = releases(table, index, r, word32(names, i));
+        r = releases(table, index, r, word(names, i));
         i += 1;
     }
     r
@@ -161,7 +161,7 @@ fn node(table: &[u16], index: &[u32], read: usize, t: Totals, n: usize) -> Total
 fn bound(table: &[u16], name: usize) -> usize
     ensures { result ≡ bit (not (nat_lt name (publics table.now))) }
 {
-    if name < word16(table, 0) {
+    if name < word(table, 0) {
         return 0;
     }
     1
@@ -211,14 +211,14 @@ fn enter(table: &[u16], index: &[u32], list: &mut [u32], at: usize, receive: u32
 {
     let s = side_of(table, index, receive);
     let e = s.channel as usize;
-    store32(list, at, receive);
-    store32(list, at + 1, s.thread);
-    store32(list, at + 2, public_word(index, e) as u32);
-    store32(list, at + 3, restricted_word(index, e) as u32);
-    store32(list, at + 4, s.channel);
-    store32(list, at + 5, s.name);
-    store32(list, at + 6, s.place);
-    store32(list, at + 7, s.on);
+    store(list, at, receive);
+    store(list, at + 1, s.thread);
+    store(list, at + 2, public_word(index, e) as u32);
+    store(list, at + 3, restricted_word(index, e) as u32);
+    store(list, at + 4, s.channel);
+    store(list, at + 5, s.name);
+    store(list, at + 6, s.place);
+    store(list, at + 7, s.on);
 }
 
 // The receives of a table in eight words each, as far as the list reaches, and how many there are.
@@ -227,7 +227,7 @@ pub(crate) fn receives(table: &[u16], index: &[u32], list: &mut [u32]) -> usize
         × (list.new ≡ sets list.old 0
         (flat (receive_words table.now index.now) (receives_of table.now))) }
 {
-    let branches = word16(table, 5);
+    let branches = word(table, 5);
     let mut count = 0;
     let mut b = 0;
     while b < branches {
@@ -246,12 +246,12 @@ pub fn receive_at(receives: &[u32], k: u16) -> Side
 {
     let at = 8 * (k as usize);
     Side {
-        branch: word32(receives, at) as u32,
-        thread: word32(receives, at + 1) as u32,
-        channel: word32(receives, at + 4) as u32,
-        name: word32(receives, at + 5) as u32,
-        place: word32(receives, at + 6) as u32,
-        on: word32(receives, at + 7) as u32,
+        branch: word(receives, at) as u32,
+        thread: word(receives, at + 1) as u32,
+        channel: word(receives, at + 4) as u32,
+        name: word(receives, at + 5) as u32,
+        place: word(receives, at + 6) as u32,
+        on: word(receives, at + 7) as u32,
     }
 }
 
@@ -346,7 +346,7 @@ fn of_nodes(table: &[u16], index: &[u32], t: Totals) -> Totals
     ensures { sums_of result
         ≡ over (node_sums table.now) (sums_of t) (range (nodes table.now)) }
 {
-    let nodes = word16(table, 4);
+    let nodes = word(table, 4);
     let read = reading_names(table, index);
     let mut q = t;
     let mut n = 0;
@@ -364,11 +364,11 @@ fn of_sends(table: &[u16], index: &[u32], t: Totals, pairs: &[u32]) -> Totals
     ensures { sums_of result
         ≡ over (send_sums table.now) (sums_of t) (range (branches table.now)) }
 {
-    let branches = word16(table, 5);
+    let branches = word(table, 5);
     let mut q = t;
     let mut s = 0;
     while s < branches {
-        let set = word32(pairs, SETS + s) as u64;
+        let set = word(pairs, SETS + s) as u64;
         if set != 0 {
             q = partners(table, index, q, s as u32, set, pairs);
         }

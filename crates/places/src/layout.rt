@@ -16,18 +16,18 @@ use crate::privates::{hold_all, private_values};
 use crate::reach::{has_privates, reach_of};
 use crate::rounds::fill_reaches;
 use crate::row::places_with;
-use lists::{store32, word16, word32};
+use lists::{store, word};
 use scheme::fields::{field1, field3, field4, name_kind};
 
 // Whether a name is restricted.
 pub(crate) fn is_restricted(table: &[u16], name: usize) -> bool
     ensures { result ≡ (scheme table.now).restricted name }
 {
-    let publics = word16(table, 0);
+    let publics = word(table, 0);
     if name < publics {
         return false;
     }
-    if publics + word16(table, 1) <= name {
+    if publics + word(table, 1) <= name {
         return false;
     }
     field1(table, 7, name - publics) == 0
@@ -69,12 +69,12 @@ fn fill_nodes(table: &[u16], held: &[u32], first: usize, index: &mut [u32]) -> u
     ensures { (result ≡ control_of table.now (nodes table.now))
         × (index.new ≡ sets index.old nodes_offset (node_words table.now)) }
 {
-    let count = word16(table, 4);
+    let count = word(table, 4);
     let mut at = first;
     let mut n = 0;
     while n < count {
-        store32(index, NODES + n, at as u32);
-        at += control_count(table, n, word32(held, n));
+        store(index, NODES + n, at as u32);
+        at += control_count(table, n, word(held, n));
         n += 1;
     }
     repeat(&mut index[NODES + count..PRIVATES], at as u32);
@@ -85,8 +85,8 @@ fn fill_nodes(table: &[u16], held: &[u32], first: usize, index: &mut [u32]) -> u
 pub(crate) fn free_names(table: &[u16]) -> usize
     ensures { (result ≡ free_names_word table.now) × (result ≤ bounds table.now) }
 {
-    let publics = word16(table, 0);
-    let end = publics + word16(table, 1);
+    let publics = word(table, 0);
+    let end = publics + word(table, 1);
     let mut count = 0;
     let mut x = publics;
     while x < end {
@@ -114,8 +114,8 @@ pub(crate) fn reading_names(table: &[u16], index: &[u32]) -> usize
     requires { Reached table.now index.now }
     ensures { (result ≡ read_names_word table.now) × (result ≤ bounds table.now) }
 {
-    let publics = word16(table, 0);
-    let end = publics + word16(table, 1);
+    let publics = word(table, 0);
+    let end = publics + word(table, 1);
     let mut count = 0;
     let mut x = publics;
     while x < end {
@@ -136,12 +136,12 @@ pub(crate) fn lay_out(table: &[u16], index: &mut [u32])
     hold_all(table, index, &mut held);
     let privates = private_values(table, index, &held);
     fill_reaches(table, index);
-    let names = word16(table, 0) + word16(table, 1);
+    let names = word(table, 0) + word(table, 1);
     let free = places_with(table, index, privates as u32, 0, names);
     let places = fill_nodes(table, &held, free + privates, index);
-    let tokens = reading_names(table, index) * privates + privates + word16(table, 3);
-    store32(index, PRIVATES, privates as u32);
-    store32(index, FREE, free as u32);
-    store32(index, PLACES, places as u32);
-    store32(index, TOKENS, tokens as u32);
+    let tokens = reading_names(table, index) * privates + privates + word(table, 3);
+    store(index, PRIVATES, privates as u32);
+    store(index, FREE, free as u32);
+    store(index, PLACES, places as u32);
+    store(index, TOKENS, tokens as u32);
 }

@@ -3,7 +3,7 @@
 ghost use Rattle.lists.specs.Lists.{Word};
 ghost use Rattle.places.specs.Plan.{nodes_in, privates_at, free_at, places_at, tokens_at};
 
-use lists::word32;
+use lists::word;
 
 // Where the two sets of reaches, the starts of control places and each count stand in a plan, and its size; the index
 // of the table stands at 0.
@@ -28,7 +28,7 @@ pub fn node_start(index: &[u32], node: usize) -> usize
     ensures { Word 4294967296 (nodes_in index.now) node result }
 {
     if node < PRIVATES - NODES {
-        return word32(index, NODES + node);
+        return word(index, NODES + node);
     }
     0
 }
@@ -37,26 +37,26 @@ pub fn node_start(index: &[u32], node: usize) -> usize
 pub fn privates(index: &[u32]) -> usize
     ensures { Word 4294967296 index.now privates_at result }
 {
-    word32(index, PRIVATES)
+    word(index, PRIVATES)
 }
 
 // Where [*≠n] starts.
 pub fn free_start(index: &[u32]) -> usize
     ensures { Word 4294967296 index.now free_at result }
 {
-    word32(index, FREE)
+    word(index, FREE)
 }
 
 // How many places the net has.
 pub fn place_count(index: &[u32]) -> usize
     ensures { Word 4294967296 index.now places_at result }
 {
-    word32(index, PLACES)
+    word(index, PLACES)
 }
 
 // How many tokens there are at first.
 pub fn token_count(index: &[u32]) -> usize
     ensures { Word 4294967296 index.now tokens_at result }
 {
-    word32(index, TOKENS)
+    word(index, TOKENS)
 }

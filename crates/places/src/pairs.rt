@@ -11,7 +11,7 @@ ghost use Rattle.places.specs.Inner.Meeting.{is_noted, Noted};
 use crate::count::receives;
 use crate::reach::{public_word, restricted_word};
 use crate::rounds::{gather, join, spread, word64};
-use lists::{store32, word16, word32};
+use lists::{store, word};
 use scheme::fields::field4;
 use scheme::lookup::branch_thread;
 
@@ -34,10 +34,10 @@ fn note(list: &[u32], words: &mut [u64], k: usize)
         is_noted (heard_at list.now k) (word list.now (8 * k + 1)) x && same k o) }
 {
     let at = 8 * k;
-    let e = values_of(word32(list, at + 2) as u32, word32(list, at + 3) as u32);
+    let e = values_of(word(list, at + 2) as u32, word(list, at + 3) as u32);
     let bit = 1u64 << k;
     spread(words, e, bit);
-    join(words, 64 + word32(list, at + 1), bit);
+    join(words, 64 + word(list, at + 1), bit);
 }
 
 // Notes all receives of the list.
@@ -83,11 +83,11 @@ pub(crate) fn fill_pairs(table: &[u16], index: &[u32], pairs: &mut [u32])
     let count = receives(table, index, pairs);
     let mut words = [0u64; 72];
     note_all(pairs, count, &mut words);
-    let branches = word16(table, 5);
+    let branches = word(table, 5);
     let mut b = 0;
     while b < branches {
         let set = set_of(table, index, &words, b);
-        store32(pairs, SETS + b, set as u32);
+        store(pairs, SETS + b, set as u32);
         b += 1;
     }
 }

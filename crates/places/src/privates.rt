@@ -10,7 +10,7 @@ ghost use Rattle.places.specs.Inner.Holding.{held_most, HeldBelow, NoneHeld, Mos
 
 use crate::count::larger;
 use crate::layout::free_names;
-use lists::{store32, word16, word32};
+use lists::{store, word};
 use scheme::fields::{field3, field4};
 use scheme::lookup::{Parent, node_thread, step_up};
 
@@ -22,9 +22,9 @@ fn held_count(table: &[u16], index: &[u32], below: &[u32], node: usize) -> usize
 {
     match step_up(index, node) {
         Parent::Definition(d) => field4(table, 8, d, 3),
-        Parent::New(m) => word32(below, m) + 1,
+        Parent::New(m) => word(below, m) + 1,
         Parent::Branch(b, m) => {
-            let held = word32(below, m);
+            let held = word(below, m);
             if field4(table, 11, b, 0) == 2 {
                 return held + 1;
             }
@@ -54,8 +54,8 @@ fn raise(most: &mut [u32], t: usize, held: usize)
     ensures { most.new ≡ slice_set most.old t
         (pick (nat_lt (word most.old t) held) held (word most.old t)) }
 {
-    let before = word32(most, t);
-    store32(most, t, larger(before, held) as u32);
+    let before = word(most, t);
+    store(most, t, larger(before, held) as u32);
 }
 
 // How many names each node holds, from the lowest up.
@@ -63,11 +63,11 @@ pub(crate) fn hold_all(table: &[u16], index: &[u32], held: &mut [u32])
     requires { Known table.now index.now × (256 ≤ length held.old) }
     ensures { HeldBelow (scheme table.now) (nodes table.now) held.new }
 {
-    let nodes = word16(table, 4);
+    let nodes = word(table, 4);
     let mut node = 0;
     while node < nodes {
         let count = held_count(table, index, held, node);
-        store32(held, node, count as u32);
+        store(held, node, count as u32);
         node += 1;
     }
 }
@@ -78,13 +78,13 @@ fn raise_all(table: &[u16], index: &[u32], held: &[u32], most: &mut [u32])
         × NoneHeld most.old }
     ensures { MostsHeld (scheme table.now) most.new }
 {
-    let nodes = word16(table, 4);
+    let nodes = word(table, 4);
     let mut n = 0;
     while n < nodes {
         raise(
             most,
             node_thread(table, index, n),
-            most_at(table, n, word32(held, n)),
+            most_at(table, n, word(held, n)),
         );
         n += 1;
     }
@@ -98,7 +98,7 @@ fn sum(words: &[u32], count: usize) -> usize
     let mut s = 0;
     let mut i = 0;
     while i < count {
-        s += word32(words, i);
+        s += word(words, i);
         i += 1;
     }
     s
@@ -109,10 +109,10 @@ pub(crate) fn private_values(table: &[u16], index: &[u32], held: &[u32]) -> usiz
     requires { Known table.now index.now × HeldBelow (scheme table.now) (nodes table.now) held.now }
     ensures { (result ≡ privates_word table.now) × (result ≤ 32) }
 {
-    if free_names(table) == word16(table, 1) {
+    if free_names(table) == word(table, 1) {
         return 0;
     }
     let mut most = [0u32; 8];
     raise_all(table, index, held, &mut most);
-    sum(&most, word16(table, 3))
+    sum(&most, word(table, 3))
 }

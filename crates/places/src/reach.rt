@@ -6,7 +6,7 @@ ghost use Rattle.places.specs.Plan.{publics_in, restricted_in, reach_in};
 ghost use Rattle.places.specs.Reaches.{common_reach};
 
 use crate::lookup::{NODES, PUBLICS, RESTRICTED};
-use lists::word32;
+use lists::word;
 
 // A set has number k at bit k: public names by their numbers, restricted ones counted from the first bound name.
 #[derive(Clone, Copy)]
@@ -20,7 +20,7 @@ pub(crate) fn public_word(index: &[u32], name: usize) -> usize
     ensures { Word 4294967296 (publics_in index.now) name result }
 {
     if name < RESTRICTED - PUBLICS {
-        return word32(index, PUBLICS + name);
+        return word(index, PUBLICS + name);
     }
     0
 }
@@ -29,7 +29,7 @@ pub(crate) fn restricted_word(index: &[u32], name: usize) -> usize
     ensures { Word 4294967296 (restricted_in index.now) name result }
 {
     if name < NODES - RESTRICTED {
-        return word32(index, RESTRICTED + name);
+        return word(index, RESTRICTED + name);
     }
     0
 }

@@ -16,7 +16,7 @@ ghost use Rattle.places.specs.Inner.Plan.{argument_name};
 
 use crate::layout::repeat;
 use crate::lookup::{PUBLICS, RESTRICTED};
-use lists::{store32, word16};
+use lists::{store, word};
 use scheme::fields::{field1, field3, field4, name_kind};
 use scheme::lookup::branch_thread;
 
@@ -76,7 +76,7 @@ fn is_source(table: &[u16], name: usize) -> bool
     requires { name < names table.now }
     ensures { result ≡ is_source_name (scheme table.now) name }
 {
-    if name < word16(table, 0) {
+    if name < word(table, 0) {
         return true;
     }
     name_kind(table, name) == 0
@@ -87,7 +87,7 @@ fn own(table: &[u16], words: &mut [u64])
     requires { (cause table.now ≡ 0) × (words.old ≡ replicate 64 0) }
     ensures { Start (scheme table.now) words.new }
 {
-    let end = word16(table, 0) + word16(table, 1);
+    let end = word(table, 0) + word(table, 1);
     let mut x = 0;
     while x < end {
         if is_source(table, x) {
@@ -118,7 +118,7 @@ fn listen_all(table: &[u16], index: &[u32], words: &[u64], ears: &mut [u64])
     requires { Known table.now index.now × Ears (scheme table.now) words.now ears.old }
     ensures { Heard (scheme table.now) words.now ears.new }
 {
-    let branches = word16(table, 5);
+    let branches = word(table, 5);
     let mut r = 0;
     while r < branches {
         listen(table, index, words, ears, r);
@@ -148,7 +148,7 @@ fn say_all(table: &[u16], index: &[u32], ears: &[u64], words: &mut [u64]) -> boo
     ensures { Grown words.old words.new result
         (is_said (scheme table.now) ears.now) }
 {
-    let branches = word16(table, 5);
+    let branches = word(table, 5);
     let mut grew = false;
     let mut s = 0;
     while s < branches {
@@ -196,10 +196,10 @@ fn call_all(table: &[u16], words: &mut [u64]) -> bool
     requires { cause table.now ≡ 0 }
     ensures { Grown words.old words.new result (is_passed (scheme table.now)) }
 {
-    if word16(table, 6) == 0 {
+    if word(table, 6) == 0 {
         return false;
     }
-    let nodes = word16(table, 4);
+    let nodes = word(table, 4);
     let mut grew = false;
     let mut n = 0;
     while n < nodes {
@@ -243,7 +243,7 @@ fn put_digits(words: &[u64], n: usize, first: usize, size: usize, at: usize, ind
     let limit = 1u64 << size;
     let mut x = 0;
     while x < n {
-        store32(index, at + x, ((word64(words, x) >> first) % limit) as u32);
+        store(index, at + x, ((word64(words, x) >> first) % limit) as u32);
         x += 1;
     }
     repeat(&mut index[at + n..at + 64], 0);
@@ -256,8 +256,8 @@ pub(crate) fn fill_reaches(table: &[u16], index: &mut [u32])
         ≡ sets (sets index.old publics_at (public_words table.now))
         restricted_at (restricted_words table.now) }
 {
-    let publics = word16(table, 0);
-    let bounds = word16(table, 1);
+    let publics = word(table, 0);
+    let bounds = word(table, 1);
     let mut words = [0u64; 64];
     let mut ears = [0u64; 72];
     own(table, &mut words);

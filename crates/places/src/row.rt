@@ -7,7 +7,7 @@ ghost use Rattle.places.specs.Starts.{places_in, span_in, start_in, start_after,
 use crate::count::larger;
 use crate::lookup::privates;
 use crate::reach::{has, public_word, restricted_word};
-use lists::word16;
+use lists::word;
 
 fn smaller(a: usize, b: usize) -> usize
     ensures { result ≡ pick (nat_lt a b) a b }
@@ -44,8 +44,8 @@ pub(crate) fn places_with(
 ) -> usize
     ensures { result ≡ span_in table.now index.now privates first end }
 {
-    let publics = word16(table, 0);
-    let last = smaller(end, publics + word16(table, 1));
+    let publics = word(table, 0);
+    let last = smaller(end, publics + word(table, 1));
     let mut count = 0;
     let mut x = larger(first, publics);
     while x < last {
@@ -94,7 +94,7 @@ pub fn row_on(table: &[u16], index: &[u32], s: Start, name: usize) -> Start
     if name == s.name {
         return s;
     }
-    if name < word16(table, 0) {
+    if name < word(table, 0) {
         return s;
     }
     let first = start_from(s, name);

@@ -18,7 +18,7 @@ ghost use Rattle.print.specs.Inner.Parts.{label_text, arcs_text, net_text, Recor
 ghost use Rattle.print.specs.Program.{odd_cause, program_text};
 
 use builder::Built;
-use lists::{store8, store16, word8, word32};
+use lists::{store, word};
 use rewriting::Answer;
 
 // What a call did: how many bytes or words it wrote, or that the output is too short for them (10).
@@ -44,9 +44,9 @@ fn fill_words(bytes: &[u8], out: &mut [u16]) -> usize
     let count = bytes.len() / 2;
     let mut i: usize = 0;
     while i < count {
-        let low = word8(bytes, 2 * i);
-        let high = word8(bytes, 2 * i + 1);
-        store16(out, i, (low + 256 * high) as u16);
+        let low = word(bytes, 2 * i);
+        let high = word(bytes, 2 * i + 1);
+        store(out, i, (low + 256 * high) as u16);
         i += 1;
     }
     count
@@ -68,7 +68,7 @@ fn put(out: &mut [u8], at: Pen, byte: u8) -> Pen
     ensures { cursor_at out.new result ≡ write (cursor_at out.old at) (byte ∷ []) }
 {
     if at.place < at.stop {
-        store8(out, at.place, byte);
+        store(out, at.place, byte);
         let next = at.place + 1;
         return Pen {
             place: next,
@@ -131,7 +131,7 @@ fn put_word(image: &[u32], i: usize, out: &mut [u8], at: Pen) -> Pen
     ensures { cursor_at out.new result
         ≡ write (cursor_at out.old at) (spaced (decimal (word image.now i))) }
 {
-    let n = word32(image, i);
+    let n = word(image, i);
     put_next(out, at, n)
 }
 
@@ -167,7 +167,7 @@ fn put_header(image: &[u32], out: &mut [u8], at: Pen) -> Pen
     ensures { cursor_at out.new result
         ≡ write (cursor_at out.old at) (header_line image.now) }
 {
-    let places = word32(image, 0);
+    let places = word(image, 0);
     let a = put_decimal(out, at, places);
     let b = put_word(image, 1, out, a);
     let c = put_word(image, 2, out, b);
@@ -181,7 +181,7 @@ fn record_start(image: &[u32], transition: usize) -> usize
     requires { transition < 4294967296 }
     ensures { RecordAt image.now transition result }
 {
-    let tokens = word32(image, 4);
+    let tokens = word(image, 4);
     8 + tokens + 6 * transition
 }
 
@@ -204,9 +204,9 @@ fn put_arcs(image: &[u32], transition: usize, out: &mut [u8], at: Pen) -> Pen
         ≡ write (cursor_at out.old at) (arcs_text image.now transition) }
 {
     let record = record_start(image, transition);
-    let inputs = word32(image, record + 3);
-    let outputs = inputs + word32(image, record + 4);
-    let end = outputs + word32(image, record + 5);
+    let inputs = word(image, record + 3);
+    let outputs = inputs + word(image, record + 4);
+    let end = outputs + word(image, record + 5);
     let a = put_mark(out, at, b':');
     let b = put_span(image, inputs, outputs, out, a);
     let c = put_mark(out, b, b'>');
@@ -231,7 +231,7 @@ fn put_transitions(image: &[u32], out: &mut [u8], at: Pen) -> Pen
         ≡ write (cursor_at out.old at)
         (flat (transition_line image.now) (range (transition_count image.now))) }
 {
-    let count = word32(image, 1);
+    let count = word(image, 1);
     let mut transition: usize = 0;
     let mut p = at;
     while transition < count {

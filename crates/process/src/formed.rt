@@ -13,7 +13,7 @@ ghost use Rattle.process.specs.Inner.Values.{next_seen_of};
 
 use crate::threads::{is_stop, name_thread, node_thread};
 use crate::values::{one_value, value_of};
-use lists::{word16, word32};
+use lists::word;
 use scheme::fields::name_kind;
 use scheme::lookup::held_names;
 
@@ -24,7 +24,7 @@ fn is_listed(names: &[u32], count: usize, name: usize) -> bool
 {
     let mut i = 0;
     while i < count {
-        if word32(names, i) == name {
+        if word(names, i) == name {
             return true;
         }
         i += 1;
@@ -37,7 +37,7 @@ pub(crate) fn holds(table: &[u16], index: &[u32], node: usize, name: usize) -> b
     requires { Known table.now index.now }
     ensures { result ≡ member name ((scheme table.now).held node) }
 {
-    if word16(table, 4) <= node {
+    if word(table, 4) <= node {
         return false;
     }
     let mut names = [0u32; 64];
@@ -51,7 +51,7 @@ fn is_held(table: &[u16], index: &[u32], state: &[u16], name: usize) -> bool
     ensures { result ≡ holds_at (scheme table.now)
         (state_of (scheme table.now) state.now) name }
 {
-    let node = word16(state, name_thread(table, index, name));
+    let node = word(state, name_thread(table, index, name));
     if is_stop(table, node) {
         return false;
     }
@@ -72,7 +72,7 @@ fn name_right(table: &[u16], index: &[u32], state: &[u16], name: usize) -> bool
     if !held {
         return false;
     }
-    value < word16(table, 0) + word16(table, 1)
+    value < word(table, 0) + word(table, 1)
 }
 
 fn names_right(table: &[u16], index: &[u32], state: &[u16]) -> bool
@@ -81,8 +81,8 @@ fn names_right(table: &[u16], index: &[u32], state: &[u16]) -> bool
         (is_name_right (scheme table.now) (state_of (scheme table.now) state.now))
         (from (publics table.now) (bounds table.now)) }
 {
-    let first = word16(table, 0);
-    let end = first + word16(table, 1);
+    let first = word(table, 0);
+    let end = first + word(table, 1);
     let mut x = first;
     while x < end {
         if !name_right(table, index, state, x) {
@@ -99,8 +99,8 @@ fn node_right(table: &[u16], index: &[u32], state: &[u16], thread: usize) -> boo
     ensures { result ≡ is_node_right (scheme table.now)
         (state_of (scheme table.now) state.now) thread }
 {
-    let node = word16(state, thread);
-    if node < word16(table, 4) {
+    let node = word(state, thread);
+    if node < word(table, 4) {
         return node_thread(table, index, node) == thread;
     }
     false
@@ -112,7 +112,7 @@ fn nodes_right(table: &[u16], index: &[u32], state: &[u16]) -> bool
         (is_node_right (scheme table.now) (state_of (scheme table.now) state.now))
         (range (threads table.now)) }
 {
-    let threads = word16(table, 3);
+    let threads = word(table, 3);
     let mut t = 0;
     while t < threads {
         if !node_right(table, index, state, t) {
@@ -150,13 +150,13 @@ fn is_numbered(table: &[u16], state: &[u16]) -> bool
         (state_words (scheme table.now) (state_of (scheme table.now) state.now))
         state.now }
 {
-    let publics = word16(table, 0);
-    let threads = word16(table, 3);
-    let bounds = word16(table, 1);
+    let publics = word(table, 0);
+    let threads = word(table, 3);
+    let bounds = word(table, 1);
     let mut seen = 0;
     let mut i = 0;
     while i < bounds {
-        let next = next_seen(publics, seen, word16(state, threads + i));
+        let next = next_seen(publics, seen, word(state, threads + i));
         if next == 65536 {
             return false;
         }
@@ -169,11 +169,11 @@ fn is_numbered(table: &[u16], state: &[u16]) -> bool
 fn is_restricted(table: &[u16], name: usize) -> bool
     ensures { result ≡ (scheme table.now).restricted name }
 {
-    let publics = word16(table, 0);
+    let publics = word(table, 0);
     if name < publics {
         return false;
     }
-    if name < publics + word16(table, 1) {
+    if name < publics + word(table, 1) {
         return name_kind(table, name) == 0;
     }
     false
@@ -202,8 +202,8 @@ fn is_unshared(table: &[u16], state: &[u16], name: usize) -> bool
         ((state_of (scheme table.now) state.now).value y))))
         (from (publics table.now) (bounds table.now)) }
 {
-    let first = word16(table, 0);
-    let end = first + word16(table, 1);
+    let first = word(table, 0);
+    let end = first + word(table, 1);
     let mut y = first;
     while y < end {
         if !is_apart(table, state, name, y) {
@@ -222,7 +222,7 @@ fn restricted_right(table: &[u16], state: &[u16], name: usize) -> bool
     if !is_restricted(table, name) {
         return true;
     }
-    if value_of(table, state, name) < word16(table, 0) {
+    if value_of(table, state, name) < word(table, 0) {
         return false;
     }
     is_unshared(table, state, name)
@@ -233,8 +233,8 @@ fn all_restricted_right(table: &[u16], state: &[u16]) -> bool
         (is_restricted_right (scheme table.now) (state_of (scheme table.now) state.now))
         (from (publics table.now) (bounds table.now)) }
 {
-    let first = word16(table, 0);
-    let end = first + word16(table, 1);
+    let first = word(table, 0);
+    let end = first + word(table, 1);
     let mut x = first;
     while x < end {
         if !restricted_right(table, state, x) {
@@ -250,7 +250,7 @@ pub(crate) fn well_formed(table: &[u16], index: &[u32], state: &[u16]) -> bool
     requires { Known table.now index.now }
     ensures { result ≡ is_well_formed (scheme table.now) state.now }
 {
-    if state.len() != word16(table, 3) + word16(table, 1) {
+    if state.len() != word(table, 3) + word(table, 1) {
         return false;
     }
     if !nodes_right(table, index, state) {

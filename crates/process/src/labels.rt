@@ -13,7 +13,7 @@ ghost use Rattle.process.specs.Inner.Codes.{meant, named, label_words, Labelled,
 use crate::formed::holds;
 use crate::threads::{branch_is, branch_thread, home, node_is, node_thread};
 use crate::values::{one_value, value_of};
-use lists::word16;
+use lists::word;
 use scheme::fields::{field3, field4};
 
 // The two branches of a communication.
@@ -220,7 +220,7 @@ pub(crate) fn stands(table: &[u16], index: &[u32], state: &[u16], node: usize) -
         (state_of (scheme table.now) state.now) node }
 {
     let thread = node_thread(table, index, node);
-    word16(state, thread) == node
+    word(state, thread) == node
 }
 
 // Whether a send and a receive can meet: their threads differ and stand at them, and both channels have one value.

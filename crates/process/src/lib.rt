@@ -22,7 +22,7 @@ use crate::formed::well_formed;
 use crate::labels::{Open, open_step};
 use crate::listing::list_open;
 use crate::next::write_state;
-use lists::{store16, word16};
+use lists::{store, word};
 use scheme::fields::{field1, field4};
 use scheme::index::{SIZE, fill};
 
@@ -42,10 +42,10 @@ fn write_roots(table: &[u16], out: &mut [u16])
         ≡ sets out.old 0
         (map (λ t. root table.now (entry table.now t)) (range (threads table.now))) }
 {
-    let threads = word16(table, 3);
+    let threads = word(table, 3);
     let mut t = 0;
     while t < threads {
-        store16(out, t, field4(table, 8, field1(table, 9, t), 1) as u16);
+        store(out, t, field4(table, 8, field1(table, 9, t), 1) as u16);
         t += 1;
     }
 }
@@ -55,11 +55,11 @@ fn write_unheld(table: &[u16], out: &mut [u16])
     ensures { out.new
         ≡ sets out.old (threads table.now) (replicate (bounds table.now) 65535) }
 {
-    let threads = word16(table, 3);
-    let bounds = word16(table, 1);
+    let threads = word(table, 3);
+    let bounds = word(table, 1);
     let mut i = 0;
     while i < bounds {
-        store16(out, threads + i, 65535);
+        store(out, threads + i, 65535);
         i += 1;
     }
 }
@@ -72,7 +72,7 @@ pub fn start(table: &[u16], state: &mut [u16]) -> Answer
     if !table::is_accepted(verdict) {
         return Answer::Refused(verdict);
     }
-    let size = word16(table, 3) + word16(table, 1);
+    let size = word(table, 3) + word(table, 1);
     if state.len() < size {
         return Answer::NoRoom;
     }
@@ -119,7 +119,7 @@ pub fn step(table: &[u16], state: &[u16], kind: u32, a: u32, b: u32, next: &mut 
     let Open::Taken(taken) = open_step(table, &index, state, kind, a, b) else {
         return Answer::NotOpen;
     };
-    let size = word16(table, 3) + word16(table, 1);
+    let size = word(table, 3) + word(table, 1);
     if next.len() < size {
         return Answer::NoRoom;
     }

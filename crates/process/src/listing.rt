@@ -16,7 +16,7 @@ ghost use Rattle.process.specs.Inner.Listed.{Fitted};
 
 use crate::labels::{Pair, Step, can_meet, label_of, stands};
 use crate::threads::{branch_is, home, node_is};
-use lists::{store32, word16, word32};
+use lists::{store, word};
 use scheme::fields::field3;
 
 // Writes the label of a step; where the next one goes.
@@ -26,9 +26,9 @@ fn write_label(table: &[u16], step: Step, at: usize, out: &mut [u32]) -> usize
         out.new result }
 {
     let label = label_of(table, step);
-    store32(out, at, label.kind);
-    store32(out, at + 1, label.a);
-    store32(out, at + 2, label.b);
+    store(out, at, label.kind);
+    store(out, at + 1, label.a);
+    store(out, at + 2, label.b);
     at + 3
 }
 
@@ -107,7 +107,7 @@ fn list_nodes(table: &[u16], index: &[u32], state: &[u16], out: &mut [u32]) -> u
         (flat (node_words (scheme table.now) (state_of (scheme table.now) state.now))
         (range (nodes table.now))) out.old 0 out.new result }
 {
-    let nodes = word16(table, 4);
+    let nodes = word(table, 4);
     let mut n = 0;
     let mut next = 0;
     while n < nodes {
@@ -137,7 +137,7 @@ fn gather_branch(
     if !stands(table, index, state, home(table, index, branch)) {
         return at;
     }
-    store32(out, at, branch as u32);
+    store(out, at, branch as u32);
     at + 1
 }
 
@@ -148,7 +148,7 @@ fn gather(table: &[u16], index: &[u32], state: &[u16], kind: usize, out: &mut [u
         (flat (standing table.now (state_of (scheme table.now) state.now) kind)
         (range (branches table.now))) out.old 0 out.new result }
 {
-    let branches = word16(table, 5);
+    let branches = word(table, 5);
     let mut b = 0;
     let mut next = 0;
     while b < branches {
@@ -200,7 +200,7 @@ fn list_pairs(
     let mut i = 0;
     let mut next = at;
     while i < receives.len() {
-        let receive = word32(receives, i);
+        let receive = word(receives, i);
         next = list_pair(table, index, state, send, receive, next, out);
         i += 1;
     }
@@ -224,7 +224,7 @@ fn list_meetings(
     let mut i = 0;
     let mut next = at;
     while i < sends.len() {
-        let send = word32(sends, i);
+        let send = word(sends, i);
         next = list_pairs(table, index, state, send, receives, next, out);
         i += 1;
     }

@@ -16,7 +16,7 @@ ghost use Rattle.process.specs.Inner.Codes.{meant, Going};
 use crate::labels::{Pair, Step};
 use crate::threads::{branch_thread, is_stop, name_thread, node_thread};
 use crate::values::{value_of, write_numbered};
-use lists::{store16, word16};
+use lists::{store, word};
 use scheme::fields::{field1, field3, field4};
 
 // Whether a name ends as its thread arrives at a node.
@@ -43,7 +43,7 @@ fn value_after_new(table: &[u16], index: &[u32], state: &[u16], node: usize, nam
         return 65535;
     }
     if name == field3(table, 10, node, 1) {
-        return word16(table, 0) + word16(table, 1);
+        return word(table, 0) + word(table, 1);
     }
     value_of(table, state, name)
 }
@@ -160,7 +160,7 @@ fn node_after(table: &[u16], index: &[u32], state: &[u16], step: Step, thread: u
         ((take (scheme table.now) (meant step) (state_of (scheme table.now) state.now)
         ).node thread) result }
 {
-    let before = word16(state, thread);
+    let before = word(state, thread);
     match step {
         Step::New(n) => {
             let moved = node_thread(table, index, n);
@@ -194,10 +194,10 @@ fn write_nodes(table: &[u16], index: &[u32], state: &[u16], step: Step, out: &mu
         (map (take (scheme table.now) (meant step)
         (state_of (scheme table.now) state.now)).node (range (threads table.now))) }
 {
-    let threads = word16(table, 3);
+    let threads = word(table, 3);
     let mut t = 0;
     while t < threads {
-        store16(out, t, node_after(table, index, state, step, t) as u16);
+        store(out, t, node_after(table, index, state, step, t) as u16);
         t += 1;
     }
 }
@@ -211,11 +211,11 @@ fn fill_values(table: &[u16], index: &[u32], state: &[u16], step: Step, values: 
         (state_of (scheme table.now) state.now)).value
         (from (publics table.now) (bounds table.now)) }
 {
-    let publics = word16(table, 0);
-    let bounds = word16(table, 1);
+    let publics = word(table, 0);
+    let bounds = word(table, 1);
     let mut i = 0;
     while i < bounds {
-        store16(
+        store(
             values,
             i,
             value_after(table, index, state, step, publics + i) as u16,
@@ -234,9 +234,9 @@ fn write_values(table: &[u16], index: &[u32], state: &[u16], step: Step, out: &m
         (state_of (scheme table.now) state.now)).value
         (from (publics table.now) (bounds table.now)))) }
 {
-    let publics = word16(table, 0);
-    let bounds = word16(table, 1);
-    let threads = word16(table, 3);
+    let publics = word(table, 0);
+    let bounds = word(table, 1);
+    let threads = word(table, 3);
     let mut values = [0u16; 32];
     fill_values(table, index, state, step, &mut values);
     write_numbered(publics as u16, &values, bounds as u16, threads as u16, out);

@@ -8,14 +8,14 @@ ghost use Rattle.scheme.specs.Kinds.{is_stop_node};
 ghost use Rattle.table.specs.Known.{Known};
 ghost use Rattle.scheme.specs.Words.{Number};
 
-use lists::word16;
+use lists::word;
 use scheme::fields::{field3, field4};
 
 // Whether the table has the node, and it is of the kind.
 pub(crate) fn node_is(table: &[u16], node: usize, kind: usize) -> bool
     ensures { result ≡ (ltb node (nodes table.now) && same (node_kind table.now node) kind) }
 {
-    if node < word16(table, 4) {
+    if node < word(table, 4) {
         return field3(table, 10, node, 0) == kind;
     }
     false
@@ -26,7 +26,7 @@ pub(crate) fn branch_is(table: &[u16], branch: usize, kind: usize) -> bool
     ensures { result ≡ (ltb branch (branches table.now)
         && same (branch_kind table.now branch) kind) }
 {
-    if branch < word16(table, 5) {
+    if branch < word(table, 5) {
         return field4(table, 11, branch, 0) == kind;
     }
     false

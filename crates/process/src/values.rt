@@ -6,18 +6,18 @@ ghost use Rattle.process.specs.States.{is_one_value};
 ghost use Rattle.process.specs.StateWords.{state_of, place, value_at, Numbered};
 ghost use Rattle.process.specs.Inner.Values.{Valued, Numberable, Turned};
 
-use lists::{store16, word16};
+use lists::{store, word};
 
 // The value of a name, 65535 where it has none.
 pub(crate) fn value_of(table: &[u16], state: &[u16], name: usize) -> usize
     ensures { Valued ((state_of (scheme table.now) state.now).value name) result }
 {
-    let publics = word16(table, 0);
+    let publics = word(table, 0);
     if name < publics {
         return name;
     }
-    if name < publics + word16(table, 1) {
-        return word16(state, word16(table, 3) + (name - publics));
+    if name < publics + word(table, 1) {
+        return word(state, word(table, 3) + (name - publics));
     }
     65535
 }
@@ -39,7 +39,7 @@ fn place_of(seen: &[u16], count: usize, value: usize) -> usize
 {
     let mut i = 0;
     while i < count {
-        if word16(seen, i) == value {
+        if word(seen, i) == value {
             return i;
         }
         i += 1;
@@ -73,7 +73,7 @@ fn number(publics: usize, seen: &mut [u16], count: usize, value: usize) -> Turn
     }
     let place = place_of(seen, count, value);
     if place == count {
-        store16(seen, count, value as u16);
+        store(seen, count, value as u16);
         return Turn {
             word: publics + place,
             count: count + 1,
@@ -103,8 +103,8 @@ pub fn write_numbered(publics: u16, values: &[u16], count: u16, at: u16, out: &m
     let mut noted = 0;
     let mut i = 0;
     while i < count as usize {
-        let turn = number(publics as usize, &mut seen, noted, word16(values, i));
-        store16(out, at as usize + i, turn.word as u16);
+        let turn = number(publics as usize, &mut seen, noted, word(values, i));
+        store(out, at as usize + i, turn.word as u16);
         noted = turn.count;
         i += 1;
     }

@@ -2,7 +2,7 @@
 ghost use Rattle.std.specs.Prelude.{◌≡◌, ◌+◌, ◌≤◌, ◌<◌};
 ghost use Rattle.readback.specs.Inner.Hits.{token, hits, FoundOf, OneMore};
 
-use lists::word8;
+use lists::word;
 
 // How many of some places have a token, and which is the first of them, counted from 0; 0 where none has.
 #[derive(Clone, Copy)]
@@ -14,7 +14,7 @@ pub struct Found {
 pub(crate) fn is_marked(marking: &[u8], place: usize) -> bool
     ensures { result ≡ token marking.now place }
 {
-    word8(marking, place) == 1
+    word(marking, place) == 1
 }
 
 // One place more, which is the next after those looked at.

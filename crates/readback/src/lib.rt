@@ -11,7 +11,7 @@ mod names;
 mod shown;
 mod spots;
 
-use lists::word16;
+use lists::word;
 use places::Planned;
 use places::lookup::{SIZE, place_count};
 
@@ -75,7 +75,7 @@ fn read_laid(table: &[u16], index: &[u32], marking: &[u8], state: &mut [u16]) ->
     ) {
         return Answer::NoState;
     }
-    let size = word16(table, 3) + word16(table, 1);
+    let size = word(table, 3) + word(table, 1);
     if state.len() < size {
         return Answer::NoRoom;
     }

@@ -17,7 +17,7 @@ ghost use Rattle.readback.specs.Inner.Holding.{held_all, IsName, ValueAt, Filled
 ghost use Rattle.readback.specs.Inner.Freeing.{ValuesOnce, PrivateWord, taken_by, With, MarkedSet};
 
 use crate::found::{find, is_marked};
-use lists::{store8, store16, word8, word16, word32};
+use lists::{store, word};
 use places::count::{privates_of, publics_of};
 use places::lookup::{free_start, privates};
 use places::reach::{Reach, has, nth, rank, reach_of};
@@ -51,7 +51,7 @@ fn mark_names(names: &[u32], first: usize, end: usize, held: &mut [u8])
 {
     let mut i = first;
     while i < end {
-        store8(held, word32(names, i), 1);
+        store(held, word(names, i), 1);
         i += 1;
     }
 }
@@ -63,7 +63,7 @@ fn mark_span(first: usize, count: usize, held: &mut [u8])
 {
     let mut i = 0;
     while i < count {
-        store8(held, first + i, 1);
+        store(held, first + i, 1);
         i += 1;
     }
 }
@@ -113,10 +113,10 @@ pub(crate) fn mark_all(
     ensures { held.new
         ≡ put 1 held.old (held_all table.now places.now indexes.now) }
 {
-    let threads = word16(table, 3);
+    let threads = word(table, 3);
     let mut t = 0;
     while t < threads {
-        mark_held(table, index, word32(places, t), word32(indexes, t), held);
+        mark_held(table, index, word(places, t), word(indexes, t), held);
         t += 1;
     }
 }
@@ -134,7 +134,7 @@ fn value_at(table: &[u16], reach: Reach, k: usize) -> usize
     requires { (publics table.now ≤ 64) × (k < 65536) }
     ensures { ValueAt (publics table.now) reach k result }
 {
-    let publics = word16(table, 0);
+    let publics = word(table, 0);
     let count = publics_of(table, reach);
     if k < count {
         return nth(reach.publics, k);
@@ -162,14 +162,14 @@ fn find_value(
     let reach = reach_of(index, name);
     let count = publics_of(table, reach) + privates_of(index, reach);
     let f = find(marking, row, count);
-    if f.count != word8(held, name) {
+    if f.count != word(held, name) {
         return false;
     }
     if f.count == 0 {
-        store16(values, name, 65535);
+        store(values, name, 65535);
         return true;
     }
-    store16(values, name, value_at(table, reach, f.first) as u16);
+    store(values, name, value_at(table, reach, f.first) as u16);
     true
 }
 
@@ -216,8 +216,8 @@ pub(crate) fn find_values(
         × (result ≡ true → ValuesBelow table.now marking.now values.new
         (names table.now)) }
 {
-    let publics = word16(table, 0);
-    let end = publics + word16(table, 1);
+    let publics = word(table, 0);
+    let end = publics + word(table, 1);
     let mut row = 0;
     let mut x = publics;
     while x < end {
@@ -249,8 +249,8 @@ pub(crate) fn opposed(table: &[u16], index: &[u32], marking: &[u8]) -> bool
     requires { Laid table.now index.now }
     ensures { result ≡ opposed_all (scheme table.now) marking.now }
 {
-    let publics = word16(table, 0);
-    let end = publics + word16(table, 1);
+    let publics = word(table, 0);
+    let end = publics + word(table, 1);
     let mut row = 0;
     let mut x = publics;
     while x < end {
@@ -271,7 +271,7 @@ fn private_value(table: &[u16], values: &[u16], name: usize) -> usize
     if !is_restricted(table, name) {
         return 64;
     }
-    word16(values, name) - word16(table, 0)
+    word(values, name) - word(table, 0)
 }
 
 // A set with number n too; no set has one from 64 on.
@@ -309,8 +309,8 @@ pub(crate) fn freed(table: &[u16], index: &[u32], marking: &[u8], values: &[u16]
     requires { Laid table.now index.now × ValuesOnce table.now marking.now values.now }
     ensures { result ≡ freed_all (scheme table.now) marking.now }
 {
-    let publics = word16(table, 0);
-    let end = publics + word16(table, 1);
+    let publics = word(table, 0);
+    let end = publics + word(table, 1);
     let mut set = free_values(index, marking);
     let mut x = publics;
     while x < end {

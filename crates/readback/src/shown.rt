@@ -14,7 +14,7 @@ ghost use Rattle.readback.specs.Configurations.{spot, shown_node_of, name_shown_
 ghost use Rattle.readback.specs.Inner.Showing.{AtNodes, spot_at, value_found_in, NodeOf, CallOf};
 ghost use Rattle.readback.specs.Inner.Holding.{IsName};
 
-use lists::{store16, word16, word32};
+use lists::{store, word};
 use process::values::write_numbered;
 use scheme::fields::{field1, field3, field4};
 use scheme::lookup::name_thread;
@@ -41,13 +41,13 @@ pub(crate) fn write_nodes(table: &[u16], nodes: &[u32], indexes: &[u32], state: 
         (map (λ t. shown_node_of (scheme table.now) (spot_at nodes.now indexes.now t))
         (range (threads table.now))) }
 {
-    let threads = word16(table, 3);
+    let threads = word(table, 3);
     let mut t = 0;
     while t < threads {
-        store16(
+        store(
             state,
             t,
-            node_shown(table, word32(nodes, t), word32(indexes, t)) as u16,
+            node_shown(table, word(nodes, t), word(indexes, t)) as u16,
         );
         t += 1;
     }
@@ -108,10 +108,10 @@ fn value_of(table: &[u16], values: &[u16], name: usize) -> usize
     if name == 65535 {
         return 65535;
     }
-    if name < word16(table, 0) {
+    if name < word(table, 0) {
         return name;
     }
-    word16(values, name)
+    word(values, name)
 }
 
 // The value that the state has for a bound name, 65535 where it has none.
@@ -129,7 +129,7 @@ fn name_value(
         (shown_name (scheme table.now) (spot_at nodes.now indexes.now) name)) result }
 {
     let t = name_thread(table, index, name);
-    let shown = name_shown(table, word32(nodes, t), word32(indexes, t), name);
+    let shown = name_shown(table, word(nodes, t), word(indexes, t), name);
     value_of(table, values, shown)
 }
 
@@ -148,11 +148,11 @@ fn fill_values(
         (shown_name (scheme table.now) (spot_at nodes.now indexes.now) x))
         (from (publics table.now) (bounds table.now)) }
 {
-    let publics = word16(table, 0);
-    let bounds = word16(table, 1);
+    let publics = word(table, 0);
+    let bounds = word(table, 1);
     let mut i = 0;
     while i < bounds {
-        store16(
+        store(
             list,
             i,
             name_value(table, index, nodes, indexes, values, publics + i) as u16,
@@ -178,9 +178,9 @@ pub(crate) fn write_values(
         (shown_name (scheme table.now) (spot_at nodes.now indexes.now) x))
         (from (publics table.now) (bounds table.now)))) }
 {
-    let publics = word16(table, 0);
-    let bounds = word16(table, 1);
-    let threads = word16(table, 3);
+    let publics = word(table, 0);
+    let bounds = word(table, 1);
+    let threads = word(table, 3);
     let mut list = [0u16; 32];
     fill_values(table, index, nodes, indexes, values, &mut list);
     write_numbered(publics as u16, &list, bounds as u16, threads as u16, state);

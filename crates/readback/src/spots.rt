@@ -7,7 +7,7 @@ ghost use Rattle.readback.specs.Inner.Standing.{spots_right};
 ghost use Rattle.readback.specs.Inner.Noting.{Noting, NotedAll, Seeking, SpotsFound};
 
 use crate::found::find;
-use lists::{store32, word16, word32};
+use lists::{store, word};
 use places::lookup::node_start;
 use scheme::lookup::node_thread;
 
@@ -32,13 +32,13 @@ fn note(
         return;
     }
     let thread = node_thread(table, index, node);
-    let before = word32(counts, thread);
-    store32(counts, thread, (before + f.count) as u32);
+    let before = word(counts, thread);
+    store(counts, thread, (before + f.count) as u32);
     if before != 0 {
         return;
     }
-    store32(places, thread, node as u32);
-    store32(indexes, thread, f.first as u32);
+    store(places, thread, node as u32);
+    store(indexes, thread, f.first as u32);
 }
 
 // How many control places of a thread are marked.
@@ -50,7 +50,7 @@ fn one_each(counts: &[u32], threads: usize) -> bool
 {
     let mut t = 0;
     while t < threads {
-        if word32(counts, t) != MARKED {
+        if word(counts, t) != MARKED {
             return false;
         }
         t += 1;
@@ -71,7 +71,7 @@ fn note_all(
     ensures { NotedAll table.now marking.now (nodes table.now)
         counts.new places.new indexes.new }
 {
-    let count = word16(table, 4);
+    let count = word(table, 4);
     let mut n = 0;
     while n < count {
         note(table, index, marking, n, counts, places, indexes);
@@ -93,5 +93,5 @@ pub(crate) fn find_spots(
 {
     let mut counts = [0u32; 8];
     note_all(table, index, marking, &mut counts, places, indexes);
-    one_each(&counts, word16(table, 3))
+    one_each(&counts, word(table, 3))
 }

@@ -2,7 +2,7 @@
 ghost use Rattle.std.specs.Prelude.{◌≡◌, length};
 ghost use Rattle.rewriting.specs.Inner.Belonging.{name_definition_at, NamesBelong, Spared};
 
-use lists::{store32, word16};
+use lists::{store, word};
 use scheme::lookup::{binder, definition, home};
 
 // The definition of what binds a name; the count of definitions where nothing does.
@@ -11,7 +11,7 @@ fn name_definition(table: &[u16], index: &[u32], name: usize) -> usize
 {
     let binder = binder(index, name);
     if binder < 65536 {
-        return word16(table, 2);
+        return word(table, 2);
     }
     if binder < 131072 {
         return definition(index, binder - 65536);
@@ -27,12 +27,12 @@ pub(crate) fn name_definitions(table: &[u16], index: &[u32], out: &mut [u32])
     requires { Spared table.now index.now × (length out.old ≡ 64) }
     ensures { NamesBelong table.now out.new }
 {
-    let publics = word16(table, 0);
-    let end = publics + word16(table, 1);
+    let publics = word(table, 0);
+    let end = publics + word(table, 1);
     let mut x = publics;
     while x < end {
         let d = name_definition(table, index, x);
-        store32(out, x, d as u32);
+        store(out, x, d as u32);
         x += 1;
     }
 }

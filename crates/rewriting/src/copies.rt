@@ -13,7 +13,7 @@ ghost use Rattle.rewriting.specs.Inner.Counting.{Few, Summed, counts_within};
 ghost use Rattle.rewriting.specs.Inner.Preparing.{PreparedRight};
 
 use crate::belonging::name_definitions;
-use lists::{store32, word16, word32};
+use lists::{store, word};
 use scheme::fields::field3;
 use scheme::index::{BINDERS, DEFINITIONS, fill};
 use scheme::lookup::definition;
@@ -53,7 +53,7 @@ fn mark_caller(table: &[u16], index: &[u32], node: usize, marks: &mut [u32])
         (set marks.old (word (definitions_in index.now) node) 1) marks.old }
 {
     if calls_itself(table, index, node) {
-        store32(marks, definition(index, node), 1);
+        store(marks, definition(index, node), 1);
     }
 }
 
@@ -62,7 +62,7 @@ fn mark_callers(table: &[u16], index: &[u32], marks: &mut [u32])
     ensures { Marked table.now (definitions_in index.now) marks.old
         marks.new }
 {
-    let nodes = word16(table, 4);
+    let nodes = word(table, 4);
     let mut n = 0;
     while n < nodes {
         mark_caller(table, index, n, marks);
@@ -76,8 +76,8 @@ fn list_member(of: &[u32], group: usize, i: usize, at: usize, out: &mut [u32]) -
     ensures { Listed 1 (pick (same (word of.now i) group) (i ∷ []) []) out.old at
         out.new result }
 {
-    if word32(of, i) == group {
-        store32(out, at, i as u32);
+    if word(of, i) == group {
+        store(out, at, i as u32);
         return at + 1;
     }
     at
@@ -122,7 +122,7 @@ fn list_groups(
     let mut k = 0;
     let mut next = at;
     while k < groups {
-        let group = word32(out, k);
+        let group = word(out, k);
         next = list_group(of, group, first, end, next, out);
         k += 1;
     }
@@ -136,7 +136,7 @@ fn list_span(first: usize, count: usize, at: usize, out: &mut [u32]) -> usize
 {
     let mut i = 0;
     while i < count {
-        store32(out, at + i, (first + i) as u32);
+        store(out, at + i, (first + i) as u32);
         i += 1;
     }
     at + count
@@ -152,7 +152,7 @@ fn list_spans(table: &[u16], source: Source, nodes: usize, at: usize, out: &mut 
     let mut k = 0;
     let mut next = at;
     while k < nodes {
-        let node = word32(out, 512 + k);
+        let node = word(out, 512 + k);
         let first = span_first(table, source, node);
         let count = span_count(table, source, node);
         next = list_span(first, count, next, out);
@@ -170,11 +170,11 @@ pub(crate) fn list_copies(table: &[u16], index: &[u32], out: &mut [u32]) -> Coun
     name_definitions(table, index, &mut names);
     let mut marks = [0u32; 32];
     mark_callers(table, index, &mut marks);
-    let publics = word16(table, 0);
+    let publics = word(table, 0);
     let definitions = &index[DEFINITIONS..BINDERS];
-    let d = list_group(&marks, 1, 0, word16(table, 2), 0, out);
-    let x = list_groups(&names, d, publics, publics + word16(table, 1), 256, out);
-    let n = list_groups(definitions, d, 0, word16(table, 4), 512, out);
+    let d = list_group(&marks, 1, 0, word(table, 2), 0, out);
+    let x = list_groups(&names, d, publics, publics + word(table, 1), 256, out);
+    let n = list_groups(definitions, d, 0, word(table, 4), 512, out);
     let b = list_spans(table, Source::Branches, n - 512, 768, out);
     let a = list_spans(table, Source::Arguments, n - 512, 1024, out);
     Counts {
@@ -192,11 +192,11 @@ pub(crate) fn with_copies(table: &[u16], copies: Counts) -> Counts
     ensures { Summed table.now copies result }
 {
     Counts {
-        definitions: word16(table, 2) + copies.definitions,
-        names: word16(table, 1) + copies.names,
-        nodes: word16(table, 4) + copies.nodes,
-        branches: word16(table, 5) + copies.branches,
-        arguments: word16(table, 6) + copies.arguments,
+        definitions: word(table, 2) + copies.definitions,
+        names: word(table, 1) + copies.names,
+        nodes: word(table, 4) + copies.nodes,
+        branches: word(table, 5) + copies.branches,
+        arguments: word(table, 6) + copies.arguments,
     }
 }
 

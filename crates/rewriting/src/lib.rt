@@ -18,7 +18,7 @@ ghost use Rattle.rewriting.specs.Outcomes.{rewrite_outcome, origin_at, node_orig
 
 use crate::copies::{Prepared, prepare, with_copies};
 use crate::words::{size, write_table};
-use lists::{word16, word32};
+use lists::word;
 use scheme::index::SIZE;
 
 // What a call did: how many words it wrote or which number it read back, or what it refuses.
@@ -60,7 +60,7 @@ fn original(list: &[u32], first: usize, count: usize, old: usize, number: usize)
         return Answer::Done(number);
     }
     if number - old < count {
-        return Answer::Done(word32(list, first + (number - old)));
+        return Answer::Done(word(list, first + (number - old)));
     }
     Answer::Missing
 }
@@ -77,7 +77,7 @@ pub fn original_node(table: &[u16], number: u32) -> Answer
             &list,
             512,
             copies.nodes,
-            word16(table, 4),
+            word(table, 4),
             number as usize,
         ),
     }
@@ -95,7 +95,7 @@ pub fn original_branch(table: &[u16], number: u32) -> Answer
             &list,
             768,
             copies.branches,
-            word16(table, 5),
+            word(table, 5),
             number as usize,
         ),
     }
@@ -110,7 +110,7 @@ pub fn original_name(table: &[u16], number: u32) -> Answer
     match prepare(table, &mut index, &mut list) {
         Prepared::Refused(verdict) => Answer::Refused(verdict),
         Prepared::Ready(copies) => {
-            let names = word16(table, 0) + word16(table, 1);
+            let names = word(table, 0) + word(table, 1);
             original(&list, 256, copies.names, names, number as usize)
         }
     }

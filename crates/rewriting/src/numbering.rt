@@ -11,7 +11,7 @@ ghost use Rattle.rewriting.specs.Rewriting.{copy_name_of, copy_definition_of, co
 ghost use Rattle.rewriting.specs.Inner.Placing.{place_found_at, Numberable, Numbered, Listing, Places, Placing};
 
 use crate::copies::Counts;
-use lists::{store32, word16, word32};
+use lists::{store, word};
 
 // Writes v at `count` places from `at` on.
 fn fill(at: usize, count: usize, v: u32, out: &mut [u32])
@@ -20,7 +20,7 @@ fn fill(at: usize, count: usize, v: u32, out: &mut [u32])
 {
     let mut i = 0;
     while i < count {
-        store32(out, at + i, v);
+        store(out, at + i, v);
         i += 1;
     }
 }
@@ -36,7 +36,7 @@ fn number(list: &[u32], first: usize, count: usize, at: usize, out: &mut [u32])
     let mut i = count;
     while 0 < i {
         i -= 1;
-        store32(out, at + word32(list, first + i), i as u32);
+        store(out, at + word(list, first + i), i as u32);
     }
 }
 
@@ -58,46 +58,46 @@ fn place(places: &[u32], at: usize, i: usize) -> usize
     ensures { (result ≡ place_found_at places.now at i) × (result < 4294967296) }
 {
     if i < 256 {
-        return word32(places, at + i);
+        return word(places, at + i);
     }
-    word32(places, at + 256)
+    word(places, at + 256)
 }
 
 pub(crate) fn copy_name(table: &[u16], places: &[u32], name: usize) -> usize
     requires { Placing table.now places.now }
     ensures { Number (copy_name_of table.now name) result }
 {
-    let publics = word16(table, 0);
+    let publics = word(table, 0);
     if name < publics {
         return name;
     }
-    publics + word16(table, 1) + place(places, 257, name)
+    publics + word(table, 1) + place(places, 257, name)
 }
 
 pub(crate) fn copy_definition(table: &[u16], places: &[u32], definition: usize) -> usize
     requires { Placing table.now places.now }
     ensures { Number (copy_definition_of table.now definition) result }
 {
-    word16(table, 2) + place(places, 0, definition)
+    word(table, 2) + place(places, 0, definition)
 }
 
 pub(crate) fn copy_node(table: &[u16], places: &[u32], node: usize) -> usize
     requires { Placing table.now places.now }
     ensures { Number (copy_node_of table.now node) result }
 {
-    word16(table, 4) + place(places, 514, node)
+    word(table, 4) + place(places, 514, node)
 }
 
 pub(crate) fn copy_branch(table: &[u16], places: &[u32], branch: usize) -> usize
     requires { Placing table.now places.now }
     ensures { Number (copy_branch_of table.now branch) result }
 {
-    word16(table, 5) + place(places, 771, branch)
+    word(table, 5) + place(places, 771, branch)
 }
 
 pub(crate) fn copy_argument(table: &[u16], places: &[u32], argument: usize) -> usize
     requires { Placing table.now places.now }
     ensures { Number (copy_argument_of table.now argument) result }
 {
-    word16(table, 6) + place(places, 1028, argument)
+    word(table, 6) + place(places, 1028, argument)
 }

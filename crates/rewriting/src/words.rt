@@ -18,7 +18,7 @@ use crate::copies::{Counts, calls_itself};
 use crate::numbering::{
     copy_argument, copy_branch, copy_definition, copy_name, copy_node, number_copies,
 };
-use lists::{store16, word16, word32};
+use lists::{store, word};
 use scheme::fields::{field1, field3, field4, name_kind};
 use scheme::spans::{Source, span_count};
 
@@ -45,7 +45,7 @@ fn write1(out: &mut [u16], at: usize, a: usize) -> usize
     requires { (at < far) × (a < 65536) }
     ensures { Listed 4 (a ∷ []) out.old at out.new result }
 {
-    store16(out, at, a as u16);
+    store(out, at, a as u16);
     at + 1
 }
 
@@ -53,9 +53,9 @@ fn write3(out: &mut [u16], at: usize, a: usize, b: usize, c: usize) -> usize
     requires { (at < far) × (a < 65536) × (b < 65536) × (c < 65536) }
     ensures { Listed 4 (a ∷ b ∷ c ∷ []) out.old at out.new result }
 {
-    store16(out, at, a as u16);
-    store16(out, at + 1, b as u16);
-    store16(out, at + 2, c as u16);
+    store(out, at, a as u16);
+    store(out, at + 1, b as u16);
+    store(out, at + 2, c as u16);
     at + 3
 }
 
@@ -63,10 +63,10 @@ fn write4(out: &mut [u16], at: usize, a: usize, b: usize, c: usize, d: usize) ->
     requires { (at < far) × (a < 65536) × (b < 65536) × (c < 65536) × (d < 65536) }
     ensures { Listed 4 (a ∷ b ∷ c ∷ d ∷ []) out.old at out.new result }
 {
-    store16(out, at, a as u16);
-    store16(out, at + 1, b as u16);
-    store16(out, at + 2, c as u16);
-    store16(out, at + 3, d as u16);
+    store(out, at, a as u16);
+    store(out, at + 1, b as u16);
+    store(out, at + 2, c as u16);
+    store(out, at + 3, d as u16);
     at + 4
 }
 
@@ -108,7 +108,7 @@ fn write_nodes(table: &[u16], index: &[u32], places: &[u32], at: usize, out: &mu
     ensures { Listed 262144 (flat (node_words table.now) (range (nodes table.now)))
         out.old at out.new result }
 {
-    let nodes = word16(table, 4);
+    let nodes = word(table, 4);
     let mut n = 0;
     let mut next = at;
     while n < nodes {
@@ -252,7 +252,7 @@ fn write_copies(
     let mut k = 0;
     let mut next = at;
     while k < count {
-        let i = word32(list, first + k);
+        let i = word(list, first + k);
         next = write_copy(table, part, index, places, i, next, out);
         k += 1;
     }
@@ -267,7 +267,7 @@ fn write_words(table: &[u16], first: usize, count: usize, at: usize, out: &mut [
 {
     let mut i = 0;
     while i < count {
-        store16(out, at + i, word16(table, first + i) as u16);
+        store(out, at + i, word(table, first + i) as u16);
         i += 1;
     }
     at + count
@@ -278,7 +278,7 @@ fn write_header(table: &[u16], counts: Counts, out: &mut [u16]) -> usize
     requires { Small table.now counts }
     ensures { Listed 13 (header_with table.now counts) out.old 0 out.new result }
 {
-    let threads = word16(table, 3);
+    let threads = word(table, 3);
     let definitions_at = 13 + counts.names;
     let threads_at = definitions_at + 4 * counts.definitions;
     let nodes_at = threads_at + threads;
@@ -287,7 +287,7 @@ fn write_header(table: &[u16], counts: Counts, out: &mut [u16]) -> usize
     let mut at = write4(
         out,
         0,
-        word16(table, 0),
+        word(table, 0),
         counts.names,
         counts.definitions,
         threads,
@@ -303,7 +303,7 @@ pub(crate) fn size(table: &[u16], counts: Counts) -> usize
     ensures { result ≡ size_with table.now counts }
 {
     let names = 13 + counts.names;
-    let threads = names + 4 * counts.definitions + word16(table, 3);
+    let threads = names + 4 * counts.definitions + word(table, 3);
     threads + 3 * counts.nodes + 4 * counts.branches + counts.arguments
 }
 
@@ -321,21 +321,21 @@ fn write_front(
     ensures { Listed 1048576 (front_words table.now) out.old 0 out.new result }
 {
     let mut at = write_header(table, counts, out);
-    at = write_words(table, word16(table, 7), word16(table, 1), at, out);
+    at = write_words(table, word(table, 7), word(table, 1), at, out);
     let names = Row {
         part: Part::Names,
         first: 256,
         count: copies.names,
     };
     at = write_copies(table, names, list, index, places, at, out);
-    at = write_words(table, word16(table, 8), 4 * word16(table, 2), at, out);
+    at = write_words(table, word(table, 8), 4 * word(table, 2), at, out);
     let definitions = Row {
         part: Part::Definitions,
         first: 0,
         count: copies.definitions,
     };
     at = write_copies(table, definitions, list, index, places, at, out);
-    write_words(table, word16(table, 9), word16(table, 3), at, out)
+    write_words(table, word(table, 9), word(table, 3), at, out)
 }
 
 // Writes the nodes.
@@ -373,14 +373,14 @@ fn write_back(
     requires { Back table.now index.now list.now copies places.now × (start ≤ 1311744) }
     ensures { Listed 1048576 (back_words table.now) out.old start out.new result }
 {
-    let mut at = write_words(table, word16(table, 11), 4 * word16(table, 5), start, out);
+    let mut at = write_words(table, word(table, 11), 4 * word(table, 5), start, out);
     let branches = Row {
         part: Part::Branches,
         first: 768,
         count: copies.branches,
     };
     at = write_copies(table, branches, list, index, places, at, out);
-    at = write_words(table, word16(table, 12), word16(table, 6), at, out);
+    at = write_words(table, word(table, 12), word(table, 6), at, out);
     let arguments = Row {
         part: Part::Arguments,
         first: 1024,

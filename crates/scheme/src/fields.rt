@@ -3,7 +3,7 @@
 ghost use Rattle.std.specs.Prelude.{◌+◌, ◌-◌, ◌*◌};
 ghost use Rattle.lists.specs.Lists.{Word, word};
 
-use lists::word16;
+use lists::word;
 
 // Entry i of a section of single words.
 pub fn field1(table: &[u16], section: usize, i: usize) -> usize
@@ -12,7 +12,7 @@ pub fn field1(table: &[u16], section: usize, i: usize) -> usize
     if table.len() <= i {
         return 0;
     }
-    word16(table, word16(table, section) + i)
+    word(table, word(table, section) + i)
 }
 
 // Word k of entry i of a section with three words an entry.
@@ -22,7 +22,7 @@ pub fn field3(table: &[u16], section: usize, i: usize, k: u16) -> usize
     if table.len() <= i {
         return 0;
     }
-    word16(table, word16(table, section) + 3 * i + k as usize)
+    word(table, word(table, section) + 3 * i + k as usize)
 }
 
 // Word k of entry i of a section with four words an entry.
@@ -32,7 +32,7 @@ pub fn field4(table: &[u16], section: usize, i: usize, k: u16) -> usize
     if table.len() / 4 < i {
         return 0;
     }
-    word16(table, word16(table, section) + 4 * i + k as usize)
+    word(table, word(table, section) + 4 * i + k as usize)
 }
 
 // The kind of a name; a public name reads as the first bound one.
@@ -40,7 +40,7 @@ pub fn name_kind(table: &[u16], name: usize) -> usize
     ensures { Word 65536 table.now
         (word table.now 7 + (name - word table.now 0)) result }
 {
-    let publics = word16(table, 0);
+    let publics = word(table, 0);
     if name < publics {
         return field1(table, 7, 0);
     }

@@ -13,7 +13,7 @@ ghost use Rattle.scheme.specs.Inner.Filling.{Standing, node_definition};
 
 use crate::lookup::{Parent, definition, step_up};
 use crate::spans::{Source, scatter_source};
-use lists::{store32, word16};
+use lists::{store, word};
 
 // Where the homes, the definitions and the binders of an index begin, and its size; the owners begin at 0.
 pub const HOMES: usize = 256;
@@ -41,9 +41,9 @@ fn owners(table: &[u16], out: &mut [u32])
         ≡ map (λ k. owner_number (owner table.now k)) (range (length out.old)) }
 {
     clear(out);
-    scatter_source(table, Source::NextNodes, word16(table, 5), 196608, out);
-    scatter_source(table, Source::NewChildren, word16(table, 4), 131072, out);
-    scatter_source(table, Source::Roots, word16(table, 2), 65536, out);
+    scatter_source(table, Source::NextNodes, word(table, 5), 196608, out);
+    scatter_source(table, Source::NewChildren, word(table, 4), 131072, out);
+    scatter_source(table, Source::Roots, word(table, 2), 65536, out);
 }
 
 // The node that has each branch, as far as `out` reaches.
@@ -51,7 +51,7 @@ fn homes(table: &[u16], out: &mut [u32])
     ensures { out.new ≡ map (home table.now) (range (length out.old)) }
 {
     clear(out);
-    scatter_source(table, Source::Branches, word16(table, 4), 0, out);
+    scatter_source(table, Source::Branches, word(table, 4), 0, out);
 }
 
 // What binds each name, as far as `out` reaches.
@@ -60,9 +60,9 @@ fn binders(table: &[u16], out: &mut [u32])
         ≡ map (λ x. binder_number (binder_of table.now x)) (range (length out.old)) }
 {
     clear(out);
-    scatter_source(table, Source::Formals, word16(table, 2), 196608, out);
-    scatter_source(table, Source::ReceivedNames, word16(table, 5), 131072, out);
-    scatter_source(table, Source::NewNames, word16(table, 4), 65536, out);
+    scatter_source(table, Source::Formals, word(table, 2), 196608, out);
+    scatter_source(table, Source::ReceivedNames, word(table, 5), 131072, out);
+    scatter_source(table, Source::NewNames, word(table, 4), 65536, out);
 }
 
 // The definition of a node, by an index that has those of the nodes below it.
@@ -83,14 +83,14 @@ fn fill_definitions(table: &[u16], index: &mut [u32])
     ensures { index.new
         ≡ sets index.old definitions_offset (definition_words table.now) }
 {
-    let count = word16(table, 4);
+    let count = word(table, 4);
     let mut n = 0;
     while n < count {
         if 256 <= n {
             return;
         }
         let d = definition_word(index, n);
-        store32(index, DEFINITIONS + n, d);
+        store(index, DEFINITIONS + n, d);
         n += 1;
     }
 }

@@ -11,7 +11,7 @@ ghost use Rattle.scheme.specs.Index.{branch_thread_at, name_thread_at, HeldNames
 
 use crate::fields::{field3, field4};
 use crate::index::{BINDERS, DEFINITIONS, HOMES, SIZE};
-use lists::{store32, word16, word32};
+use lists::{store, word};
 
 // Where a step up from a node leads: to the definition whose root it is, to the New below, to a branch and the Choice
 // below that has it, or nowhere.
@@ -29,7 +29,7 @@ fn part(index: &[u32], at: usize, end: usize, i: usize) -> usize
     ensures { Word 4294967296 (slice at end index.now) i result }
 {
     if i < end - at {
-        return word32(index, at + i);
+        return word(index, at + i);
     }
     0
 }
@@ -106,7 +106,7 @@ pub fn name_thread(table: &[u16], index: &[u32], name: usize) -> usize
 {
     let binder = binder(index, name);
     if binder < 65536 {
-        return word16(table, 3);
+        return word(table, 3);
     }
     if binder < 131072 {
         return node_thread(table, index, binder - 65536);
@@ -124,7 +124,7 @@ fn write_span(first: usize, count: usize, out: &mut [u32]) -> usize
 {
     let mut i = 0;
     while i < count {
-        store32(out, i, (first + i) as u32);
+        store(out, i, (first + i) as u32);
         i += 1;
     }
     count
@@ -140,13 +140,13 @@ pub fn held_names(table: &[u16], index: &[u32], node: u8, out: &mut [u32]) -> us
         Parent::Definition(d) => write_span(field4(table, 8, d, 2), field4(table, 8, d, 3), out),
         Parent::New(m) => {
             let count = held_names(table, index, m as u8, out);
-            store32(out, count, field3(table, 10, m, 1) as u32);
+            store(out, count, field3(table, 10, m, 1) as u32);
             count + 1
         }
         Parent::Branch(b, m) => {
             let count = held_names(table, index, m as u8, out);
             if field4(table, 11, b, 0) == 2 {
-                store32(out, count, field4(table, 11, b, 2) as u32);
+                store(out, count, field4(table, 11, b, 2) as u32);
                 return count + 1;
             }
             count

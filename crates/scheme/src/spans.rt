@@ -9,7 +9,7 @@ ghost use Rattle.scheme.specs.Inner.Scatter.{put_all};
 ghost use Rattle.scheme.specs.Inner.Scatter.{scatter};
 
 use crate::fields::{field3, field4};
-use lists::{store8, store32, word8};
+use lists::{store, word};
 
 // What an entry names: a definition its root or its formals, a New its child or its name, a branch its next node or the
 // name that it receives, a Choice its branches, a Call its arguments.
@@ -101,10 +101,10 @@ pub fn span_count(table: &[u16], source: Source, i: usize) -> usize
 pub fn tally(counts: &mut [u8], x: usize)
     ensures { counts.new ≡ tallied counts.old x }
 {
-    if word8(counts, x) == 0 {
-        store8(counts, x, 1);
+    if word(counts, x) == 0 {
+        store(counts, x, 1);
     } else {
-        store8(counts, x, 2);
+        store(counts, x, 2);
     }
 }
 
@@ -138,7 +138,7 @@ pub(crate) fn put_span(out: &mut [u32], first: usize, end: usize, v: u32)
 {
     let mut x = first;
     while x < end {
-        store32(out, x, v);
+        store(out, x, v);
         x += 1;
     }
 }

@@ -5,7 +5,7 @@ ghost use Rattle.scheme.specs.Words.{publics, bounds, names, name_kind_of};
 ghost use Rattle.table.specs.Causes.{bound_right, is_binding_right};
 ghost use Rattle.scheme.specs.Spans.{span_of};
 
-use lists::{word8, word16};
+use lists::word;
 use scheme::fields::name_kind;
 use scheme::spans::{Source, tally_source};
 
@@ -15,9 +15,9 @@ fn count_right(table: &[u16], counts: &[u8], kind: usize, name: usize) -> bool
         (bit (same (name_kind_of table.now name) kind)) }
 {
     if name_kind(table, name) == kind {
-        return word8(counts, name) == 1;
+        return word(counts, name) == 1;
     }
-    word8(counts, name) == 0
+    word(counts, name) == 0
 }
 
 // Whether the counts of the names from `first` up to `end` are right.
@@ -45,19 +45,19 @@ fn kind_bound(table: &[u16], source: Source, n: usize, kind: usize) -> bool
 {
     let mut counts = [0u8; 64];
     tally_source(table, source, n, &mut counts);
-    let publics = word16(table, 0);
-    all_counts_right(table, &counts, kind, publics, publics + word16(table, 1))
+    let publics = word(table, 0);
+    all_counts_right(table, &counts, kind, publics, publics + word(table, 1))
 }
 
 pub(crate) fn binding_right(table: &[u16]) -> bool
     requires { names table.now ≤ 64 }
     ensures { result ≡ is_binding_right table.now }
 {
-    if !kind_bound(table, Source::NewNames, word16(table, 4), 0) {
+    if !kind_bound(table, Source::NewNames, word(table, 4), 0) {
         return false;
     }
-    if !kind_bound(table, Source::ReceivedNames, word16(table, 5), 1) {
+    if !kind_bound(table, Source::ReceivedNames, word(table, 5), 1) {
         return false;
     }
-    kind_bound(table, Source::Formals, word16(table, 2), 2)
+    kind_bound(table, Source::Formals, word(table, 2), 2)
 }

@@ -7,7 +7,7 @@ ghost use Rattle.lists.specs.Lists.{word, range, every};
 ghost use Rattle.table.specs.Causes.{is_entry_right, call_right_in, are_calls_right};
 
 use crate::tests::{Item, all_pass};
-use lists::word16;
+use lists::word;
 use scheme::fields::{field1, field3, field4};
 use scheme::index::{BINDERS, fill_bodies};
 use scheme::lookup::definition;
@@ -45,7 +45,7 @@ fn all_calls_right(table: &[u16], index: &[u32], spared: bool) -> bool
         (λ n. call_right_in table.now spared (word (definitions_in index.now) n) n)
         (range (nodes table.now)) }
 {
-    let count = word16(table, 4);
+    let count = word(table, 4);
     let mut n = 0;
     while n < count {
         if !call_right(table, n, definition(index, n), spared) {
@@ -60,7 +60,7 @@ fn all_calls_right(table: &[u16], index: &[u32], spared: bool) -> bool
 fn has_no_call(table: &[u16]) -> bool
     ensures { result ≡ every (λ n. not (is_call_node table.now n)) (range (nodes table.now)) }
 {
-    let count = word16(table, 4);
+    let count = word(table, 4);
     let mut n = 0;
     while n < count {
         if field3(table, 10, n, 0) == 3 {
@@ -76,7 +76,7 @@ pub(crate) fn calls_right(table: &[u16], spared: bool) -> bool
     requires { (nodes table.now ≤ 256) × (branches table.now ≤ 256) × (definitions table.now ≤ 32) }
     ensures { result ≡ are_calls_right table.now spared }
 {
-    if !all_pass(table, Item::EntryRight, 0, word16(table, 3)) {
+    if !all_pass(table, Item::EntryRight, 0, word(table, 3)) {
         return false;
     }
     if has_no_call(table) {

@@ -4,7 +4,7 @@ ghost use Rattle.table.specs.Causes.{is_name_kind_right, are_formals_zero, is_ca
 ghost use Rattle.table.specs.Causes.{are_kinds_right};
 
 use crate::tests::{Item, all_pass};
-use lists::word16;
+use lists::word;
 use scheme::fields::{field3, field4, name_kind};
 
 pub(crate) fn name_kind_right(table: &[u16], name: usize) -> bool
@@ -27,7 +27,7 @@ fn call_zero(table: &[u16], node: usize) -> bool
     ensures { result ≡ is_call_zero table.now node }
 {
     let called = field3(table, 10, node, 1);
-    if called >= word16(table, 2) {
+    if called >= word(table, 2) {
         return true;
     }
     if field4(table, 8, called, 3) != 0 {
@@ -74,15 +74,15 @@ pub(crate) fn branch_kind_right(table: &[u16], branch: usize) -> bool
 pub(crate) fn kinds_right(table: &[u16]) -> bool
     ensures { result ≡ are_kinds_right table.now }
 {
-    let publics = word16(table, 0);
-    if !all_pass(table, Item::NameKind, publics, publics + word16(table, 1)) {
+    let publics = word(table, 0);
+    if !all_pass(table, Item::NameKind, publics, publics + word(table, 1)) {
         return false;
     }
-    if !all_pass(table, Item::FormalsZero, 0, word16(table, 2)) {
+    if !all_pass(table, Item::FormalsZero, 0, word(table, 2)) {
         return false;
     }
-    if !all_pass(table, Item::NodeKind, 0, word16(table, 4)) {
+    if !all_pass(table, Item::NodeKind, 0, word(table, 4)) {
         return false;
     }
-    all_pass(table, Item::BranchKind, 0, word16(table, 5))
+    all_pass(table, Item::BranchKind, 0, word(table, 5))
 }

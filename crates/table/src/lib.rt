@@ -14,7 +14,7 @@ ghost use Rattle.lists.specs.Lists.{same};
 ghost use Rattle.table.specs.Answer.{cause_of};
 ghost use Rattle.table.specs.Causes.{cause, cause_sparing, are_counts_right, is_layout_right};
 
-use lists::word16;
+use lists::word;
 
 // What a table is refused for, or that it is accepted.
 #[derive(Clone, Copy)]
@@ -112,13 +112,13 @@ pub fn is_accepted(verdict: Verdict) -> bool
 fn counts_right(table: &[u16]) -> bool
     ensures { result ≡ are_counts_right table.now }
 {
-    let publics = word16(table, 0);
-    let bounds = word16(table, 1);
-    let definitions = word16(table, 2);
-    let threads = word16(table, 3);
-    let nodes = word16(table, 4);
-    let branches = word16(table, 5);
-    let arguments = word16(table, 6);
+    let publics = word(table, 0);
+    let bounds = word(table, 1);
+    let definitions = word(table, 2);
+    let threads = word(table, 3);
+    let nodes = word(table, 4);
+    let branches = word(table, 5);
+    let arguments = word(table, 6);
     if publics > 32 {
         return false;
     }
@@ -150,29 +150,29 @@ fn counts_right(table: &[u16]) -> bool
 fn layout_right(table: &[u16]) -> bool
     ensures { result ≡ is_layout_right table.now }
 {
-    let names = word16(table, 7);
-    let definitions = word16(table, 8);
-    let threads = word16(table, 9);
-    let nodes = word16(table, 10);
-    let branches = word16(table, 11);
-    let arguments = word16(table, 12);
+    let names = word(table, 7);
+    let definitions = word(table, 8);
+    let threads = word(table, 9);
+    let nodes = word(table, 10);
+    let branches = word(table, 11);
+    let arguments = word(table, 12);
     if names != 13 {
         return false;
     }
-    if definitions != names + word16(table, 1) {
+    if definitions != names + word(table, 1) {
         return false;
     }
-    if threads != definitions + 4 * word16(table, 2) {
+    if threads != definitions + 4 * word(table, 2) {
         return false;
     }
-    if nodes != threads + word16(table, 3) {
+    if nodes != threads + word(table, 3) {
         return false;
     }
-    if branches != nodes + 3 * word16(table, 4) {
+    if branches != nodes + 3 * word(table, 4) {
         return false;
     }
-    if arguments != branches + 4 * word16(table, 5) {
+    if arguments != branches + 4 * word(table, 5) {
         return false;
     }
-    table.len() == arguments + word16(table, 6)
+    table.len() == arguments + word(table, 6)
 }

@@ -7,7 +7,7 @@ ghost use Rattle.table.specs.Causes.{usable, is_scope_right};
 ghost use Rattle.table.specs.Inner.Shaped.{Shaped, BranchOf};
 ghost use Rattle.table.specs.Inner.Scope.{held_tally, body_scoped, branch_body_scoped};
 
-use lists::{word8, word16};
+use lists::word;
 use scheme::fields::{field1, field3, field4};
 use scheme::spans::{tally, tally_span};
 
@@ -20,7 +20,7 @@ fn arguments_held(table: &[u16], node: usize, first: usize, end: usize, held: &[
 {
     let mut a = first;
     while a < end {
-        if word8(held, field1(table, 12, a)) == 0 {
+        if word(held, field1(table, 12, a)) == 0 {
             return false;
         }
         a += 1;
@@ -77,7 +77,7 @@ fn branch_scoped(table: &[u16], node: usize, branch: usize, held: [u8; 64]) -> b
     if kind == 0 {
         return node_scoped(table, next, held);
     }
-    if word8(&held, field4(table, 11, branch, 1)) == 0 {
+    if word(&held, field4(table, 11, branch, 1)) == 0 {
         return false;
     }
     if kind == 2 {
@@ -85,7 +85,7 @@ fn branch_scoped(table: &[u16], node: usize, branch: usize, held: [u8; 64]) -> b
         tally(&mut inner, name);
         return node_scoped(table, next, inner);
     }
-    if word8(&held, name) == 0 {
+    if word(&held, name) == 0 {
         return false;
     }
     node_scoped(table, next, held)
@@ -97,7 +97,7 @@ fn definition_scoped(table: &[u16], definition: usize) -> bool
     ensures { result ≡ body_scoped table.now (root table.now definition) }
 {
     let mut held = [0u8; 64];
-    tally_span(&mut held, 0, word16(table, 0));
+    tally_span(&mut held, 0, word(table, 0));
     let first = field4(table, 8, definition, 2);
     tally_span(&mut held, first, first + field4(table, 8, definition, 3));
     node_scoped(table, field4(table, 8, definition, 1), held)
@@ -107,7 +107,7 @@ pub(crate) fn scope_right(table: &[u16]) -> bool
     requires { Shaped table.now }
     ensures { result ≡ is_scope_right table.now }
 {
-    let count = word16(table, 2);
+    let count = word(table, 2);
     let mut d = 0;
     while d < count {
         if !definition_scoped(table, d) {

@@ -6,7 +6,7 @@ ghost use Rattle.table.specs.Causes.{consecutive, is_owned_once, are_children_ab
 ghost use Rattle.scheme.specs.Spans.{span_first_of, span_count_of};
 
 use crate::tests::{Item, all_pass};
-use lists::{word8, word16};
+use lists::word;
 use scheme::fields::{field3, field4};
 use scheme::spans::{Source, span_count, span_first, tally_source};
 
@@ -44,7 +44,7 @@ fn spans_consecutive(table: &[u16], source: Source, end: usize) -> bool
     ensures { result ≡ consecutive table.now (span_first_of table.now source)
         (span_count_of table.now source) end 0 (range (nodes table.now)) }
 {
-    let count = word16(table, 4);
+    let count = word(table, 4);
     let mut a = 0;
     let mut n = 0;
     while n < count {
@@ -68,7 +68,7 @@ fn all_once(counts: &[u8], n: usize) -> bool
 {
     let mut k = 0;
     while k < n {
-        if word8(counts, k) != 1 {
+        if word(counts, k) != 1 {
             return false;
         }
         k += 1;
@@ -82,10 +82,10 @@ fn owned_once(table: &[u16]) -> bool
     ensures { result ≡ every (is_owned_once table.now) (range (nodes table.now)) }
 {
     let mut counts = [0u8; 256];
-    let nodes = word16(table, 4);
-    tally_source(table, Source::Roots, word16(table, 2), &mut counts);
+    let nodes = word(table, 4);
+    tally_source(table, Source::Roots, word(table, 2), &mut counts);
     tally_source(table, Source::NewChildren, nodes, &mut counts);
-    tally_source(table, Source::NextNodes, word16(table, 5), &mut counts);
+    tally_source(table, Source::NextNodes, word(table, 5), &mut counts);
     all_once(&counts, nodes)
 }
 
@@ -93,14 +93,14 @@ pub(crate) fn shape_right(table: &[u16]) -> bool
     requires { nodes table.now ≤ 256 }
     ensures { result ≡ is_shape_right table.now }
 {
-    if !spans_consecutive(table, Source::Branches, word16(table, 5)) {
+    if !spans_consecutive(table, Source::Branches, word(table, 5)) {
         return false;
     }
-    if !spans_consecutive(table, Source::Arguments, word16(table, 6)) {
+    if !spans_consecutive(table, Source::Arguments, word(table, 6)) {
         return false;
     }
     if !owned_once(table) {
         return false;
     }
-    all_pass(table, Item::ChildrenAbove, 0, word16(table, 4))
+    all_pass(table, Item::ChildrenAbove, 0, word(table, 4))
 }

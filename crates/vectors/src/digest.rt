@@ -1,5 +1,5 @@
 // The 64-bit FNV-1a digest, as two halves of 32 bits.
-use lists::{word8, word16, word32};
+use lists::word;
 
 #[derive(Clone, Copy)]
 pub struct Digest {
@@ -45,7 +45,7 @@ pub fn of_bytes(bytes: &[u8], count: usize) -> Digest {
     let mut digest = empty();
     let mut i: usize = 0;
     while i < count {
-        digest = joined(digest, word8(bytes, i));
+        digest = joined(digest, word(bytes, i));
         i += 1;
     }
     digest
@@ -56,7 +56,7 @@ pub fn of_halves(words: &[u16], count: usize) -> Digest {
     let mut digest = empty();
     let mut i: usize = 0;
     while i < count {
-        digest = joined_half(digest, word16(words, i));
+        digest = joined_half(digest, word(words, i));
         i += 1;
     }
     digest
@@ -67,7 +67,7 @@ pub fn of_words(words: &[u32], count: usize) -> Digest {
     let mut digest = empty();
     let mut i: usize = 0;
     while i < count {
-        digest = joined_word(digest, word32(words, i));
+        digest = joined_word(digest, word(words, i));
         i += 1;
     }
     digest

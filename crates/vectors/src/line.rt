@@ -2,7 +2,7 @@
 ghost use Rattle.std.specs.Prelude.{◌≤◌, IfOk};
 
 use crate::sizes::least;
-use lists::word8;
+use lists::word;
 use std::io;
 use std::io::Read;
 
@@ -39,7 +39,7 @@ pub(crate) fn end_from(input: &[u8], from: usize, count: usize) -> usize
 {
     let mut i = from;
     while i < count {
-        if word8(input, i) == 10 {
+        if word(input, i) == 10 {
             return i;
         }
         i += 1;
@@ -76,7 +76,7 @@ pub fn fields_of(input: &[u8], from: usize, end: usize, fields: &mut [usize]) ->
     let mut field: usize = 0;
     let mut i = from;
     while i < end {
-        field = take_byte(fields, field, byte(word8(input, i)));
+        field = take_byte(fields, field, byte(word(input, i)));
         i += 1;
     }
     least(field, 4095)

@@ -3,7 +3,7 @@ use crate::causes::Outcome;
 use crate::line::{Request, word};
 use crate::sizes::{Sizes, cut8, cut16, cut32, least};
 use crate::{causes, text};
-use lists::{store16, word16};
+use lists::{store, word};
 use std::io;
 use std::io::Write;
 
@@ -11,7 +11,7 @@ use std::io::Write;
 fn copy(from: &[u16], count: usize, to: &mut [u16]) {
     let mut i: usize = 0;
     while i < count {
-        store16(to, i, word16(from, i) as u16);
+        store(to, i, word(from, i) as u16);
         i += 1;
     }
 }

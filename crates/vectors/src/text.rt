@@ -1,7 +1,7 @@
 // The text of answers, to a writer.
 use crate::causes::Outcome;
 use crate::digest::{Digest, long_at, of_bytes, of_halves, of_longs, of_words};
-use lists::{word8, word16, word32};
+use lists::word;
 use std::io;
 use std::io::Write;
 
@@ -44,7 +44,7 @@ pub fn list8(out: &mut impl Write, list: &[u8], count: usize) -> io::Result<()> 
     byte(out, b':')?;
     let mut i: usize = 0;
     while i < count {
-        item(out, i, word8(list, i))?;
+        item(out, i, word(list, i))?;
         i += 1;
     }
     Ok(())
@@ -59,7 +59,7 @@ pub fn list16(out: &mut impl Write, list: &[u16], count: usize) -> io::Result<()
     byte(out, b':')?;
     let mut i: usize = 0;
     while i < count {
-        item(out, i, word16(list, i))?;
+        item(out, i, word(list, i))?;
         i += 1;
     }
     Ok(())
@@ -74,7 +74,7 @@ pub fn list32(out: &mut impl Write, list: &[u32], count: usize) -> io::Result<()
     byte(out, b':')?;
     let mut i: usize = 0;
     while i < count {
-        item(out, i, word32(list, i))?;
+        item(out, i, word(list, i))?;
         i += 1;
     }
     Ok(())

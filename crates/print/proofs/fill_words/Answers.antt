@@ -7,9 +7,9 @@ pub loop-i-preserved : goal.loop-i-preserved
 loop-i-preserved c =
     let l = c.loop-i in
     let bytes = c.args.bytes.now in
-    let store = c.store16 in
-    let low = c.word8-low in
-    let high = c.word8-high in
+    let store = c.store in
+    let low = c.word-low in
+    let high = c.word-high in
     (l.invariant.0 ∙ words_more l.out bytes l.i (omega arith) ∙ rw (store.ensures, low.ensures.is, high.ensures.is), store.auto.out ∙ l.invariant.1)
 
 pub returns-clause-out_after : goal.returns-clause-out_after

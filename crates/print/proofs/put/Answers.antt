@@ -6,7 +6,7 @@ use Rattle.print.proofs.put.Goals as goal
 pub returns-then-at : goal.returns-then-at
 returns-then-at c =
     let a = c.args in
-    rw c.store8.ensures (put-more a.out.now a.at.place a.at.stop a.byte (omega arith))
+    rw c.store.ensures (put-more a.out.now a.at.place a.at.stop a.byte (omega arith))
 
 pub returns : goal.returns
 returns c = sym (write-stopped _ _ c.if-at.false)

@@ -10,12 +10,12 @@ returns c =
     a.transition
     start.result
     start.ensures.is
-    c.word32-inputs.result
-    c.word32.result
-    c.word32-2.result
-    c.word32-inputs.ensures.is
-    c.word32.ensures.is
-    c.word32-2.ensures.is
+    c.word-inputs.result
+    c.word.result
+    c.word-2.result
+    c.word-inputs.ensures.is
+    c.word.ensures.is
+    c.word-2.ensures.is
     _
     c.put_mark-a.ensures
     c.put_span-b.ensures

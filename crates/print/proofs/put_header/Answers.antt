@@ -7,7 +7,7 @@ returns c =
     header-written
     c.args.image.now
     _
-    (c.put_decimal-a.ensures ∙ rw c.word32-places.ensures.is)
+    (c.put_decimal-a.ensures ∙ rw c.word-places.ensures.is)
     c.put_word-b.ensures
     c.put_word-c.ensures
     c.put_word-d.ensures

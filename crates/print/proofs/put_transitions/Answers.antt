@@ -14,7 +14,7 @@ returns-then-p c =
     let start = cursor_at a.out.now a.at in
     let l = c.loop-transition in
     sym
-    (ap (λ (n : ℕ). write start (flat (transition_line a.image.now) (range n))) (sym c.word32-count.ensures.is)
+    (ap (λ (n : ℕ). write start (flat (transition_line a.image.now) (range n))) (sym c.word-count.ensures.is)
     ∙ l.invariant.0
     ∙ write-stopped _ _ c.if-p.true)
 
@@ -22,7 +22,7 @@ pub loop-transition-preserved : goal.loop-transition-preserved
 loop-transition-preserved c =
     let l = c.loop-transition in
     let image = c.args.image.now in
-    let count = c.word32-count.result in
+    let count = c.word-count.result in
     let put = c.put_transition-p in (
       l.invariant.0
           ∙ lines_more _ image l.transition count (omega arith)
@@ -36,6 +36,6 @@ returns c =
     let start = cursor_at a.out.now a.at in
     let l = c.loop-transition in
     sym
-    (ap (λ (n : ℕ). write start (flat (transition_line a.image.now) (range n))) (sym c.word32-count.ensures.is)
+    (ap (λ (n : ℕ). write start (flat (transition_line a.image.now) (range n))) (sym c.word-count.ensures.is)
     ∙ l.invariant.0
     ∙ lines-done _ _ _ _ c.loop-transition-test.false)

@@ -7,7 +7,7 @@ pub returns-then-not-is_accepted : goal.returns-then-not-is_accepted
 returns-then-not-is_accepted c = start-refused _ _ _ (sym c.is_accepted.ensures ∙ c.if-not-is_accepted.true) c.check-verdict.ensures
 
 pub returns-then-state-size : goal.returns-then-state-size
-returns-then-state-size c = start-short _ _ _ (sym c.is_accepted.ensures ∙ c.if-not-is_accepted.false) c.check-verdict.ensures (omega (arith, c.word16.ensures.is, c.word16-2.ensures.is, c.if-state-size.true))
+returns-then-state-size c = start-short _ _ _ (sym c.is_accepted.ensures ∙ c.if-not-is_accepted.false) c.check-verdict.ensures (omega (arith, c.word.ensures.is, c.word-2.ensures.is, c.if-state-size.true))
 
 pub returns : goal.returns
-returns c = start-written _ _ _ (sym c.is_accepted.ensures ∙ c.if-not-is_accepted.false) c.check-verdict.ensures _ _ _ (omega (arith, c.word16.ensures.is, c.word16-2.ensures.is, c.if-state-size.false)) (rw (c.word16.ensures.is, c.word16-2.ensures.is)) c.write_roots.ensures c.write_unheld.ensures
+returns c = start-written _ _ _ (sym c.is_accepted.ensures ∙ c.if-not-is_accepted.false) c.check-verdict.ensures _ _ _ (omega (arith, c.word.ensures.is, c.word-2.ensures.is, c.if-state-size.false)) (rw (c.word.ensures.is, c.word-2.ensures.is)) c.write_roots.ensures c.write_unheld.ensures

@@ -31,7 +31,7 @@ returns-then-next-size c =
     step-short _ _ _ _ _ _ _ (sym c.is_accepted.ensures ∙ c.if-not-is_accepted.false) c.check-verdict.ensures
     (sym c.well_formed-2.ensures ∙ c.if-not-well_formed.false)
     c.in-Taken.taken (sym (ap opened c.in-Taken.is) ∙ c.open_step.ensures)
-    (omega (arith, c.word16.ensures.is, c.word16-2.ensures.is, c.if-next-size.true))
+    (omega (arith, c.word.ensures.is, c.word-2.ensures.is, c.if-next-size.true))
 
 pub write_state-requires : goal.write_state-requires
 write_state-requires c =
@@ -45,5 +45,5 @@ returns c =
     step-written _ _ _ _ _ _ _ (sym c.is_accepted.ensures ∙ c.if-not-is_accepted.false) c.check-verdict.ensures
     (sym c.well_formed-2.ensures ∙ c.if-not-well_formed.false)
     c.in-Taken.taken (sym (ap opened c.in-Taken.is) ∙ c.open_step.ensures)
-    _ _ (omega (arith, c.word16.ensures.is, c.word16-2.ensures.is, c.if-next-size.false))
-    (rw (c.word16.ensures.is, c.word16-2.ensures.is)) c.write_state.ensures
+    _ _ (omega (arith, c.word.ensures.is, c.word-2.ensures.is, c.if-next-size.false))
+    (rw (c.word.ensures.is, c.word-2.ensures.is)) c.write_state.ensures

@@ -8,7 +8,7 @@ pub loop-t-preserved : goal.loop-t-preserved
 loop-t-preserved c =
     let l = c.loop-t in
     let a = c.args in
-    let s = c.store16 in
+    let s = c.store in
     let v : c.field4.result ≡ root a.table.now (entry a.table.now l.t) = c.field4.ensures.is ∙ rw c.field1.ensures.is in
     (l.invariant.0 ∙ sets-map-more (λ t. root a.table.now (entry a.table.now t)) l.out l.t l.t _ c.loop-t-test.true ∙ rw (s.ensures, v), rw s.ensures (length-set l.out l.t c.field4.result ∙ l.invariant.1))
 

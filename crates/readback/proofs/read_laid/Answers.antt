@@ -24,7 +24,7 @@ returns-then-state-size c =
     (count-is c.args.table.now c.args.index.now c.requires _ c.place_count.ensures.is)
     (sym c.marking_right.ensures ∙ c.if-not-marking_right.false)
     (sym c.stands_for.ensures.0 ∙ c.if-not-stands_for.false) _
-    (omega (arith, c.word16.ensures.is, c.word16-2.ensures.is)) c.if-state-size.true
+    (omega (arith, c.word.ensures.is, c.word-2.ensures.is)) c.if-state-size.true
 
 pub write_values-requires : goal.write_values-requires
 write_values-requires c =
@@ -36,7 +36,7 @@ returns c =
     (count-is c.args.table.now c.args.index.now c.requires _ c.place_count.ensures.is)
     (sym c.marking_right.ensures ∙ c.if-not-marking_right.false)
     (sym c.stands_for.ensures.0 ∙ c.if-not-stands_for.false) _
-    (omega (arith, c.word16.ensures.is, c.word16-2.ensures.is)) _ c.if-state-size.false
+    (omega (arith, c.word.ensures.is, c.word-2.ensures.is)) _ c.if-state-size.false
     (state-is c.args.table.now c.args.marking.now _ _ _ c.requires.accepted
     (here c.args.table.now c.args.index.now c.requires c.args.marking.now
     (rw (← c.place_count.ensures.is) (sym c.marking_right.ensures ∙ c.if-not-marking_right.false)))

@@ -13,5 +13,5 @@ returns-in-Ready c =
     let n = c.args.number in
     let r = prepared-ready _ _ _ _ c.prepare.ensures _ c.in-Ready.is in
     c.original.ensures
-    ∙ ap (λ l. origin_at l n) (name-origins _ _ _ r.2 _ (rw (c.word16.ensures.is, c.word16-in-Ready.ensures.is)))
+    ∙ ap (λ l. origin_at l n) (name-origins _ _ _ r.2 _ (rw (c.word.ensures.is, c.word-in-Ready.ensures.is)))
     ∙ ready-origin _ _ n r.0

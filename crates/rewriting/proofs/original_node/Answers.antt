@@ -12,4 +12,4 @@ pub returns-in-Ready : goal.returns-in-Ready
 returns-in-Ready c =
     let n = c.args.number in
     let r = prepared-ready _ _ _ _ c.prepare.ensures _ c.in-Ready.is in
-    c.original.ensures ∙ ap (λ l. origin_at l n) (node-origins _ _ _ r.2 _ c.word16.ensures.is) ∙ ready-origin _ _ n r.0
+    c.original.ensures ∙ ap (λ l. origin_at l n) (node-origins _ _ _ r.2 _ c.word.ensures.is) ∙ ready-origin _ _ n r.0

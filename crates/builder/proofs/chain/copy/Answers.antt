@@ -73,13 +73,13 @@ met c f =
       | then-publics-v x ↦ rw (x.ins-is, x.i-is) (
         fill-with w l _ c.insert_equals-i.result _ x.differs.result (differs a.x.formal a.v.value) (read a.x a.v)
             (has-difference w a.x.formal a.v.value
-            (holds-differs w p.0.accepted a.x.formal a.v.value p.5 p.7 (omega (arith, c.word16-publics.ensures.is, x.if-publics-v.true))))
+            (holds-differs w p.0.accepted a.x.formal a.v.value p.5 p.7 (omega (arith, c.word-publics.ensures.is, x.if-publics-v.true))))
             x.differs.ensures x.insert-i.ensures f,
         x.insert-i.auto.list ∙ k,
       )
       | else-publics-v x ↦ rw (x.ins-is, x.i-is) (
         fill-without w l c.insert_equals-i.result (differs a.x.formal a.v.value) (read a.x a.v)
-            (no_difference w a.x.formal a.v.value (omega (arith, c.word16-publics.ensures.is, x.if-publics-v.false))) f,
+            (no_difference w a.x.formal a.v.value (omega (arith, c.word-publics.ensures.is, x.if-publics-v.false))) f,
         k,
       )
     ]
@@ -139,7 +139,7 @@ differs-requires c =
     let p = c.requires in (
       p.0,
       holds-differs c.args.table.now p.0.accepted c.args.x.formal c.args.v.value p.5 p.7
-          (omega (arith, c.word16-publics.ensures.is, c.if-publics-v.true)),
+          (omega (arith, c.word-publics.ensures.is, c.if-publics-v.true)),
       p.10 p.7.low p.7.high,
     )
 

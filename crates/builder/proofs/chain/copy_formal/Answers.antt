@@ -14,9 +14,9 @@ use Rattle.builder.proofs.chain.copy_formal.Goals as goal
 
 -- the values of the name, as they are read
 told : (c : After-value_count-count)
-    → Valued c.args.table.now c.args.x.argument c.word16-publics.result c.privates.result c.reach_of-r.result c.value_count-count.result
+    → Valued c.args.table.now c.args.x.argument c.word-publics.result c.privates.result c.reach_of-r.result c.value_count-count.result
 told c =
-    valued c.args.table.now c.args.index.now c.args.x.argument _ _ _ _ c.requires.0 c.word16-publics.ensures.is c.privates.ensures.is
+    valued c.args.table.now c.args.index.now c.args.x.argument _ _ _ _ c.requires.0 c.word-publics.ensures.is c.privates.ensures.is
     c.reach_of-r.ensures c.value_count-count.ensures
 
 -- a turn's number is that of a value

@@ -21,7 +21,7 @@ loop-s-init c =
     let a = c.args in
     let w = a.table.now in
     let r = right-first w a.index.now c.requires.0 in
-    (ap (λ (k : ℕ). put w a.out.now a.h (flat (with_all_of w) (from 0 k))) (sym (sub-zero c.word16-branches.result)), refl, r, r)
+    (ap (λ (k : ℕ). put w a.out.now a.h (flat (with_all_of w) (from 0 k))) (sym (sub-zero c.word-branches.result)), refl, r, r)
 
 pub overflow_cast-own : goal.overflow_cast-own
 overflow_cast-own c =
@@ -38,14 +38,14 @@ overflow_cast-own-then-set-ne0 c =
 pub partners-q-requires : goal.partners-q-requires
 partners-q-requires c =
     let inside : c.loop-s.s < branches c.args.table.now =
-    omega (arith, c.loop-s-test.true, c.word16-branches.ensures.is) in
-    let set_is : c.word32-set.result ≡ partner_set c.args.table.now c.args.index.now c.loop-s.s =
-    c.word32-set.ensures.is ∙ c.requires.1.sets-are c.loop-s.s inside in
+    omega (arith, c.loop-s-test.true, c.word-branches.ensures.is) in
+    let set_is : c.word-set.result ≡ partner_set c.args.table.now c.args.index.now c.loop-s.s =
+    c.word-set.ensures.is ∙ c.requires.1.sets-are c.loop-s.s inside in
     let a = c.args in
     let w = a.table.now in
     let x = a.index.now in
     let l = c.loop-s in
-    let n = c.word16-branches in
+    let n = c.word-branches in
     let d = c.side_of-side.result in
     let e = c.side_of-side.ensures in
     let b : d.branch ≡ l.s = ap (λ (v : Side). v.branch) e in
@@ -66,10 +66,10 @@ partners-q-requires c =
 pub loop-s-preserved : goal.loop-s-preserved
 loop-s-preserved c =
     let inside : c.loop-s.s < branches c.args.table.now =
-    omega (arith, c.loop-s-test.true, c.word16-branches.ensures.is) in
-    let set_is : c.word32-set.result ≡ partner_set c.args.table.now c.args.index.now c.loop-s.s =
-    c.word32-set.ensures.is ∙ c.requires.1.sets-are c.loop-s.s inside in
-    let none : c.word32-set.result ≡ 0 → with_all_of c.args.table.now c.loop-s.s ≡ [] =
+    omega (arith, c.loop-s-test.true, c.word-branches.ensures.is) in
+    let set_is : c.word-set.result ≡ partner_set c.args.table.now c.args.index.now c.loop-s.s =
+    c.word-set.ensures.is ∙ c.requires.1.sets-are c.loop-s.s inside in
+    let none : c.word-set.result ≡ 0 → with_all_of c.args.table.now c.loop-s.s ≡ [] =
     λ e. let w = c.args.table.now in
     let b = c.loop-s.s in
     set_told w c.args.index.now c.requires.0 b inside ∙ set-done w b _ (sym set_is ∙ e) in
@@ -77,7 +77,7 @@ loop-s-preserved c =
     let w = a.table.now in
     let x = a.index.now in
     let l = c.loop-s in
-    let n = c.word16-branches in
+    let n = c.word-branches in
     let h = c.loop-s-test.true in
     let t = state c.if-set-ne0.out c.if-set-ne0.q in
     elim c.if-set-ne0.branch [
@@ -104,7 +104,7 @@ returns c =
     let a = c.args in
     let w = a.table.now in
     let l = c.loop-s in
-    let n = c.word16-branches in
+    let n = c.word-branches in
     flat-done (of_table w) (put w a.out.now a.h (flat (with_all_of w) (range n.result))) (state l.out l.q) (with_all_of w) l.s n.result
     l.invariant.0 c.loop-s-test.false
     ∙ ap (λ (k : ℕ). put w a.out.now a.h (flat (with_all_of w) (range k))) n.ensures.is

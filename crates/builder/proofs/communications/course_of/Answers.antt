@@ -29,8 +29,8 @@ pub values_of-requires : goal.values_of-requires
 values_of-requires c =
     let a = c.args in
     let r = c.reach_of-reach in
-    reach-fits a.table.now a.index.now c.requires c.word16-publics.result c.privates-privates.result
-    (counted a.table.now a.index.now c.word16-publics.result c.privates-privates.result c.requires c.word16-publics.ensures.is c.privates-privates.ensures.is)
+    reach-fits a.table.now a.index.now c.requires c.word-publics.result c.privates-privates.result
+    (counted a.table.now a.index.now c.word-publics.result c.privates-privates.result c.requires c.word-publics.ensures.is c.privates-privates.ensures.is)
     a.name r.result r.ensures
 
 pub returns : goal.returns
@@ -39,7 +39,7 @@ returns c =
     let a = c.args in
     let w = a.table.now in
     let x = a.index.now in
-    let k = counted w x c.word16-publics.result c.privates-privates.result c.requires c.word16-publics.ensures.is c.privates-privates.ensures.is in
+    let k = counted w x c.word-publics.result c.privates-privates.result c.requires c.word-publics.ensures.is c.privates-privates.ensures.is in
     let r = c.reach_of-reach in
     let v = c.values_of.ensures in record {
       narrow = v.narrow;

@@ -17,12 +17,12 @@ use Rattle.builder.proofs.communications.pair_up.Goals as goal
 -- ---- what is gone through
 
 -- how many public and private values there are
-counts : (c : After-privates) → Counted c.args.table.now c.word16.result c.privates.result
+counts : (c : After-privates) → Counted c.args.table.now c.word.result c.privates.result
 counts c =
-    counted c.args.table.now c.args.index.now c.word16.result c.privates.result c.requires.0 c.word16.ensures.is c.privates.ensures.is
+    counted c.args.table.now c.args.index.now c.word.result c.privates.result c.requires.0 c.word.ensures.is c.privates.ensures.is
 
 -- the values of the two loops are those of the pair's communications
-known : (c : After-either-left) → Counted c.args.table.now c.word16.result c.privates.result
+known : (c : After-either-left) → Counted c.args.table.now c.word.result c.privates.result
     → Gone c.args.table.now c.args.p c.args.c c.either-left.result c.either-inner.result
 known c k =
     let a = c.args in

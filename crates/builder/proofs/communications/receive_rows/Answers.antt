@@ -41,7 +41,7 @@ loop-b-preserved c =
     let f = c.field4.ensures.is in
     elim c.if-field4-eq2.branch [
       | then-field4-eq2 v ↦ let e : c.if-field4-eq2.at ≡ set (set l.at l.k v.row_on-a.result.row) (l.k + 1) v.row_on-z.result.row =
-          v.at-is ∙ v.store32-then-field4-eq2.ensures ∙ ap (λ (r : List ℕ). set r (l.k + 1) v.row_on-z.result.row) v.store32.ensures in
+          v.at-is ∙ v.store-then-field4-eq2.ensures ∙ ap (λ (r : List ℕ). set r (l.k + 1) v.row_on-z.result.row) v.store.ensures in
           let m = keep-more w l.b (same-yes (branch_kind w l.b) 2 (sym f ∙ v.if-field4-eq2.true)) in
           let ea = on_row w x c.requires l.a l.invariant.5 v.row_on-a.result _ (v.row_on-a.ensures ∙ ap (start_on w x l.a) v.field4-then-field4-eq2.ensures.is) in
           let ez = on_row w x c.requires l.z l.invariant.6 v.row_on-z.result _ (v.row_on-z.ensures ∙ ap (start_on w x l.z) v.field4-then-field4-eq2-2.ensures.is) in (

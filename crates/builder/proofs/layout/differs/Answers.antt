@@ -70,7 +70,7 @@ returns c =
     let x = a.index.now in
     let k = c.publics_of in
     let n = c.privates in
-    ap (λ (q : ℕ). a.row + k.result + n.result + (a.v - q)) c.word16.ensures.is
+    ap (λ (q : ℕ). a.row + k.result + n.result + (a.v - q)) c.word.ensures.is
     ∙ differs-of w p.0.accepted a.name a.v a.row k.result n.result p.2
     (k.ensures.0 ∙ ap (λ (z : Reach). length (keep (bit_at z.publics) (range (publics w)))) (c.reach_of-r.ensures ∙ reach-is w x p.0 a.name))
     (n.ensures.is ∙ privates-are w x p.0) p.1

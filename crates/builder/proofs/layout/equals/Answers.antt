@@ -32,7 +32,7 @@ returns-then-v-publics c =
     let r = c.reach_of-r in
     equals-of-public w p.0.accepted a.name a.v a.row c.rank.result p.2
     (c.rank.ensures.0 ∙ ap (λ (z : Reach). length (keep (bit_at z.publics) (range a.v))) (r.ensures ∙ reach-is w x p.0 a.name))
-    (omega (arith, c.if-v-publics.true, c.word16-publics.ensures.is))
+    (omega (arith, c.if-v-publics.true, c.word-publics.ensures.is))
 
 pub overflow_add-result-2 : goal.overflow_add-result-2
 overflow_add-result-2 c =
@@ -77,7 +77,7 @@ returns c =
     let w = a.table.now in
     let x = a.index.now in
     let r = c.reach_of-r in
-    let q = c.word16-publics.ensures.is in
+    let q = c.word-publics.ensures.is in
     let k = c.rank-2 in
     let row = a.row in
     ap (λ (q : ℕ). row + k.result + (a.v - q)) q

@@ -17,7 +17,7 @@ overflow_add-result c =
       few-publics w p.0.accepted,
       few-privates w p.0.accepted,
       c.free_start.ensures.is,
-      c.word16.ensures.is,
+      c.word.ensures.is,
     )
 
 pub overflow_cast-result : goal.overflow_cast-result
@@ -33,12 +33,12 @@ overflow_cast-result c =
       few-publics w p.0.accepted,
       few-privates w p.0.accepted,
       c.free_start.ensures.is,
-      c.word16.ensures.is,
+      c.word.ensures.is,
     )
 
 pub returns : goal.returns
 returns c =
     let a = c.args in
     let l = c.requires.0 in
-    free_of a.table.now l.accepted a.index.now l a.v c.free_start.result c.word16.result
-    c.free_start.ensures.is c.word16.ensures.is
+    free_of a.table.now l.accepted a.index.now l a.v c.free_start.result c.word.result
+    c.free_start.ensures.is c.word.ensures.is

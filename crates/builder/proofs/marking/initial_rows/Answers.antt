@@ -16,22 +16,22 @@ use Rattle.builder.proofs.marking.initial_rows.Goals.{After-privates-privates, A
 use Rattle.builder.proofs.marking.initial_rows.Goals as goal
 
 -- the counts, as they are read
-told : (c : After-privates-privates) → Counted c.args.table.now c.word16-publics.result c.privates-privates.result
-told c = counted c.args.table.now c.args.index.now _ _ c.requires c.word16-publics.ensures.is c.privates-privates.ensures.is
+told : (c : After-privates-privates) → Counted c.args.table.now c.word-publics.result c.privates-privates.result
+told c = counted c.args.table.now c.args.index.now _ _ c.requires c.word-publics.ensures.is c.privates-privates.ensures.is
 
 -- the sums that are formed are small
 room : (c : After-publics_of)
-    → Counted c.args.table.now c.word16-publics.result c.privates-privates.result
+    → Counted c.args.table.now c.word-publics.result c.privates-privates.result
     → (c.loop-x.row + (c.publics_of.result + c.privates-privates.result) + c.privates-privates.result ≤ 4096) × (c.loop-x.at ≤ 4096)
 room c d =
     let l = c.loop-x in
-    let r = rows-room c.args.table.now c.args.index.now c.requires _ _ c.word16.result d c.word16.ensures.is c.args.out.now
+    let r = rows-room c.args.table.now c.args.index.now c.requires _ _ c.word.result d c.word.ensures.is c.args.out.now
     l.out l.at l.x l.row l.invariant.0 c.loop-x-test.true l.invariant.1 in
     (omega (arith, r.0, c.publics_of.ensures.1), r.1)
 
 -- one name on
 on : (c : After-row_places-row)
-    → Counted c.args.table.now c.word16-publics.result c.privates-privates.result
+    → Counted c.args.table.now c.word-publics.result c.privates-privates.result
     → c.loop-x.row + c.row_places-row.result ≡ row_of c.args.table.now (c.loop-x.x + 1)
 on c d =
     let l = c.loop-x in
@@ -40,15 +40,15 @@ on c d =
       l.invariant.1,
       c.row_places-row.ensures,
       row-goes-on c.args.table.now c.args.index.now c.requires l.x l.invariant.0.low
-          (omega (arith, c.loop-x-test.true, d.publics-are, c.word16.ensures.is)),
+          (omega (arith, c.loop-x-test.true, d.publics-are, c.word.ensures.is)),
     )
 
 pub loop-x-init : goal.loop-x-init
 loop-x-init c =
     let w = c.args.table.now in (
-      rows-begin w c.args.index.now c.requires _ _ c.word16.result (told (goal.at.loop-x-init c).After-privates-privates) c.word16.ensures.is
+      rows-begin w c.args.index.now c.requires _ _ c.word.result (told (goal.at.loop-x-init c).After-privates-privates) c.word.ensures.is
           c.args.out.now,
-      sym (row-none w c.word16-publics.result (omega (arith, c.word16-publics.ensures.is))),
+      sym (row-none w c.word-publics.result (omega (arith, c.word-publics.ensures.is))),
     )
 
 pub overflow_add-row : goal.overflow_add-row
@@ -70,7 +70,7 @@ overflow_add-row-in-loop-x c =
       arith,
       on x.After-row_places-row d,
       row_small c.args.table.now c.requires.accepted (c.loop-x.x + 1)
-          (omega (arith, c.loop-x-test.true, d.publics-are, c.word16.ensures.is)),
+          (omega (arith, c.loop-x-test.true, d.publics-are, c.word.ensures.is)),
     )
 
 pub loop-x-preserved : goal.loop-x-preserved
@@ -81,7 +81,7 @@ loop-x-preserved c =
     let w = a.table.now in
     let y = a.index.now in
     let l = c.loop-x in
-    let b = c.word16 in
+    let b = c.word in
     let d = told x.After-privates-privates in
     let t = c.loop-x-test.true in
     let k = read-tells w p.accepted y (laid-reached w y p) l.x c.is_read.result c.is_read.ensures in (
@@ -103,6 +103,6 @@ loop-x-preserved c =
 pub returns : goal.returns
 returns c =
     let l = c.loop-x in
-    rows-close c.args.table.now c.args.index.now c.requires _ _ c.word16.result (told (goal.at.returns c).After-privates-privates)
-    c.word16.ensures.is c.args.out.now
+    rows-close c.args.table.now c.args.index.now c.requires _ _ c.word.result (told (goal.at.returns c).After-privates-privates)
+    c.word.ensures.is c.args.out.now
     l.out l.at l.x l.invariant.0 c.loop-x-test.false

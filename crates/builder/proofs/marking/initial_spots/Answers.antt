@@ -5,14 +5,14 @@ use Rattle.builder.proofs.Marked.{spots-begin, spots-put, spots-room, spots-few,
 use Rattle.builder.proofs.marking.initial_spots.Goals as goal
 
 pub loop-t-init : goal.loop-t-init
-loop-t-init c = spots-begin c.args.table.now _ c.word16-threads.result refl
+loop-t-init c = spots-begin c.args.table.now _ c.word-threads.result refl
 
 pub insert-count-requires : goal.insert-count-requires
 insert-count-requires c =
     let a = c.args in
     let p = c.requires in
     let l = c.loop-t in
-    let t = c.word16-threads in
+    let t = c.word-threads in
     spots-room a.table.now l.list t.result l.count l.t p.0.accepted t.ensures.is l.invariant
     c.loop-t-test.true
 
@@ -21,7 +21,7 @@ loop-t-preserved c =
     let a = c.args in
     let p = c.requires in
     let l = c.loop-t in
-    let t = c.word16-threads in
+    let t = c.word-threads in
     let s = c.insert-count in
     spots-put a.table.now a.index.now t.result l.list c.insert-count.new.list l.count s.result l.t
     c.field1.result c.field4-root.result
@@ -34,7 +34,7 @@ words-requires c =
     let a = c.args in
     let p = c.requires in
     let l = c.loop-t in
-    let t = c.word16-threads in
+    let t = c.word-threads in
     (spots-few a.table.now l.list t.result l.count l.t p.0.accepted t.ensures.is l.invariant, omega (arith, p.1))
 
 pub returns : goal.returns
@@ -42,7 +42,7 @@ returns c =
     let a = c.args in
     let p = c.requires in
     let l = c.loop-t in
-    let t = c.word16-threads in
+    let t = c.word-threads in
     c.words.ensures.1
     ∙ ap (writes a.out.now a.at)
     (spots-close a.table.now l.list t.result l.count l.t p.0.accepted t.ensures.is l.invariant

@@ -19,12 +19,12 @@ use Rattle.builder.proofs.nodes.differences.Goals as goal
 pub loop-x-init : goal.loop-x-init
 loop-x-init c =
     let a = c.args in
-    let e = c.word16-publics.ensures.is in (
-      below-start a.table.now a.v a.list.now c.word16-publics.result e,
+    let e = c.word-publics.ensures.is in (
+      below-start a.table.now a.v a.list.now c.word-publics.result e,
       refl,
       omega (arith, e),
       omega arith,
-      sym (row-none a.table.now c.word16-publics.result (omega (arith, e))),
+      sym (row-none a.table.now c.word-publics.result (omega (arith, e))),
     )
 
 pub differs-requires : goal.differs-requires
@@ -42,8 +42,8 @@ differs-requires c =
     let u : x < names w = omega (
       arith,
       c.loop-x-test.true,
-      c.word16-publics.ensures.is,
-      c.word16.ensures.is,
+      c.word-publics.ensures.is,
+      c.word.ensures.is,
     ) in
     record { low = l; high = u; free = read-free w v x r; reads = read-private w v x r; private = p.1; value = p.2 } in (
       c.requires.0,
@@ -61,8 +61,8 @@ insert-count-requires c =
       arith,
       below_length a.table.now a.v l.x,
       c.loop-x-test.true,
-      c.word16-publics.ensures.is,
-      c.word16.ensures.is,
+      c.word-publics.ensures.is,
+      c.word.ensures.is,
       few-bounds a.table.now p.0.accepted,
       p.3,
       l.invariant.1,
@@ -75,8 +75,8 @@ overflow_add-row c =
     omega (
       arith,
       c.loop-x-test.true,
-      c.word16-publics.ensures.is,
-      c.word16.ensures.is,
+      c.word-publics.ensures.is,
+      c.word.ensures.is,
     ) in
     let on : let l = c.loop-x in
     l.row + c.row_places-row.result ≡ row_of c.args.table.now (l.x + 1) =
@@ -96,8 +96,8 @@ loop-x-preserved c =
     omega (
       arith,
       c.loop-x-test.true,
-      c.word16-publics.ensures.is,
-      c.word16.ensures.is,
+      c.word-publics.ensures.is,
+      c.word.ensures.is,
     ) in
     let turn : let a = c.args in
     Filled a.table.now c.if-is_read.list c.if-is_read.count (differs_below a.table.now a.v (c.loop-x.x + 1))
@@ -151,8 +151,8 @@ returns c =
       arith,
       c.loop-x-test.false,
       l.invariant.3,
-      c.word16-publics.ensures.is,
-      c.word16.ensures.is,
+      c.word-publics.ensures.is,
+      c.word.ensures.is,
     )) in
     let f = fill-same w l.list l.count _ _ (ap (numbers_for (scheme w) (today w)) e) l.invariant.0 in
     (f.holds, f.size)

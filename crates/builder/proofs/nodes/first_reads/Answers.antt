@@ -18,10 +18,10 @@ returns-then-privates-eq0 c =
 pub differences-requires : goal.differences-requires
 differences-requires c = (
   c.requires.0,
-  omega (arith, c.word16.ensures.is),
+  omega (arith, c.word.ensures.is),
   omega (
     arith,
-    c.word16.ensures.is,
+    c.word.ensures.is,
     c.if-privates-eq0.false,
     c.privates.ensures.is,
     privates-are c.args.table.now c.args.index.now c.requires.0,

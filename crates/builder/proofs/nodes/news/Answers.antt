@@ -25,9 +25,9 @@ no-values a = refl
 
 pub returns-then-privates-eq0 : goal.returns-then-privates-eq0
 returns-then-privates-eq0 c =
-    let told : Counted c.args.table.now c.word16-publics.result
+    let told : Counted c.args.table.now c.word-publics.result
     c.privates-privates.result =
-    counted c.args.table.now c.args.index.now _ _ c.requires.0 c.word16-publics.ensures.is c.privates-privates.ensures.is in
+    counted c.args.table.now c.args.index.now _ _ c.requires.0 c.word-publics.ensures.is c.privates-privates.ensures.is in
     let a = c.args in
     let w = a.table.now in
     let z : privates_word w ≡ 0 = omega (arith, told.privates-are, c.if-privates-eq0.true) in
@@ -36,9 +36,9 @@ returns-then-privates-eq0 c =
 
 pub make-q-requires : goal.make-q-requires
 make-q-requires c =
-    let told : Counted c.args.table.now c.word16-publics.result
+    let told : Counted c.args.table.now c.word-publics.result
     c.privates-privates.result =
-    counted c.args.table.now c.args.index.now _ _ c.requires.0 c.word16-publics.ensures.is c.privates-privates.ensures.is in
+    counted c.args.table.now c.args.index.now _ _ c.requires.0 c.word-publics.ensures.is c.privates-privates.ensures.is in
     let a = c.args in
     let p = c.requires in
     let r = told in
@@ -47,7 +47,7 @@ make-q-requires c =
     let l = c.loop-k in
     let vs = Lists.from (publics w) (privates_word w) in
     let u : l.k < privates_word w = omega (arith, c.loop-k-test.true, r.privates-are) in
-    let e : c.word16-publics.result + l.k ≡ word vs l.k = ap (λ (y : ℕ). y + l.k) r.publics-are ∙ sym (from-get_or (publics w) (privates_word w) l.k u) in (
+    let e : c.word-publics.result + l.k ≡ word vs l.k = ap (λ (y : ℕ). y + l.k) r.publics-are ∙ sym (from-get_or (publics w) (privates_word w) l.k u) in (
       p.0,
       p.1,
       p.2,
@@ -56,7 +56,7 @@ make-q-requires c =
           ∙ node-is w x p.0 (node_second w a.n) (omega (arith, made_inside w r.accepted a.n p.1 p.2)),
       omega (arith, r.publics-are),
       omega (arith, r.publics-are, u),
-      map-inside (of_table w) _ (state l.out l.q) vs l.k (made w a.n) l.invariant.0 (c.word16-publics.result + l.k)
+      map-inside (of_table w) _ (state l.out l.q) vs l.k (made w a.n) l.invariant.0 (c.word-publics.result + l.k)
           (omega (arith, from-length (publics w) (privates_word w), u)) e p.3,
       p.4.filled (omega (arith, u)),
       p.4.room,
@@ -65,16 +65,16 @@ make-q-requires c =
 
 pub loop-k-preserved : goal.loop-k-preserved
 loop-k-preserved c =
-    let told : Counted c.args.table.now c.word16-publics.result
+    let told : Counted c.args.table.now c.word-publics.result
     c.privates-privates.result =
-    counted c.args.table.now c.args.index.now _ _ c.requires.0 c.word16-publics.ensures.is c.privates-privates.ensures.is in
+    counted c.args.table.now c.args.index.now _ _ c.requires.0 c.word-publics.ensures.is c.privates-privates.ensures.is in
     let a = c.args in
     let r = told in
     let w = a.table.now in
     let l = c.loop-k in
     let vs = Lists.from (publics w) (privates_word w) in
     let u : l.k < privates_word w = omega (arith, c.loop-k-test.true, r.privates-are) in
-    let v = c.word16-publics.result + l.k in
+    let v = c.word-publics.result + l.k in
     let e : v ≡ word vs l.k = ap (λ (y : ℕ). y + l.k) r.publics-are ∙ sym (from-get_or (publics w) (privates_word w) l.k u) in (
       map_more (of_table w) _ (state l.out l.q) vs l.k (made w a.n) l.invariant.0 v (omega (arith, from-length (publics w) (privates_word w), u)) e _
           c.make-q.ensures,
@@ -84,9 +84,9 @@ loop-k-preserved c =
 
 pub returns : goal.returns
 returns c =
-    let told : Counted c.args.table.now c.word16-publics.result
+    let told : Counted c.args.table.now c.word-publics.result
     c.privates-privates.result =
-    counted c.args.table.now c.args.index.now _ _ c.requires.0 c.word16-publics.ensures.is c.privates-privates.ensures.is in
+    counted c.args.table.now c.args.index.now _ _ c.requires.0 c.word-publics.ensures.is c.privates-privates.ensures.is in
     let a = c.args in
     let w = a.table.now in
     let l = c.loop-k in

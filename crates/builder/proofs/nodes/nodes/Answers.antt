@@ -16,9 +16,9 @@ node-q-requires c =
     let l = c.loop-n in
     let t = c.loop-n-test.true in (
       p.0,
-      omega (arith, t, c.word16-count.ensures.is),
+      omega (arith, t, c.word-count.ensures.is),
       part-inside (of_table w) _ (state l.out l.q) _ _
-          (l.invariant.0 ∙ ap (put w l.out l.q) (flat-more (node_all w) l.n c.word16-count.result t)) p.1,
+          (l.invariant.0 ∙ ap (put w l.out l.q) (flat-more (node_all w) l.n c.word-count.result t)) p.1,
       c.first_reads-read.ensures,
     )
 
@@ -26,7 +26,7 @@ pub loop-n-preserved : goal.loop-n-preserved
 loop-n-preserved c =
     let w = c.args.table.now in
     let l = c.loop-n in
-    let e = flat-more (node_all w) l.n c.word16-count.result c.loop-n-test.true in (
+    let e = flat-more (node_all w) l.n c.word-count.result c.loop-n-test.true in (
       part-more (of_table w) _ (state l.out l.q) _ _ (l.invariant.0 ∙ ap (put w l.out l.q) e) _ c.node-q.ensures,
       state-length w l.out _ l.q _ _ c.node-q.ensures ∙ l.invariant.1,
     )
@@ -35,5 +35,5 @@ pub returns : goal.returns
 returns c =
     let w = c.args.table.now in
     let l = c.loop-n in
-    sym (l.invariant.0 ∙ ap (put w l.out l.q) (flat-done (node_all w) l.n c.word16-count.result c.loop-n-test.false)
+    sym (l.invariant.0 ∙ ap (put w l.out l.q) (flat-done (node_all w) l.n c.word-count.result c.loop-n-test.false)
     ∙ put-none (of_table w) (state l.out l.q))

@@ -20,7 +20,7 @@ more first list rise i l h j k = go (ℕ_discrete j i)
 
 pub overflow_cast-rise : goal.overflow_cast-rise
 overflow_cast-rise c =
-    omega (arith, c.word16.ensures.is, c.requires.2, few-privates c.args.table.now c.requires.0)
+    omega (arith, c.word.ensures.is, c.requires.2, few-privates c.args.table.now c.requires.0)
 
 pub overflow_add-list : goal.overflow_add-list
 overflow_add-list c =
@@ -30,7 +30,7 @@ overflow_add-list c =
     let f = up-few w a.v c.requires.1 c.requires.2 c.requires.0 a.first.now a.count c.requires.3 in
     omega (
       arith,
-      c.word16.ensures.is,
+      c.word.ensures.is,
       up_small w a.v c.requires.1 c.requires.2 c.requires.0 a.first.now a.count c.requires.3 l.i c.loop-i-test.true
           (omega (arith, f, c.requires.4)),
     )
@@ -60,6 +60,6 @@ returns c =
     let e : l.i ≡ a.count = omega (arith, l.invariant.2, c.loop-i-test.false) in (
       up_done w a.v c.requires.1 c.requires.2 c.requires.0 a.first.now a.count c.requires.3 l.list (omega (arith, f, c.requires.4))
           (omega (arith, f, c.requires.5, l.invariant.1))
-          (λ j k. l.invariant.0 j (omega (arith, e)) ∙ ap (λ (n : ℕ). get_or a.first.now j 0 + (a.v - n)) c.word16.ensures.is),
+          (λ j k. l.invariant.0 j (omega (arith, e)) ∙ ap (λ (n : ℕ). get_or a.first.now j 0 + (a.v - n)) c.word.ensures.is),
       up-count w a.v c.requires.1 c.requires.2 c.requires.0 a.first.now a.count c.requires.3,
     )

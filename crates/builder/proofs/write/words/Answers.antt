@@ -9,7 +9,7 @@ pub loop-i-preserved : goal.loop-i-preserved
 loop-i-preserved c =
     let a = c.args in
     let l = c.loop-i in
-    let s = c.store32 in (
+    let s = c.store in (
       l.invariant.0 ∙ part-more l.out a.list.now a.at l.i a.count (omega arith) (omega arith) ∙ rw s.ensures,
       rw s.ensures (length-set l.out (a.at + l.i) (get_or a.list.now l.i 0) ∙ l.invariant.1),
     )

@@ -10,7 +10,7 @@ releases-r-requires c =
     let w = a.table.now in
     let xs = a.names.now in
     let l = c.loop-i in
-    let x = c.word32 in (
+    let x = c.word in (
       c.requires.0,
       part-few (release_sums w) (release-grows w) (over (release_sums w) (sums_of a.t) (take a.count xs)) (sums_of l.r) xs l.i a.count x.result
           l.invariant.0 c.loop-i-test.true c.requires.1 x.ensures.is c.requires.2,
@@ -22,7 +22,7 @@ loop-i-preserved c =
     let w = a.table.now in
     let xs = a.names.now in
     let l = c.loop-i in
-    let x = c.word32 in
+    let x = c.word in
     let r = c.releases-r in (
       part-on (release_sums w) (over (release_sums w) (sums_of a.t) (take a.count xs)) (sums_of l.r) (sums_of r.result) xs l.i a.count x.result
           l.invariant.0 c.loop-i-test.true c.requires.1 x.ensures.is r.ensures,

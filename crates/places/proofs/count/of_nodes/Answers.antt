@@ -16,7 +16,7 @@ node-q-requires c =
     let a = c.args in
     let w = a.table.now in
     let l = c.loop-n in
-    let u : l.n < nodes w = omega (arith, c.word16-nodes.ensures.is, c.loop-n-test.true) in (
+    let u : l.n < nodes w = omega (arith, c.word-nodes.ensures.is, c.loop-n-test.true) in (
       c.requires.0,
       c.reading_names-read.ensures.0,
       u,
@@ -28,7 +28,7 @@ loop-n-preserved c =
     let a = c.args in
     let w = a.table.now in
     let l = c.loop-n in
-    let u : l.n < nodes w = omega (arith, c.word16-nodes.ensures.is, c.loop-n-test.true) in
+    let u : l.n < nodes w = omega (arith, c.word-nodes.ensures.is, c.loop-n-test.true) in
     range-on (node_sums w) (over (node_sums w) (sums_of a.t) (range (nodes w))) (sums_of l.q) (sums_of c.node-q.result) l.n (nodes w) l.invariant u
     c.node-q.ensures
 
@@ -37,4 +37,4 @@ returns c =
     let a = c.args in
     let w = a.table.now in
     let l = c.loop-n in
-    sym (l.invariant ∙ range-done (node_sums w) (sums_of l.q) l.n (nodes w) (omega (arith, c.word16-nodes.ensures.is, c.loop-n-test.false)))
+    sym (l.invariant ∙ range-done (node_sums w) (sums_of l.q) l.n (nodes w) (omega (arith, c.word-nodes.ensures.is, c.loop-n-test.false)))

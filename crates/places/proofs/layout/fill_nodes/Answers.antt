@@ -8,9 +8,9 @@ use Rattle.places.proofs.layout.fill_nodes.Goals.{At-loop-n}
 use Rattle.places.proofs.layout.fill_nodes.Goals as goal
 
 -- there are words for all nodes
-nodes-few : (c : At-loop-n) → c.word16-count.result ≤ 256
+nodes-few : (c : At-loop-n) → c.word-count.result ≤ 256
 nodes-few c =
-    omega (arith, c.word16-count.ensures.is, few-nodes c.args.table.now c.requires.0)
+    omega (arith, c.word-count.ensures.is, few-nodes c.args.table.now c.requires.0)
 
 pub loop-n-init : goal.loop-n-init
 unfolding from
@@ -30,7 +30,7 @@ pub loop-n-preserved : goal.loop-n-preserved
 loop-n-preserved c =
     let w = c.args.table.now in
     let l = c.loop-n in
-    let u = c.store32.ensures in (
+    let u = c.store.ensures in (
       omega (arith, l.invariant.0, c.control_count-at.ensures.0),
       u ∙ store-more (node_word w) c.args.index.now 960 l.n l.index l.invariant.1 l.at l.invariant.0,
       omega (arith, c.loop-n-test.true),
@@ -39,7 +39,7 @@ loop-n-preserved c =
 
 pub slice_bounds-repeat-start : goal.slice_bounds-repeat-start
 slice_bounds-repeat-start c =
-    let nodes-few : c.word16-count.result ≤ 256 = omega (arith, c.word16-count.ensures.is, few-nodes c.args.table.now c.requires.0) in
+    let nodes-few : c.word-count.result ≤ 256 = omega (arith, c.word-count.ensures.is, few-nodes c.args.table.now c.requires.0) in
     omega (arith, nodes-few)
 
 pub slice_bounds-repeat-count : goal.slice_bounds-repeat-count
@@ -54,8 +54,8 @@ unfolding node_words
 returns c =
     let w = c.args.table.now in
     let l = c.loop-n in
-    let n = c.word16-count.result in
-    let i = c.word16-count.ensures.is in
+    let n = c.word-count.result in
+    let i = c.word-count.ensures.is in
     let few = (nodes-few (goal.at.returns c).At-loop-n) in
     let e : l.n ≡ n = omega (arith, l.invariant.2, c.loop-n-test.false) in
     let q : n + (1217 - (960 + n)) ≡ 257 = omega (arith, few) in

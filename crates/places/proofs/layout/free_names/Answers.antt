@@ -9,8 +9,8 @@ loop-x-preserved c =
     let a = c.args in
     let l = c.loop-x in
     let k = c.name_kind in
-    let p = c.word16-publics in
-    let n = c.word16 in
+    let p = c.word-publics in
+    let n = c.word in
     let e = p.result + n.result in
     let w = a.table.now in
     let low : publics w ≤ l.x = omega (arith, p.ensures.is, l.invariant) in
@@ -27,5 +27,5 @@ loop-x-preserved c =
 pub returns : goal.returns
 returns c =
     let l = c.loop-x in
-    let f = free-done c.args.table.now l.x (c.word16-publics.result + c.word16.result) c.loop-x-test.false in
-    (omega (arith, l.invariant, f), omega (arith, l.invariant, c.word16-publics.ensures.is, c.word16.ensures.is))
+    let f = free-done c.args.table.now l.x (c.word-publics.result + c.word.result) c.loop-x-test.false in
+    (omega (arith, l.invariant, f), omega (arith, l.invariant, c.word-publics.ensures.is, c.word.ensures.is))

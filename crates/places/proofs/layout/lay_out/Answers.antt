@@ -9,7 +9,7 @@ use Rattle.places.proofs.Controls.{control-begins, control-few, free-few}
 use Rattle.places.proofs.Tokens.{tokens-are, tokens-few}
 use Rattle.places.proofs.Starts.{free-told}
 use Rattle.places.proofs.Plans.{reached-here, reached-size, reached-rest, reached-kept, laid_out}
-use Rattle.places.proofs.layout.lay_out.Goals.{After-places_with-free, After-word16-3}
+use Rattle.places.proofs.layout.lay_out.Goals.{After-places_with-free, After-word-3}
 use Rattle.places.proofs.layout.lay_out.Goals as goal
 
 -- where the rows end
@@ -20,18 +20,18 @@ free c =
     let w = c.args.table.now in
     c.places_with-free.ensures
     ∙ free-told w _ (reached-here w c.args.index.now c.requires.0 c.requires.1 _ c.fill_reaches.ensures) c.private_values-privates.result
-    c.private_values-privates.ensures.0 (c.word16.result + c.word16-2.result) (omega (arith, c.word16.ensures.is, c.word16-2.ensures.is))
+    c.private_values-privates.ensures.0 (c.word.result + c.word-2.result) (omega (arith, c.word.ensures.is, c.word-2.ensures.is))
 
-counted : (c : After-word16-3) →
+counted : (c : After-word-3) →
     let n = c.private_values-privates.result in
     let w = c.args.table.now in
-    c.reading_names.result * n + n + c.word16-3.result ≡ length (initial_numbers (scheme w) (today w))
+    c.reading_names.result * n + n + c.word-3.result ≡ length (initial_numbers (scheme w) (today w))
 counted c =
     let f = c.reading_names in
     let n = c.private_values-privates in
     let w = c.args.table.now in
     let t : f.result * n.result ≡ read_names_word w * privates_word w = rw (f.ensures.0, n.ensures.0) in
-    omega (arith, t, n.ensures.0, c.word16-3.ensures.is, tokens-are w c.requires.0.accepted)
+    omega (arith, t, n.ensures.0, c.word-3.ensures.is, tokens-are w c.requires.0.accepted)
 
 pub overflow_add-free : goal.overflow_add-free
 overflow_add-free c =
@@ -79,7 +79,7 @@ pub overflow_cast-tokens : goal.overflow_cast-tokens
 overflow_cast-tokens c =
     omega (
       arith,
-      (counted (goal.at.overflow_cast-tokens c).After-word16-3),
+      (counted (goal.at.overflow_cast-tokens c).After-word-3),
       tokens-few c.args.table.now c.requires.0.accepted,
     )
 
@@ -92,11 +92,11 @@ returns c =
     let n = c.private_values-privates in
     let f = c.places_with-free in
     let p = c.fill_nodes-places in
-    let t = c.reading_names.result * n.result + n.result + c.word16-3.result in
-    c.store32-4.ensures
+    let t = c.reading_names.result * n.result + n.result + c.word-3.result in
+    c.store-4.ensures
     ∙ ap (λ (l : List ℕ). set l 1220 t)
-    (c.store32-3.ensures ∙ ap (λ (l : List ℕ). set l 1219 p.result)
-    (c.store32-2.ensures ∙ ap (λ (l : List ℕ). set l 1218 f.result) c.store32.ensures))
+    (c.store-3.ensures ∙ ap (λ (l : List ℕ). set l 1219 p.result)
+    (c.store-2.ensures ∙ ap (λ (l : List ℕ). set l 1218 f.result) c.store.ensures))
     ∙ laid_out w _ K (omega (arith, reached-size w x c.requires.0 c.requires.1 _ e, c.requires.1)) _ p.ensures.1 n.result f.result
-    p.result t n.ensures.0 ((free (goal.at.returns c).After-places_with-free)) p.ensures.0 ((counted (goal.at.returns c).After-word16-3))
+    p.result t n.ensures.0 ((free (goal.at.returns c).After-places_with-free)) p.ensures.0 ((counted (goal.at.returns c).After-word-3))
     ∙ ap (λ (l : List ℕ). plan_words w ++ l) (reached-rest w x c.requires.0 c.requires.1 _ e)

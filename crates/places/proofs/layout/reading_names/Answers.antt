@@ -7,13 +7,13 @@ use Rattle.places.proofs.layout.reading_names.Goals as goal
 
 pub overflow_add-count : goal.overflow_add-count
 overflow_add-count c =
-    omega (arith, c.loop-x.invariant, read-few c.args.table.now c.requires.accepted, c.word16.ensures.is, c.word16.ensures.small)
+    omega (arith, c.loop-x.invariant, read-few c.args.table.now c.requires.accepted, c.word.ensures.is, c.word.ensures.small)
 
 pub loop-x-preserved : goal.loop-x-preserved
 loop-x-preserved c =
     let w = c.args.table.now in
     let l = c.loop-x in
-    let e = c.word16-publics.result + c.word16.result in
+    let e = c.word-publics.result + c.word.result in
     let t = read-tells w c.requires.accepted c.args.index.now c.requires l.x c.is_read.result c.is_read.ensures in
     elim c.if-is_read.branch [
       | then-is_read u ↦ omega (arith, l.invariant, u.count-is, read_more w l.x e c.loop-x-test.true (sym t ∙ u.if-is_read.true))
@@ -24,5 +24,5 @@ pub returns : goal.returns
 returns c =
     let w = c.args.table.now in
     let e : c.loop-x.count ≡ read_names_word w =
-    omega (arith, c.loop-x.invariant, read_done w c.loop-x.x (c.word16-publics.result + c.word16.result) c.loop-x-test.false) in
+    omega (arith, c.loop-x.invariant, read_done w c.loop-x.x (c.word-publics.result + c.word.result) c.loop-x-test.false) in
     (e, omega (arith, e, read-few w c.requires.accepted))

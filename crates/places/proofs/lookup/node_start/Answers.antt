@@ -7,7 +7,7 @@ pub returns-then-node : goal.returns-then-node
 unfolding nodes_in
 returns-then-node c =
     let a = c.args in
-    record { is = c.word32.ensures.is ∙ sym (slice-word a.index.now 960 1217 a.node c.if-node.true); small = c.word32.ensures.small }
+    record { is = c.word.ensures.is ∙ sym (slice-word a.index.now 960 1217 a.node c.if-node.true); small = c.word.ensures.small }
 
 pub returns : goal.returns
 unfolding nodes_in

@@ -33,7 +33,7 @@ pub loop-b-preserved : goal.loop-b-preserved
 loop-b-preserved c =
     let a = c.args in
     let l = c.loop-b in
-    let u = c.store32.ensures in (
+    let u = c.store.ensures in (
       u ∙ store-more (partner_set a.table.now a.index.now) _ 256 l.b l.pairs l.invariant.0 c.set_of-set.result c.set_of-set.ensures,
       omega (arith, c.loop-b-test.true),
       rw u (simp length-set l.invariant.2),
@@ -45,5 +45,5 @@ returns c =
     let a = c.args in
     let w = a.table.now in
     let l = c.loop-b in
-    let e : l.b ≡ branches w = omega (arith, l.invariant.1, c.loop-b-test.false, c.word16-branches.ensures.is) in
+    let e : l.b ≡ branches w = omega (arith, l.invariant.1, c.loop-b-test.false, c.word-branches.ensures.is) in
     l.invariant.0 ∙ rw e (ap (λ (p : List ℕ). sets p 256 (map (partner_set w a.index.now) (range (branches w)))) c.receives-count.ensures.1)

@@ -9,6 +9,6 @@ pub returns : goal.returns
 returns c =
     let a = c.args in
     note-adds a.words.now c.spread.new.words c.join.new.words c.spread.result c.join.result a.k c.values_of-e.result
-    c.word32-3.result (word a.list.now (8 * a.k + 1)) _ (heard_at a.list.now a.k)
-    (c.values_of-e.ensures ∙ rw (c.word32-2.ensures.is, c.word32.ensures.is)) c.word32-3.ensures.is
+    c.word-3.result (word a.list.now (8 * a.k + 1)) _ (heard_at a.list.now a.k)
+    (c.values_of-e.ensures ∙ rw (c.word-2.ensures.is, c.word.ensures.is)) c.word-3.ensures.is
     (one_shifted a.k (omega (arith, c.requires))) c.spread.ensures c.join.ensures

@@ -13,9 +13,9 @@ pub loop-node-preserved : goal.loop-node-preserved
 loop-node-preserved c =
     let l = c.loop-node in
     let w = c.args.table.now in
-    let u : l.node < (scheme w).nodes = omega (arith, nodes-are w, c.word16-nodes.ensures.is, c.loop-node-test.true) in (
-      rw c.store32.ensures
+    let u : l.node < (scheme w).nodes = omega (arith, nodes-are w, c.word-nodes.ensures.is, c.loop-node-test.true) in (
+      rw c.store.ensures
           (below_next (scheme w) (accepted w c.requires.0.accepted) l.node c.held_count-count.result l.held u l.invariant.0 c.held_count-count.ensures),
       omega (arith, c.loop-node-test.true),
-      rw c.store32.ensures (simp length-set l.invariant.2),
+      rw c.store.ensures (simp length-set l.invariant.2),
     )

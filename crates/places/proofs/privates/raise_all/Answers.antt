@@ -11,7 +11,7 @@ loop-n-preserved c =
     let l = c.loop-n in
     let w = c.args.table.now in
     let h = c.requires.0.accepted in
-    let u : l.n < (scheme w).nodes = omega (arith, nodes-are w, c.word16-nodes.ensures.is, c.loop-n-test.true) in
+    let u : l.n < (scheme w).nodes = omega (arith, nodes-are w, c.word-nodes.ensures.is, c.loop-n-test.true) in
     rw c.raise.ensures
     (raised-more (scheme w) (accepted w h) l.n c.node_thread.result c.most_at.result l.most u l.invariant
     (c.node_thread.ensures.is ∙ thread-right w h c.args.index.now c.requires.0.right l.n) c.most_at.ensures.0)
@@ -21,4 +21,4 @@ returns c =
     let w = c.args.table.now in
     let l = c.loop-n in
     raised_all (scheme w) (accepted w c.requires.0.accepted) l.n l.most l.invariant
-    (omega (arith, nodes-are w, c.loop-n-test.false, c.word16-nodes.ensures.is))
+    (omega (arith, nodes-are w, c.loop-n-test.false, c.word-nodes.ensures.is))

@@ -6,8 +6,8 @@ pub loop-i-preserved : goal.loop-i-preserved
 loop-i-preserved c =
     let a = c.args in
     let t = c.loop-i-test.true in (
-      omega (arith, c.loop-i.invariant.0, c.word32-s.ensures.is, sum_more a.words.now c.loop-i.i a.count t),
-      omega (arith, c.loop-i.invariant.1, c.word32-s.ensures.small),
+      omega (arith, c.loop-i.invariant.0, c.word-s.ensures.is, sum_more a.words.now c.loop-i.i a.count t),
+      omega (arith, c.loop-i.invariant.1, c.word-s.ensures.small),
       omega (arith, t),
     )
 

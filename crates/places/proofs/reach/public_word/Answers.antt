@@ -7,7 +7,7 @@ pub returns-then-name : goal.returns-then-name
 unfolding publics_in
 returns-then-name c =
     let a = c.args in
-    record { is = c.word32.ensures.is ∙ sym (slice-word a.index.now 832 896 a.name c.if-name.true); small = c.word32.ensures.small }
+    record { is = c.word.ensures.is ∙ sym (slice-word a.index.now 832 896 a.name c.if-name.true); small = c.word.ensures.small }
 
 pub returns : goal.returns
 unfolding publics_in

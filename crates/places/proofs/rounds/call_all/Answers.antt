@@ -7,10 +7,10 @@ use Rattle.places.proofs.Growing.{some-none, grown-none, grown-next}
 use Rattle.places.proofs.Passing.{at_node, none_passed, all-passed}
 use Rattle.places.proofs.rounds.call_all.Goals as goal
 
-pub returns-then-word16-eq0 : goal.returns-then-word16-eq0
-returns-then-word16-eq0 c =
+pub returns-then-word-eq0 : goal.returns-then-word-eq0
+returns-then-word-eq0 c =
     let w = c.args.table.now in
-    grown-none c.args.words.now (is_passed (scheme w)) (none_passed w c.requires (sym c.word16.ensures.is ∙ c.if-word16-eq0.true))
+    grown-none c.args.words.now (is_passed (scheme w)) (none_passed w c.requires (sym c.word.ensures.is ∙ c.if-word-eq0.true))
 
 pub loop-n-init : goal.loop-n-init
 loop-n-init c =
@@ -31,5 +31,5 @@ pub returns : goal.returns
 returns c =
     let l = c.loop-n in
     let a = c.args in
-    let e : l.n ≡ nodes a.table.now = omega (arith, l.invariant.1, c.loop-n-test.false, c.word16-nodes.ensures.is) in
+    let e : l.n ≡ nodes a.table.now = omega (arith, l.invariant.1, c.loop-n-test.false, c.word-nodes.ensures.is) in
     all-passed a.table.now a.words.now l.words l.grew l.n e l.invariant.0

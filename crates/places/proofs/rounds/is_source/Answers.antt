@@ -2,12 +2,12 @@ use Rattle.std.proofs.Common.{sym, arith}
 use Rattle.places.proofs.Filling.{source-public, source-kind}
 use Rattle.places.proofs.rounds.is_source.Goals as goal
 
-pub returns-then-name-word16 : goal.returns-then-name-word16
-returns-then-name-word16 c = sym (source-public c.args.table.now c.args.name
-    (omega (arith, c.word16.ensures.is)))
+pub returns-then-name-word : goal.returns-then-name-word
+returns-then-name-word c = sym (source-public c.args.table.now c.args.name
+    (omega (arith, c.word.ensures.is)))
 
 pub returns : goal.returns
 returns c =
     let a = c.args in
-    source-kind a.table.now a.name c.name_kind.result (omega (arith, c.word16.ensures.is, c.if-name-word16.false))
+    source-kind a.table.now a.name c.name_kind.result (omega (arith, c.word.ensures.is, c.if-name-word.false))
     c.requires c.name_kind.ensures.is

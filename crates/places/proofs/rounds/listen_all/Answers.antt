@@ -30,6 +30,6 @@ returns c =
     let l = c.loop-r in
     let a = c.args in
     let S = scheme a.table.now in
-    let e : l.r ≡ branches a.table.now = omega (arith, l.invariant.1, c.loop-r-test.false, c.word16-branches.ensures.is) in
+    let e : l.r ≡ branches a.table.now = omega (arith, l.invariant.1, c.loop-r-test.false, c.word-branches.ensures.is) in
     heard_all S a.words.now a.ears.now l.ears c.requires.1
     (subst (λ (i : ℕ). Adds a.ears.now l.ears (heard_to S a.words.now i)) (e ∙ sym (branches-are a.table.now c.requires.0.accepted)) l.invariant.0)

@@ -7,13 +7,13 @@ use Rattle.places.proofs.rounds.own.Goals.{then-is_source, else-is_source}
 use Rattle.places.proofs.rounds.own.Goals.{At-loop-x}
 use Rattle.places.proofs.rounds.own.Goals as goal
 
-few : (c : At-loop-x) → c.word16.result + c.word16-2.result ≤ 64
+few : (c : At-loop-x) → c.word.result + c.word-2.result ≤ 64
 few c =
-    omega (arith, (let names-are : c.word16.result + c.word16-2.result ≡ names c.args.table.now = omega (arith, c.word16.ensures.is, c.word16-2.ensures.is) in names-are), few-publics c.args.table.now c.requires.0, few-bounds c.args.table.now c.requires.0)
+    omega (arith, (let names-are : c.word.result + c.word-2.result ≡ names c.args.table.now = omega (arith, c.word.ensures.is, c.word-2.ensures.is) in names-are), few-publics c.args.table.now c.requires.0, few-bounds c.args.table.now c.requires.0)
 
 -- the names that are looked at
-names-are : (c : At-loop-x) → c.word16.result + c.word16-2.result ≡ names c.args.table.now
-names-are c = omega (arith, c.word16.ensures.is, c.word16-2.ensures.is)
+names-are : (c : At-loop-x) → c.word.result + c.word-2.result ≡ names c.args.table.now
+names-are c = omega (arith, c.word.ensures.is, c.word-2.ensures.is)
 
 pub loop-x-init : goal.loop-x-init
 loop-x-init c =

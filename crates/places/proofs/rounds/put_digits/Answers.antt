@@ -15,7 +15,7 @@ pub loop-x-preserved : goal.loop-x-preserved
 loop-x-preserved c =
     let a = c.args in
     let l = c.loop-x in
-    let u = c.store32.ensures in (
+    let u = c.store.ensures in (
       u ∙ store-more (λ x. word a.words.now x / 2 ^ a.first % 2 ^ a.size) a.index.now a.at l.x l.index l.invariant.0 _
           (rw (l.invariant.3, c.word64.ensures)),
       omega (arith, c.loop-x-test.true),

@@ -31,5 +31,5 @@ pub returns : goal.returns
 returns c =
     let l = c.loop-s in
     let a = c.args in
-    let e : l.s ≡ branches a.table.now = omega (arith, l.invariant.1, c.loop-s-test.false, c.word16-branches.ensures.is) in
+    let e : l.s ≡ branches a.table.now = omega (arith, l.invariant.1, c.loop-s-test.false, c.word-branches.ensures.is) in
     all_said a.table.now c.requires.accepted a.ears.now a.words.now l.words l.grew l.s e l.invariant.0

@@ -5,12 +5,12 @@ use Rattle.process.proofs.formed.is_restricted.Goals as goal
 
 pub returns-then-name-publics : goal.returns-then-name-publics
 unfolding scheme
-returns-then-name-publics c = rw (← c.word16-publics.ensures.is, lt-leb _ _ c.if-name-publics.true)
+returns-then-name-publics c = rw (← c.word-publics.ensures.is, lt-leb _ _ c.if-name-publics.true)
 
 pub returns-then-name-publics-2 : goal.returns-then-name-publics-2
 unfolding scheme same
-returns-then-name-publics-2 c = rw (← c.word16-publics.ensures.is, le-leb _ _ c.if-name-publics.false, ← c.word16.ensures.is, lt-ltb _ _ c.if-name-publics-2.true, c.name_kind.ensures.is, ← c.word16-publics.ensures.is)
+returns-then-name-publics-2 c = rw (← c.word-publics.ensures.is, le-leb _ _ c.if-name-publics.false, ← c.word.ensures.is, lt-ltb _ _ c.if-name-publics-2.true, c.name_kind.ensures.is, ← c.word-publics.ensures.is)
 
 pub returns : goal.returns
 unfolding scheme
-returns c = rw (← c.word16-publics.ensures.is, le-leb _ _ c.if-name-publics.false, ← c.word16.ensures.is, le-ltb _ _ c.if-name-publics-2.false)
+returns c = rw (← c.word-publics.ensures.is, le-leb _ _ c.if-name-publics.false, ← c.word.ensures.is, le-ltb _ _ c.if-name-publics-2.false)

@@ -16,6 +16,6 @@ returns-then-not-held c =
 pub returns : goal.returns
 unfolding scheme
 returns c =
-    rw (c.word16.ensures.is, c.word16-2.ensures.is)
+    rw (c.word.ensures.is, c.word-2.ensures.is)
     (name-there (scheme c.args.table.now) (state_of (scheme c.args.table.now) c.args.state.now) c.args.name
     c.value_of-value.result c.is_held-held.result c.value_of-value.ensures.is c.is_held-held.ensures c.if-value-eq65535.false c.if-not-held.false)

@@ -5,10 +5,10 @@ use Rattle.scheme.specs.Scheme.{scheme}
 use Rattle.process.proofs.Forming.{restricted-public, restricted-private}
 use Rattle.process.proofs.formed.restricted_right.Goals as goal
 
-pub returns-then-value_of-word16 : goal.returns-then-value_of-word16
+pub returns-then-value_of-word : goal.returns-then-value_of-word
 unfolding scheme
-returns-then-value_of-word16 c = restricted-public (scheme c.args.table.now) (state_of (scheme c.args.table.now) c.args.state.now) c.args.name c.value_of.result c.value_of.ensures.is (sym c.is_restricted.ensures ∙ c.if-not-is_restricted.false) (omega (arith, c.word16.ensures.is, c.if-value_of-word16.true)) (omega (arith, c.word16.ensures.is, c.word16.ensures.small))
+returns-then-value_of-word c = restricted-public (scheme c.args.table.now) (state_of (scheme c.args.table.now) c.args.state.now) c.args.name c.value_of.result c.value_of.ensures.is (sym c.is_restricted.ensures ∙ c.if-not-is_restricted.false) (omega (arith, c.word.ensures.is, c.if-value_of-word.true)) (omega (arith, c.word.ensures.is, c.word.ensures.small))
 
 pub returns : goal.returns
 unfolding scheme
-returns c = c.is_unshared.ensures ∙ restricted-private (scheme c.args.table.now) (state_of (scheme c.args.table.now) c.args.state.now) c.args.name c.value_of.result c.value_of.ensures.is (sym c.is_restricted.ensures ∙ c.if-not-is_restricted.false) (omega (arith, c.word16.ensures.is, c.if-value_of-word16.false))
+returns c = c.is_unshared.ensures ∙ restricted-private (scheme c.args.table.now) (state_of (scheme c.args.table.now) c.args.state.now) c.args.name c.value_of.result c.value_of.ensures.is (sym c.is_restricted.ensures ∙ c.if-not-is_restricted.false) (omega (arith, c.word.ensures.is, c.if-value_of-word.false))

@@ -8,18 +8,18 @@ use Rattle.lists.proofs.Tests.{same-yes, same-no}
 use Rattle.table.proofs.Accepted.{accepted}
 use Rattle.process.proofs.formed.well_formed.Goals as goal
 
-pub returns-then-state-word16 : goal.returns-then-state-word16
+pub returns-then-state-word : goal.returns-then-state-word
 unfolding is_well_formed scheme
-returns-then-state-word16 c =
+returns-then-state-word c =
     rw (same-no (length c.args.state.now) (word c.args.table.now 3 + word c.args.table.now 1)
-    (λ e. c.if-state-word16.true (e ∙ rw (c.word16.ensures.is, c.word16-2.ensures.is))))
+    (λ e. c.if-state-word.true (e ∙ rw (c.word.ensures.is, c.word-2.ensures.is))))
 
 pub returns-then-not-nodes_right : goal.returns-then-not-nodes_right
 unfolding is_well_formed scheme
 returns-then-not-nodes_right c =
     rw (
       same-yes (length c.args.state.now) (word c.args.table.now 3 + word c.args.table.now 1)
-          (c.if-state-word16.false ∙ rw (c.word16.ensures.is, c.word16-2.ensures.is)),
+          (c.if-state-word.false ∙ rw (c.word.ensures.is, c.word-2.ensures.is)),
       sym c.nodes_right.ensures ∙ c.if-not-nodes_right.true,
     )
 
@@ -28,7 +28,7 @@ unfolding is_well_formed scheme
 returns-then-not-names_right c =
     rw (
       same-yes (length c.args.state.now) (word c.args.table.now 3 + word c.args.table.now 1)
-          (c.if-state-word16.false ∙ rw (c.word16.ensures.is, c.word16-2.ensures.is)),
+          (c.if-state-word.false ∙ rw (c.word.ensures.is, c.word-2.ensures.is)),
       sym c.nodes_right.ensures ∙ c.if-not-nodes_right.false,
       sym c.names_right.ensures ∙ c.if-not-names_right.true,
     )
@@ -37,7 +37,7 @@ pub is_numbered-requires : goal.is_numbered-requires
 unfolding scheme
 is_numbered-requires c =
     record {
-      size = c.if-state-word16.false ∙ rw (c.word16.ensures.is, c.word16-2.ensures.is);
+      size = c.if-state-word.false ∙ rw (c.word.ensures.is, c.word-2.ensures.is);
       few-publics = (accepted _ c.requires.accepted).few-publics;
       few-bounds = (accepted _ c.requires.accepted).few-bounds;
     }
@@ -47,7 +47,7 @@ unfolding is_well_formed scheme
 returns-then-not-is_numbered c =
     rw (
       same-yes (length c.args.state.now) (word c.args.table.now 3 + word c.args.table.now 1)
-          (c.if-state-word16.false ∙ rw (c.word16.ensures.is, c.word16-2.ensures.is)),
+          (c.if-state-word.false ∙ rw (c.word.ensures.is, c.word-2.ensures.is)),
       sym c.nodes_right.ensures ∙ c.if-not-nodes_right.false,
       sym c.names_right.ensures ∙ c.if-not-names_right.false,
       sym c.is_numbered.ensures ∙ c.if-not-is_numbered.true,
@@ -58,7 +58,7 @@ unfolding is_well_formed scheme
 returns c =
     rw (
       same-yes (length c.args.state.now) (word c.args.table.now 3 + word c.args.table.now 1)
-          (c.if-state-word16.false ∙ rw (c.word16.ensures.is, c.word16-2.ensures.is)),
+          (c.if-state-word.false ∙ rw (c.word.ensures.is, c.word-2.ensures.is)),
       sym c.nodes_right.ensures ∙ c.if-not-nodes_right.false,
       sym c.names_right.ensures ∙ c.if-not-names_right.false,
       sym c.is_numbered.ensures ∙ c.if-not-is_numbered.false,

@@ -4,4 +4,4 @@ use Rattle.process.proofs.labels.stands.Goals as goal
 
 pub returns : goal.returns
 unfolding state_of same
-returns c = rw (← c.node_thread-thread.ensures.is, ← c.word16.ensures.is)
+returns c = rw (← c.node_thread-thread.ensures.is, ← c.word.ensures.is)

@@ -27,4 +27,4 @@ returns c =
     let s = state_of (scheme w) a.state.now in
     left_end _ _ _ _ _ _ l.invariant.0 _
     (flat-done (standing w s a.kind) l.b _ c.loop-b-test.false)
-    (omega (arith, l.invariant.1, l.invariant.2, c.word16-branches.ensures.is))
+    (omega (arith, l.invariant.1, l.invariant.2, c.word-branches.ensures.is))

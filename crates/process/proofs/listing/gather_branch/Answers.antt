@@ -30,4 +30,4 @@ returns c =
     let h = stand-there (scheme w) s _ _ _ c.home.ensures c.stands.ensures in
     rw (standing-there w s a.kind a.branch (sym c.branch_is.ensures ∙ c.if-not-branch_is.false)
     (sym h ∙ c.if-not-stands.false))
-    (one-listed _ _ _ _ c.store32.ensures)
+    (one-listed _ _ _ _ c.store.ensures)

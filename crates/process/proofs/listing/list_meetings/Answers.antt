@@ -18,7 +18,7 @@ loop-i-preserved c =
     let r = c.list_pairs-next in (
       left-more _ _ _ _ _ _ l.invariant.0 _ _ _ _ _
           (slice-more (pairs_words (scheme w) s a.receives.now) a.sends.now l.i _
-          c.word32-send.result c.word32-send.ensures.is c.loop-i-test.true (omega arith)) r.ensures,
+          c.word-send.result c.word-send.ensures.is c.loop-i-test.true (omega arith)) r.ensures,
       omega (arith, l.invariant.1, r.ensures.few),
       omega (arith, c.loop-i-test.true),
     )

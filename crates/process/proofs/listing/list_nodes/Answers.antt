@@ -27,4 +27,4 @@ returns c =
     let s = state_of (scheme w) a.state.now in
     left_end _ _ _ _ _ _ l.invariant.0 _
     (flat-done (node_words (scheme w) s) l.n _ c.loop-n-test.false)
-    (omega (arith, l.invariant.1, l.invariant.2, c.word16-nodes.ensures.small))
+    (omega (arith, l.invariant.1, l.invariant.2, c.word-nodes.ensures.small))

@@ -18,7 +18,7 @@ loop-i-preserved c =
     let r = c.list_pair-next in (
       left-more _ _ _ _ _ _ l.invariant.0 _ _ _ _ _
           (slice-more (pair_words (scheme w) s a.send) a.receives.now l.i _
-          c.word32-receive.result c.word32-receive.ensures.is c.loop-i-test.true (omega arith)) r.ensures,
+          c.word-receive.result c.word-receive.ensures.is c.loop-i-test.true (omega arith)) r.ensures,
       omega (arith, l.invariant.1, r.ensures.few),
       omega (arith, c.loop-i-test.true),
     )

@@ -9,7 +9,7 @@ returns-then-ends c =
 pub returns-then-name-field3 : goal.returns-then-name-field3
 returns-then-name-field3 c =
     new-takes _ _ _ _ _ _ _ c.requires c.node_thread-thread.ensures.is c.field3.ensures.is _ _ (sym c.ends.ensures ∙ c.if-ends.false)
-    c.field3-2.ensures.is c.if-name-field3.true (rw (c.word16.ensures.is, c.word16-then-name-field3.ensures.is))
+    c.field3-2.ensures.is c.if-name-field3.true (rw (c.word.ensures.is, c.word-then-name-field3.ensures.is))
 
 pub returns : goal.returns
 returns c =

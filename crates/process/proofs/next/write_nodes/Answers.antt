@@ -10,7 +10,7 @@ use Rattle.process.proofs.next.write_nodes.Goals as goal
 pub loop-t-preserved : goal.loop-t-preserved
 loop-t-preserved c =
     let l = c.loop-t in
-    let s = c.store16 in (
+    let s = c.store in (
       l.invariant.0 ∙ sets-map-more
           (take (scheme c.args.table.now) (meant c.args.step) (state_of (scheme c.args.table.now) c.args.state.now)).node
           l.out l.t l.t _ c.loop-t-test.true ∙ rw (

@@ -2,6 +2,6 @@ use borrow.Author.Tests.{lt-ltb}
 use Rattle.lists.specs.Lists.{same}
 use Rattle.process.proofs.threads.node_is.Goals as goal
 
-pub returns-then-node-word16 : goal.returns-then-node-word16
+pub returns-then-node-word : goal.returns-then-node-word
 unfolding same
-returns-then-node-word16 c = rw (← c.word16.ensures.is, lt-ltb _ _ c.if-node-word16.true, ← c.field3.ensures.is)
+returns-then-node-word c = rw (← c.word.ensures.is, lt-ltb _ _ c.if-node-word.true, ← c.field3.ensures.is)

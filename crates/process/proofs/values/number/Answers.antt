@@ -9,7 +9,7 @@ pub returns-then-value-publics : goal.returns-then-value-publics
 returns-then-value-publics c = turn-public _ _ _ _ c.requires c.if-value-eq65535.false c.if-value-publics.true
 
 pub returns-then-place-count : goal.returns-then-place-count
-returns-then-place-count c = rw c.store16.ensures (turn-new _ _ _ _ c.requires c.if-value-eq65535.false _ c.if-value-publics.false c.place_of-place.ensures c.if-place-count.true)
+returns-then-place-count c = rw c.store.ensures (turn-new _ _ _ _ c.requires c.if-value-eq65535.false _ c.if-value-publics.false c.place_of-place.ensures c.if-place-count.true)
 
 pub overflow_add-result-2 : goal.overflow_add-result-2
 overflow_add-result-2 c = omega (arith, c.requires.few, c.requires.few-seen, place-few _ _ _ _ c.requires c.if-value-eq65535.false _ c.if-value-publics.false c.place_of-place.ensures)

@@ -3,4 +3,4 @@ use Rattle.readback.proofs.found.is_marked.Goals as goal
 
 pub returns : goal.returns
 unfolding same
-returns c = rw (← c.word8.ensures.is)
+returns c = rw (← c.word.ensures.is)

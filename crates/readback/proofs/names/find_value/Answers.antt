@@ -17,12 +17,12 @@ find-f-requires c = (
   ),
 )
 
-pub returns-then-f-word8 : goal.returns-then-f-word8
-returns-then-f-word8 c = (
+pub returns-then-f-word : goal.returns-then-f-word
+returns-then-f-word c = (
   not_right c.args.table.now c.args.index.now c.args.marking.now c.args.held.now c.requires.0 c.args.name c.requires.1
       c.reach_of-reach.result c.reach_of-reach.ensures c.publics_of.result c.privates_of.result c.publics_of.ensures.0
-      c.privates_of.ensures c.args.row c.requires.2 c.find-f.result c.find-f.ensures c.word8.result
-      c.word8.ensures.is c.if-f-word8.true,
+      c.privates_of.ensures c.args.row c.requires.2 c.find-f.result c.find-f.ensures c.word.result
+      c.word.ensures.is c.if-f-word.true,
   λ e. absurd (false≢true e),
 )
 
@@ -30,13 +30,13 @@ pub returns-then-f-eq0 : goal.returns-then-f-eq0
 returns-then-f-eq0 c = (
   is_right c.args.table.now c.args.index.now c.args.marking.now c.args.held.now c.requires.0 c.args.name c.requires.1
       c.reach_of-reach.result c.reach_of-reach.ensures c.publics_of.result c.privates_of.result c.publics_of.ensures.0
-      c.privates_of.ensures c.args.row c.requires.2 c.find-f.result c.find-f.ensures c.word8.result
-      c.word8.ensures.is c.if-f-word8.false,
+      c.privates_of.ensures c.args.row c.requires.2 c.find-f.result c.find-f.ensures c.word.result
+      c.word.ensures.is c.if-f-word.false,
   λ e. fill_none c.args.table.now c.args.index.now c.args.marking.now c.args.held.now c.requires.0 c.args.name
       c.requires.1
       c.reach_of-reach.result c.reach_of-reach.ensures c.publics_of.result c.privates_of.result c.publics_of.ensures.0
       c.privates_of.ensures c.args.row c.requires.2 c.find-f.result c.find-f.ensures _ _ c.if-f-eq0.true
-      c.store16.ensures,
+      c.store.ensures,
 )
 
 pub value_at-requires : goal.value_at-requires
@@ -61,11 +61,11 @@ pub returns : goal.returns
 returns c = (
   is_right c.args.table.now c.args.index.now c.args.marking.now c.args.held.now c.requires.0 c.args.name c.requires.1
       c.reach_of-reach.result c.reach_of-reach.ensures c.publics_of.result c.privates_of.result c.publics_of.ensures.0
-      c.privates_of.ensures c.args.row c.requires.2 c.find-f.result c.find-f.ensures c.word8.result
-      c.word8.ensures.is c.if-f-word8.false,
+      c.privates_of.ensures c.args.row c.requires.2 c.find-f.result c.find-f.ensures c.word.result
+      c.word.ensures.is c.if-f-word.false,
   λ e. fill-some c.args.table.now c.args.index.now c.args.marking.now c.args.held.now c.requires.0 c.args.name
       c.requires.1
       c.reach_of-reach.result c.reach_of-reach.ensures c.publics_of.result c.privates_of.result c.publics_of.ensures.0
       c.privates_of.ensures c.args.row c.requires.2 c.find-f.result c.find-f.ensures c.value_at.result
-      c.value_at.ensures _ _ c.if-f-eq0.false c.store16-2.ensures,
+      c.value_at.ensures _ _ c.if-f-eq0.false c.store-2.ensures,
 )

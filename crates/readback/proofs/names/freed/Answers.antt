@@ -17,8 +17,8 @@ told : (c : After-private_value-n) →
     ((k : ℕ) → k < privates_word w → holds_at (scheme w) c.args.marking.now k c.loop-x.x ≡ same c.private_value-n.result k)
     × (c.private_value-n.result < 64 → c.private_value-n.result < privates_word w)
 told c =
-    let nm = is_name c.args.table.now c.args.marking.now c.word16-publics.result c.word16.result c.word16-publics.ensures.is
-    c.word16.ensures.is c.loop-x.x c.loop-x.invariant.1 c.loop-x-test.true in (
+    let nm = is_name c.args.table.now c.args.marking.now c.word-publics.result c.word.result c.word-publics.ensures.is
+    c.word.ensures.is c.loop-x.x c.loop-x.invariant.1 c.loop-x-test.true in (
       taken c.args.table.now c.args.marking.now c.args.values.now c.requires.0.accepted c.requires.1 c.loop-x.x nm
           c.private_value-n.result c.private_value-n.ensures,
       taken-inside c.args.table.now c.args.marking.now c.args.values.now c.requires.0.accepted c.requires.1 c.loop-x.x nm
@@ -31,15 +31,15 @@ free_values-set-requires c =
 
 pub loop-x-init : goal.loop-x-init
 loop-x-init c = (
-  counting-start c.args.table.now c.args.index.now c.args.marking.now c.requires.0 c.word16-publics.result c.word16.result
-      c.word16-publics.ensures.is c.word16.ensures.is c.free_values-set.result c.free_values-set.ensures,
+  counting-start c.args.table.now c.args.index.now c.args.marking.now c.requires.0 c.word-publics.result c.word.result
+      c.word-publics.ensures.is c.word.ensures.is c.free_values-set.result c.free_values-set.ensures,
   omega arith,
 )
 
 pub private_value-n-requires : goal.private_value-n-requires
 private_value-n-requires c =
-    let nm = is_name c.args.table.now c.args.marking.now c.word16-publics.result c.word16.result c.word16-publics.ensures.is
-    c.word16.ensures.is c.loop-x.x c.loop-x.invariant.1 c.loop-x-test.true in (
+    let nm = is_name c.args.table.now c.args.marking.now c.word-publics.result c.word.result c.word-publics.ensures.is
+    c.word.ensures.is c.loop-x.x c.loop-x.invariant.1 c.loop-x-test.true in (
       nm,
       private-word c.args.table.now c.args.marking.now c.args.values.now c.requires.0.accepted c.requires.1 c.loop-x.x nm,
     )

@@ -16,23 +16,23 @@ on : (c : After-row_places-row) →
     (c.loop-x.row + c.row_places-row.result ≡ row_of w (c.loop-x.x + 1)) × (row_of w (c.loop-x.x + 1) ≤ 3072)
 on c =
     let l = c.loop-x in
-    row_on c.args.table.now c.args.index.now c.requires c.word16-publics.result c.word16.result c.word16-publics.ensures.is
-    c.word16.ensures.is l.x l.row c.row_places-row.result l.invariant.1 c.loop-x-test.true l.invariant.2
+    row_on c.args.table.now c.args.index.now c.requires c.word-publics.result c.word.result c.word-publics.ensures.is
+    c.word.ensures.is l.x l.row c.row_places-row.result l.invariant.1 c.loop-x-test.true l.invariant.2
     c.row_places-row.ensures
 
 pub loop-x-init : goal.loop-x-init
 loop-x-init c = (
-  opposed-start c.args.table.now c.args.marking.now c.word16-publics.result c.word16.result c.word16-publics.ensures.is
-      c.word16.ensures.is,
+  opposed-start c.args.table.now c.args.marking.now c.word-publics.result c.word.result c.word-publics.ensures.is
+      c.word.ensures.is,
   omega arith,
-  sym (row-none c.args.table.now c.word16-publics.result (omega (arith, c.word16-publics.ensures.is))),
+  sym (row-none c.args.table.now c.word-publics.result (omega (arith, c.word-publics.ensures.is))),
 )
 
 pub returns-then-not-opposed_for : goal.returns-then-not-opposed_for
 returns-then-not-opposed_for c =
     let l = c.loop-x in
     sym (l.invariant.0 ∙ every-stop (is_opposed_for (scheme c.args.table.now) c.args.marking.now) l.x
-    (c.word16-publics.result + c.word16.result) c.loop-x-test.true
+    (c.word-publics.result + c.word.result) c.loop-x-test.true
     (sym c.opposed_for.ensures ∙ c.if-not-opposed_for.true))
 
 pub overflow_add-row : goal.overflow_add-row
@@ -46,7 +46,7 @@ pub loop-x-preserved : goal.loop-x-preserved
 loop-x-preserved c =
     let l = c.loop-x in (
       l.invariant.0 ∙ every_more (is_opposed_for (scheme c.args.table.now) c.args.marking.now) l.x
-          (c.word16-publics.result + c.word16.result) c.loop-x-test.true
+          (c.word-publics.result + c.word.result) c.loop-x-test.true
           (sym c.opposed_for.ensures ∙ c.if-not-opposed_for.false),
       omega (arith, l.invariant.1),
       ((on (goal.at.loop-x-preserved c).After-row_places-row)).0,
@@ -56,4 +56,4 @@ pub returns : goal.returns
 returns c =
     let l = c.loop-x in
     sym (l.invariant.0 ∙ every-done (is_opposed_for (scheme c.args.table.now) c.args.marking.now) l.x
-    (c.word16-publics.result + c.word16.result) c.loop-x-test.false)
+    (c.word-publics.result + c.word.result) c.loop-x-test.false)

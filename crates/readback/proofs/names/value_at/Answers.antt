@@ -18,5 +18,5 @@ returns c =
     let a = c.args in
     let p = publics a.table.now in
     λ n l.
-    ap (λ (q : ℕ). q + (a.k - c.publics_of-count.result)) c.word16-publics.ensures.is
+    ap (λ (q : ℕ). q + (a.k - c.publics_of-count.result)) c.word-publics.ensures.is
     ∙ ap (λ (q : ℕ). p + (a.k - q)) c.publics_of-count.ensures.0 ∙ reached-high p n a.reach a.k (rw c.publics_of-count.ensures.0 at c.if-k-count.false) l

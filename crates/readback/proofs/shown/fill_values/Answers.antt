@@ -12,7 +12,7 @@ loop-i-init c = (
   fill_none (shown_value c.args.table.now
       c.args.nodes.now
       c.args.indexes.now
-      c.args.values.now) c.word16-publics.result,
+      c.args.values.now) c.word-publics.result,
   (refl, omega arith),
 )
 
@@ -20,18 +20,18 @@ pub loop-i-preserved : goal.loop-i-preserved
 loop-i-preserved c =
     let a = c.args in
     let l = c.loop-i in
-    let u = c.store16 in
+    let u = c.store in
     let k : l.i < length l.list = omega (
       arith,
       l.invariant.1.0,
       c.requires.2,
-      c.word16-bounds.ensures.is,
+      c.word-bounds.ensures.is,
       few-bounds _
           c.requires.0.accepted,
       c.loop-i-test.true,
     ) in (
       rw u.ensures (fill_more (shown_value a.table.now a.nodes.now a.indexes.now a.values.now)
-          c.word16-publics.result l.i c.name_value.result l.list k
+          c.word-publics.result l.i c.name_value.result l.list k
           c.name_value.ensures.is l.invariant.0),
       (
         rw u.ensures (length-set l.list l.i

@@ -12,6 +12,6 @@ returns c =
     value-word c.args.table.now c.args.values.now
     c.args.name _ c.if-name-eq65535.false (omega (
       arith,
-      c.word16.ensures.is,
-      c.if-name-word16.false,
-    )) c.word16-2.ensures.is c.word16-2.ensures.small
+      c.word.ensures.is,
+      c.if-name-word.false,
+    )) c.word-2.ensures.is c.word-2.ensures.small

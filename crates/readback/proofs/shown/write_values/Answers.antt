@@ -8,14 +8,14 @@ use Rattle.readback.proofs.shown.write_values.Goals as goal
 pub returns : goal.returns
 returns c =
     let ok = c.requires.0.accepted in
-    let p = c.word16-publics.ensures.is in
-    let b = c.word16-bounds.ensures.is in
-    let t = c.word16-threads.ensures.is in
+    let p = c.word-publics.ensures.is in
+    let b = c.word-bounds.ensures.is in
+    let t = c.word-threads.ensures.is in
     c.write_numbered.ensures.words ∙
     rw (
-      le-leb c.word16-publics.result 32 (omega (arith, p, few-publics _ ok)),
-      le-leb c.word16-bounds.result 32 (omega (arith, b, few-bounds _ ok)),
-      le-leb c.word16-bounds.result (length c.fill_values.new.list)
+      le-leb c.word-publics.result 32 (omega (arith, p, few-publics _ ok)),
+      le-leb c.word-bounds.result 32 (omega (arith, b, few-bounds _ ok)),
+      le-leb c.word-bounds.result (length c.fill_values.new.list)
           (omega (arith, b, few-bounds _ ok, c.list-2-1.given)),
       p,
       b,

@@ -24,7 +24,7 @@ overflow_add-before c =
       arith,
       sum-small _ _ _ _ _ _ _ c.requires _ _ c.find-f.result c.node_start-start.ensures.is c.node_start.ensures.is
           c.find-f.ensures _ c.node_thread-thread.ensures.is
-          _ c.word32-before.ensures.is,
+          _ c.word-before.ensures.is,
     )
 
 pub overflow_cast-before : goal.overflow_cast-before
@@ -33,15 +33,15 @@ overflow_cast-before c =
       arith,
       sum-small _ _ _ _ _ _ _ c.requires _ _ c.find-f.result c.node_start-start.ensures.is c.node_start.ensures.is
           c.find-f.ensures _ c.node_thread-thread.ensures.is
-          _ c.word32-before.ensures.is,
+          _ c.word-before.ensures.is,
     )
 
 pub returns-then-before-ne0 : goal.returns-then-before-ne0
 returns-then-before-ne0 c =
-    rw c.store32.ensures
+    rw c.store.ensures
     (note-later _ _ _ _ _ _ _ c.requires _ _ c.find-f.result c.node_start-start.ensures.is c.node_start.ensures.is
     c.find-f.ensures _ c.node_thread-thread.ensures.is
-    _ c.word32-before.ensures.is c.if-before-ne0.true)
+    _ c.word-before.ensures.is c.if-before-ne0.true)
 
 pub overflow_cast-f : goal.overflow_cast-f
 overflow_cast-f c =
@@ -53,7 +53,7 @@ overflow_cast-f c =
 
 pub returns : goal.returns
 returns c =
-    rw (c.store32.ensures, c.store32-2.ensures, c.store32-3.ensures)
+    rw (c.store.ensures, c.store-2.ensures, c.store-3.ensures)
     (note-first _ _ _ _ _ _ _ c.requires _ _ c.find-f.result c.node_start-start.ensures.is c.node_start.ensures.is
     c.find-f.ensures _ c.node_thread-thread.ensures.is
-    _ c.word32-before.ensures.is c.if-before-ne0.false c.if-f-eq0.false)
+    _ c.word-before.ensures.is c.if-before-ne0.false c.if-f-eq0.false)

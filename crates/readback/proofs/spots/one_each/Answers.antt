@@ -4,19 +4,19 @@ use Rattle.lists.proofs.Tests.{same-yes, same-no}
 use Rattle.lists.proofs.Ranges.{every_more, every-stop, every-done}
 use Rattle.readback.proofs.spots.one_each.Goals as goal
 
-pub returns-then-word32-ne-MARKED : goal.returns-then-word32-ne-MARKED
-returns-then-word32-ne-MARKED c =
+pub returns-then-word-ne-MARKED : goal.returns-then-word-ne-MARKED
+returns-then-word-ne-MARKED c =
     let a = c.args in
     let l = c.loop-t in
     sym (l.invariant ∙ every-stop (λ k. same (word a.counts.now k) 1) l.t a.threads c.loop-t-test.true
-    (same-no (word a.counts.now l.t) 1 (λ q. c.if-word32-ne-MARKED.true (c.word32.ensures.is ∙ q))))
+    (same-no (word a.counts.now l.t) 1 (λ q. c.if-word-ne-MARKED.true (c.word.ensures.is ∙ q))))
 
 pub loop-t-preserved : goal.loop-t-preserved
 loop-t-preserved c =
     let a = c.args in
     let l = c.loop-t in
     l.invariant ∙ every_more (λ k. same (word a.counts.now k) 1) l.t a.threads c.loop-t-test.true
-    (same-yes (word a.counts.now l.t) 1 (sym c.word32.ensures.is ∙ c.if-word32-ne-MARKED.false))
+    (same-yes (word a.counts.now l.t) 1 (sym c.word.ensures.is ∙ c.if-word-ne-MARKED.false))
 
 pub returns : goal.returns
 returns c =

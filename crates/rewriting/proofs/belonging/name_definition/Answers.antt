@@ -4,7 +4,7 @@ use Rattle.rewriting.proofs.belonging.name_definition.Goals as goal
 
 pub returns-then-binder-lt65536 : goal.returns-then-binder-lt65536
 unfolding binder_definition_in
-returns-then-binder-lt65536 c = rw (← c.binder-binder.ensures.is, lt-ltb _ _ c.if-binder-lt65536.true) c.word16.ensures.is
+returns-then-binder-lt65536 c = rw (← c.binder-binder.ensures.is, lt-ltb _ _ c.if-binder-lt65536.true) c.word.ensures.is
 
 pub returns-then-binder-lt131072 : goal.returns-then-binder-lt131072
 unfolding binder_definition_in

@@ -25,7 +25,7 @@ loop-x-preserved c =
     let w = c.args.table.now in
     let few = counted w (sound w p.0.ok).counts in
     let u : l.x < names w = omega (arith, v.1, c.loop-x-test.true) in
-    let s = c.store32.ensures in (
+    let s = c.store.ensures in (
       set_long l.out _ l.x c.name_definition-d.result s ∙ v.0,
       v.1,
       omega (arith, v.2),

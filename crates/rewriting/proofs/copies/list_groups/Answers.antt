@@ -17,7 +17,7 @@ loop-k-preserved c =
     let t = c.loop-k-test.true in (
       left-more _ _ _ _ _ _ v.0 _ _ _ _ _
           (slice-more (grouped a.of.now (from a.first (a.end - a.first))) a.out.now l.k a.groups
-          c.word32-group.result (c.word32-group.ensures.is ∙ v.4 l.k (omega (arith, t, p.1))) t p.2) r.ensures,
+          c.word-group.result (c.word-group.ensures.is ∙ v.4 l.k (omega (arith, t, p.1))) t p.2) r.ensures,
       omega (arith, v.1, r.ensures.few),
       omega (arith, t),
       omega (arith, v.3, r.ensures.next),

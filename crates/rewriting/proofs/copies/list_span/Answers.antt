@@ -15,7 +15,7 @@ pub loop-i-preserved : goal.loop-i-preserved
 loop-i-preserved c =
     let a = c.args in
     let l = c.loop-i in (
-      left-image (λ k. a.first + k) _ _ _ a.at a.count _ _ l.i c.loop-i-test.true l.invariant.0 c.store32.ensures,
+      left-image (λ k. a.first + k) _ _ _ a.at a.count _ _ l.i c.loop-i-test.true l.invariant.0 c.store.ensures,
       omega (arith, c.loop-i-test.true),
     )
 

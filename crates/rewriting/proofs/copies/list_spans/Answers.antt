@@ -18,7 +18,7 @@ loop-k-preserved c =
     let n = c.span_count-count.ensures.is in (
       left-more _ _ _ _ _ _ v.0 _ _ _ _ _
           (row_more (span_of a.table.now a.source) a.out.now 512 a.nodes l.k
-          c.word32-node.result (c.word32-node.ensures.is ∙ v.4 (512 + l.k) (omega (arith, t, p.0))) t p.1) (rw (s, n) at r.ensures),
+          c.word-node.result (c.word-node.ensures.is ∙ v.4 (512 + l.k) (omega (arith, t, p.0))) t p.1) (rw (s, n) at r.ensures),
       omega (arith, v.1, r.ensures.few),
       omega (arith, t),
       omega (arith, v.3, r.ensures.next),

@@ -8,7 +8,7 @@ use Rattle.rewriting.proofs.copies.mark_callers.Goals as goal
 
 pub loop-n-init : goal.loop-n-init
 unfolding called_by_itself some from
-loop-n-init c = (c.word16-nodes.ensures.is, refl, omega arith, λ d l. refl)
+loop-n-init c = (c.word-nodes.ensures.is, refl, omega arith, λ d l. refl)
 
 pub loop-n-preserved : goal.loop-n-preserved
 loop-n-preserved c =

@@ -3,4 +3,4 @@ use Rattle.rewriting.proofs.numbering.copy_name.Goals as goal
 
 pub returns : goal.returns
 returns c =
-    name-number _ _ c.requires _ _ _ _ c.word16-publics.ensures.is c.word16.ensures.is c.if-name-publics.false c.place.ensures.0
+    name-number _ _ c.requires _ _ _ _ c.word-publics.ensures.is c.word.ensures.is c.if-name-publics.false c.place.ensures.0

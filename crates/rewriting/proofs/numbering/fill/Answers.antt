@@ -7,6 +7,6 @@ pub loop-i-preserved : goal.loop-i-preserved
 loop-i-preserved c =
     let a = c.args in
     let l = c.loop-i in (
-      l.invariant.0 ∙ fill_more _ _ a.v a.at l.i a.count c.loop-i-test.true c.store32.ensures,
-      set_long l.out _ (a.at + l.i) a.v c.store32.ensures ∙ l.invariant.1,
+      l.invariant.0 ∙ fill_more _ _ a.v a.at l.i a.count c.loop-i-test.true c.store.ensures,
+      set_long l.out _ (a.at + l.i) a.v c.store.ensures ∙ l.invariant.1,
     )

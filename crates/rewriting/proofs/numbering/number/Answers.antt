@@ -27,13 +27,13 @@ loop-i-preserved c =
     let d : l.i ≡ suc (l.i - 1) = omega (arith, t) in
     let b : l.i - 1 < a.count = omega (arith, t, v.1) in
     let r : a.at + 257 ≤ length l.out = omega (arith, p.room, v.0, filled-long a.out.now _ a.at a.count c.fill.ensures) in
-    let s = c.store32.ensures in (
-      set_long l.out _ (a.at + c.word32.result) (l.i - 1) s ∙ v.0,
+    let s = c.store.ensures in (
+      set_long l.out _ (a.at + c.word.result) (l.i - 1) s ∙ v.0,
       omega (arith, v.1),
-      λ x h. place-turn a.list.now l.out _ a.first a.count a.at l.i (l.i - 1) c.word32.result d b p.reach
-          c.word32.ensures.is p.small r s x (v.2 x h),
-      λ k o. others-turn a.list.now l.out _ a.first a.count a.at l.i (l.i - 1) c.word32.result d b p.reach
-          c.word32.ensures.is p.small r s k o ∙ v.3 k o,
+      λ x h. place-turn a.list.now l.out _ a.first a.count a.at l.i (l.i - 1) c.word.result d b p.reach
+          c.word.ensures.is p.small r s x (v.2 x h),
+      λ k o. others-turn a.list.now l.out _ a.first a.count a.at l.i (l.i - 1) c.word.result d b p.reach
+          c.word.ensures.is p.small r s k o ∙ v.3 k o,
     )
 
 pub returns : goal.returns

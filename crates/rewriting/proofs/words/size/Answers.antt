@@ -3,4 +3,4 @@ use Rattle.rewriting.proofs.words.size.Goals as goal
 
 pub returns : goal.returns
 unfolding size_with
-returns c = rw (← c.word16.ensures.is)
+returns c = rw (← c.word.ensures.is)

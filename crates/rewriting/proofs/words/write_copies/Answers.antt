@@ -11,7 +11,7 @@ loop-k-preserved c =
     let r = c.write_copy-next in (
       left-more _ _ _ _ _ _ l.invariant.0 _ _ _ _ _
           (row_more (copy_words a.table.now a.row.part) a.list.now a.row.first a.row.count l.k
-          c.word32-i.result c.word32-i.ensures.is c.loop-k-test.true c.requires.1) r.ensures,
+          c.word-i.result c.word-i.ensures.is c.loop-k-test.true c.requires.1) r.ensures,
       omega (arith, l.invariant.1, r.ensures.few),
       omega (arith, c.loop-k-test.true),
     )

@@ -7,7 +7,7 @@ returns c =
     let a = c.args in
     let p = c.requires.counted in
     front-listed a.table.now a.list.now a.copies p.rows a.counts p.summed _ _ _ _ _ _
-    c.word16.ensures.is c.word16-2.ensures.is c.word16-3.ensures.is c.word16-4.ensures.is c.word16-5.ensures.is c.word16-6.ensures.is
+    c.word.ensures.is c.word-2.ensures.is c.word-3.ensures.is c.word-4.ensures.is c.word-5.ensures.is c.word-6.ensures.is
     _ _ _ _ _ _ _ _ _ _ _ _ _
     c.write_header-at.ensures c.write_words-at.ensures c.write_copies-at.ensures c.write_words-at-2.ensures c.write_copies-at-2.ensures
     c.write_words.ensures

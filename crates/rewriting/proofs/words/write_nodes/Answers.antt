@@ -19,4 +19,4 @@ returns c =
     let a = c.args in
     let l = c.loop-n in
     left_end _ _ _ _ _ _ l.invariant.0 _ (flat-done (node_words a.table.now) l.n _ c.loop-n-test.false)
-    (omega (arith, l.invariant.1, l.invariant.2, c.word16-nodes.ensures.small))
+    (omega (arith, l.invariant.1, l.invariant.2, c.word-nodes.ensures.small))

@@ -17,7 +17,7 @@ loop-i-preserved c =
     let a = c.args in
     let l = c.loop-i in (
       left-image (λ k. word a.table.now (a.first + k)) _ _ _ a.at a.count _ _ l.i c.loop-i-test.true l.invariant.0
-          (rw (← c.word16.ensures.is) c.store16.ensures),
+          (rw (← c.word.ensures.is) c.store.ensures),
       omega (arith, c.loop-i-test.true),
     )
 

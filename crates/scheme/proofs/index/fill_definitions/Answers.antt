@@ -24,13 +24,13 @@ loop-n-preserved c =
     let few = c.if-n-ge256.false in
     let here = c.loop-n-test.true in
     let v = next-definition _ _ p l.n (omega arith) l.index l.invariant.0 _
-    (omega (arith, here, c.word16-count.ensures.is)) c.definition_word-d.ensures in (
-      c.store32.ensures ∙ one_more _ _ p l.n (omega arith) l.index l.invariant.0 _ v,
+    (omega (arith, here, c.word-count.ensures.is)) c.definition_word-d.ensures in (
+      c.store.ensures ∙ one_more _ _ p l.n (omega arith) l.index l.invariant.0 _ v,
       omega arith,
-      rw c.store32.ensures (simp length-set l.invariant.2),
+      rw c.store.ensures (simp length-set l.invariant.2),
     )
 
 pub returns : goal.returns
 returns c =
     let l = c.loop-n in
-    l.invariant.0 ∙ rest-clear _ _ c.requires l.n l.invariant.1 (omega (arith, c.word16-count.ensures.is, c.loop-n-test.false))
+    l.invariant.0 ∙ rest-clear _ _ c.requires l.n l.invariant.1 (omega (arith, c.word-count.ensures.is, c.loop-n-test.false))

@@ -8,10 +8,10 @@ returns c =
     let a = c.args in
     c.scatter_source-3.ensures ∙
     rw (
-      c.word16-3.ensures.is,
+      c.word-3.ensures.is,
       c.scatter_source-2.ensures,
-      c.word16-2.ensures.is,
+      c.word-2.ensures.is,
       c.scatter_source.ensures,
-      c.word16.ensures.is,
+      c.word.ensures.is,
       c.clear.ensures,
     ) (owners-scattered a.table.now (length a.out.now))

@@ -22,7 +22,7 @@ overflow_add-result-then-field4-eq2 t c = omega (
 pub returns-then-field4-eq2 : goal.returns-then-field4-eq2
 returns-then-field4-eq2 t c =
     held-at-receive _ _ _ _ _ c.step_up.ensures _ _ _ _ _ _ _ _ c.in-Branch.is c.held_names-count-in-Branch.ensures
-    c.field4-in-Branch.ensures.is c.if-field4-eq2.true c.field4-then-field4-eq2.ensures.is c.store32-then-field4-eq2.ensures
+    c.field4-in-Branch.ensures.is c.if-field4-eq2.true c.field4-then-field4-eq2.ensures.is c.store-then-field4-eq2.ensures
 
 pub returns-in-Definition : goal.returns-in-Definition
 returns-in-Definition t c =
@@ -32,7 +32,7 @@ returns-in-Definition t c =
 pub returns-in-New : goal.returns-in-New
 returns-in-New t c =
     held-at-new _ _ _ _ _ c.step_up.ensures _ _ _ _ _ _ c.in-New.is c.held_names-count.ensures
-    c.field3.ensures.is c.store32.ensures
+    c.field3.ensures.is c.store.ensures
 
 pub returns-else-field4-eq2 : goal.returns-else-field4-eq2
 returns-else-field4-eq2 t c =

@@ -5,7 +5,7 @@ use Rattle.scheme.proofs.lookup.name_thread.Goals as goal
 pub returns-then-binder-lt65536 : goal.returns-then-binder-lt65536
 unfolding binder_thread_in
 returns-then-binder-lt65536 c =
-    rw (← c.binder-binder.ensures.is, lt-ltb _ _ c.if-binder-lt65536.true) (record { is = c.word16.ensures.is; small = c.word16.ensures.small })
+    rw (← c.binder-binder.ensures.is, lt-ltb _ _ c.if-binder-lt65536.true) (record { is = c.word.ensures.is; small = c.word.ensures.small })
 
 pub returns-then-binder-lt131072 : goal.returns-then-binder-lt131072
 unfolding binder_thread_in

@@ -9,7 +9,7 @@ pub loop-i-preserved : goal.loop-i-preserved
 loop-i-preserved c =
     let a = c.args in
     let l = c.loop-i in
-    let s = c.store32 in
+    let s = c.store in
     (l.invariant.0 ∙ sets_more l.out a.first l.i a.count (omega arith) ∙ rw s.ensures, rw s.ensures (length-set l.out l.i (a.first + l.i) ∙ l.invariant.1))
 
 pub returns : goal.returns

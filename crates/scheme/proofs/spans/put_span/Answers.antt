@@ -8,7 +8,7 @@ pub loop-x-preserved : goal.loop-x-preserved
 loop-x-preserved c =
     let a = c.args in
     let l = c.loop-x in
-    let s = c.store32 in
+    let s = c.store in
     (l.invariant.0 ∙ put-more a.v l.out l.x a.end (omega arith) ∙ rw s.ensures, rw s.ensures (length-set l.out l.x a.v ∙ l.invariant.1))
 
 pub returns : goal.returns

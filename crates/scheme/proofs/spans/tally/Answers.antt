@@ -3,10 +3,10 @@ use Rattle.lists.specs.Lists.{same}
 use Rattle.scheme.specs.Spans.{tallied}
 use Rattle.scheme.proofs.spans.tally.Goals as goal
 
-pub returns-then-word8-eq0 : goal.returns-then-word8-eq0
+pub returns-then-word-eq0 : goal.returns-then-word-eq0
 unfolding tallied same
-returns-then-word8-eq0 c = rw (← c.word8.ensures.is, eq-eqb _ _ c.if-word8-eq0.true) c.store8.ensures
+returns-then-word-eq0 c = rw (← c.word.ensures.is, eq-eqb _ _ c.if-word-eq0.true) c.store.ensures
 
-pub returns-else-word8-eq0 : goal.returns-else-word8-eq0
+pub returns-else-word-eq0 : goal.returns-else-word-eq0
 unfolding tallied same
-returns-else-word8-eq0 c = rw (← c.word8.ensures.is, ne_eqb _ _ c.if-word8-eq0.false) c.store8-else-word8-eq0.ensures
+returns-else-word-eq0 c = rw (← c.word.ensures.is, ne_eqb _ _ c.if-word-eq0.false) c.store-else-word-eq0.ensures

@@ -4,8 +4,8 @@ use Rattle.table.proofs.binding.count_right.Goals as goal
 
 pub returns-then-name_kind-kind : goal.returns-then-name_kind-kind
 unfolding same
-returns-then-name_kind-kind c = rw (← c.name_kind.ensures.is, eq-eqb _ _ c.if-name_kind-kind.true, ← c.word8.ensures.is)
+returns-then-name_kind-kind c = rw (← c.name_kind.ensures.is, eq-eqb _ _ c.if-name_kind-kind.true, ← c.word.ensures.is)
 
 pub returns : goal.returns
 unfolding same
-returns c = rw (← c.name_kind.ensures.is, ne_eqb _ _ c.if-name_kind-kind.false, ← c.word8-2.ensures.is)
+returns c = rw (← c.name_kind.ensures.is, ne_eqb _ _ c.if-name_kind-kind.false, ← c.word-2.ensures.is)

@@ -2,4 +2,4 @@ use Rattle.table.proofs.Parts.{bound-counts}
 use Rattle.table.proofs.binding.kind_bound.Goals as goal
 
 pub returns : goal.returns
-returns c = bound-counts _ _ c.args.source _ _ _ _ _ c.word16-publics.ensures.is c.word16.ensures.is c.requires c.tally_source.ensures c.all_counts_right.ensures
+returns c = bound-counts _ _ c.args.source _ _ _ _ _ c.word-publics.ensures.is c.word.ensures.is c.requires c.tally_source.ensures c.all_counts_right.ensures

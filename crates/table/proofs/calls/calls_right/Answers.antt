@@ -33,18 +33,18 @@ no-calls w spared h = below-every (is_call_right w spared) (nodes w) (λ n l. ri
 
 pub returns-then-not-all_pass : goal.returns-then-not-all_pass
 unfolding are_calls_right
-returns-then-not-all_pass c = rw (part _ EntryRight _ _ _ _ c.word16.ensures.is c.all_pass.ensures c.if-not-all_pass.true)
+returns-then-not-all_pass c = rw (part _ EntryRight _ _ _ _ c.word.ensures.is c.all_pass.ensures c.if-not-all_pass.true)
 
 pub returns-then-has_no_call : goal.returns-then-has_no_call
 unfolding are_calls_right
 returns-then-has_no_call c =
     rw (
-      part _ EntryRight _ _ _ _ c.word16.ensures.is c.all_pass.ensures c.if-not-all_pass.false,
+      part _ EntryRight _ _ _ _ c.word.ensures.is c.all_pass.ensures c.if-not-all_pass.false,
       no-calls _ c.args.spared (sym c.has_no_call.ensures ∙ c.if-has_no_call.true),
     )
 
 pub returns : goal.returns
 unfolding are_calls_right
 returns c =
-    rw (part _ EntryRight _ _ _ _ c.word16.ensures.is c.all_pass.ensures c.if-not-all_pass.false)
+    rw (part _ EntryRight _ _ _ _ c.word.ensures.is c.all_pass.ensures c.if-not-all_pass.false)
     (all-calls _ _ c.requires (filled-bodies _ _ _ _ c.fill_bodies.ensures (omega arith)) _ _ c.all_calls_right.ensures)

@@ -3,4 +3,4 @@ use Rattle.table.proofs.ranges.argument_inside.Goals as goal
 
 pub returns : goal.returns
 unfolding is_argument_inside
-returns c = rw (c.field1.ensures.is, c.word16.ensures.is, c.word16-2.ensures.is)
+returns c = rw (c.field1.ensures.is, c.word.ensures.is, c.word-2.ensures.is)

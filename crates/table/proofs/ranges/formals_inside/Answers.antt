@@ -9,8 +9,8 @@ returns-then-count-eq0 c = rw (← c.field4-count.ensures.is, eq-eqb _ _ c.if-co
 
 pub returns-then-first-publics : goal.returns-then-first-publics
 unfolding are_formals_inside same
-returns-then-first-publics c = rw (← c.field4-count.ensures.is, ne_eqb _ _ c.if-count-eq0.false, ← c.field4-first.ensures.is, ← c.word16-publics.ensures.is, lt-leb _ _ c.if-first-publics.true)
+returns-then-first-publics c = rw (← c.field4-count.ensures.is, ne_eqb _ _ c.if-count-eq0.false, ← c.field4-first.ensures.is, ← c.word-publics.ensures.is, lt-leb _ _ c.if-first-publics.true)
 
 pub returns : goal.returns
 unfolding are_formals_inside same
-returns c = rw (← c.field4-count.ensures.is, ne_eqb _ _ c.if-count-eq0.false, ← c.field4-first.ensures.is, ← c.word16-publics.ensures.is, le-leb _ _ c.if-first-publics.false, ← c.word16.ensures.is)
+returns c = rw (← c.field4-count.ensures.is, ne_eqb _ _ c.if-count-eq0.false, ← c.field4-first.ensures.is, ← c.word-publics.ensures.is, le-leb _ _ c.if-first-publics.false, ← c.word.ensures.is)

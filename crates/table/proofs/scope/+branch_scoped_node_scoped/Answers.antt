@@ -15,23 +15,23 @@ branch_scoped-node_scoped-requires t c = let i = next-inside _ c.requires.0 _ _ 
 pub branch_scoped-returns-then-kind-eq0 : goal.branch_scoped-returns-then-kind-eq0
 branch_scoped-returns-then-kind-eq0 t c = silent-body _ c.requires.0 _ _ c.requires.1 _ c.requires.2 _ _ c.field4-kind.ensures.is c.field4-next.ensures.is c.if-kind-eq0.true _ c.node_scoped.ensures
 
-pub branch_scoped-returns-then-word8-eq0 : goal.branch_scoped-returns-then-word8-eq0
-branch_scoped-returns-then-word8-eq0 t c = unheard-body _ c.requires.0 _ _ c.requires.1 _ c.requires.2 _ _ c.field4-kind.ensures.is c.field4-next.ensures.is c.if-kind-eq0.false _ _ c.field4.ensures.is c.word8.ensures.is c.if-word8-eq0.true
+pub branch_scoped-returns-then-word-eq0 : goal.branch_scoped-returns-then-word-eq0
+branch_scoped-returns-then-word-eq0 t c = unheard-body _ c.requires.0 _ _ c.requires.1 _ c.requires.2 _ _ c.field4-kind.ensures.is c.field4-next.ensures.is c.if-kind-eq0.false _ _ c.field4.ensures.is c.word.ensures.is c.if-word-eq0.true
 
 pub branch_scoped-node_scoped-requires-then-kind-eq2 : goal.branch_scoped-node_scoped-requires-then-kind-eq2
 branch_scoped-node_scoped-requires-then-kind-eq2 t c = let i = next-inside _ c.requires.0 _ _ c.requires.1 _ c.requires.2 _ _ c.field4-kind.ensures.is c.field4-next.ensures.is in (omega (arith, c.decreases, i.0, i.1), (c.requires.0, i.1, more-held _ c.requires.0 _ _ c.requires.1 _ c.requires.2 _ _ c.field4-kind.ensures.is c.field4-next.ensures.is _ _ c.if-kind-eq2.true c.field4-name.ensures.is c.tally.ensures))
 
 pub branch_scoped-returns-then-kind-eq2 : goal.branch_scoped-returns-then-kind-eq2
-branch_scoped-returns-then-kind-eq2 t c = receive-body _ c.requires.0 _ _ c.requires.1 _ c.requires.2 _ _ c.field4-kind.ensures.is c.field4-next.ensures.is c.if-kind-eq0.false _ _ c.field4.ensures.is c.word8.ensures.is c.if-word8-eq0.false c.if-kind-eq2.true _ c.node_scoped-then-kind-eq2.ensures
+branch_scoped-returns-then-kind-eq2 t c = receive-body _ c.requires.0 _ _ c.requires.1 _ c.requires.2 _ _ c.field4-kind.ensures.is c.field4-next.ensures.is c.if-kind-eq0.false _ _ c.field4.ensures.is c.word.ensures.is c.if-word-eq0.false c.if-kind-eq2.true _ c.node_scoped-then-kind-eq2.ensures
 
-pub branch_scoped-returns-then-word8-eq0-2 : goal.branch_scoped-returns-then-word8-eq0-2
-branch_scoped-returns-then-word8-eq0-2 t c = unsent-body _ c.requires.0 _ _ c.requires.1 _ c.requires.2 _ _ c.field4-kind.ensures.is c.field4-next.ensures.is c.if-kind-eq0.false _ _ c.field4.ensures.is c.word8.ensures.is c.if-word8-eq0.false c.if-kind-eq2.false _ _ c.field4-name.ensures.is c.word8-2.ensures.is c.if-word8-eq0-2.true
+pub branch_scoped-returns-then-word-eq0-2 : goal.branch_scoped-returns-then-word-eq0-2
+branch_scoped-returns-then-word-eq0-2 t c = unsent-body _ c.requires.0 _ _ c.requires.1 _ c.requires.2 _ _ c.field4-kind.ensures.is c.field4-next.ensures.is c.if-kind-eq0.false _ _ c.field4.ensures.is c.word.ensures.is c.if-word-eq0.false c.if-kind-eq2.false _ _ c.field4-name.ensures.is c.word-2.ensures.is c.if-word-eq0-2.true
 
 pub branch_scoped-node_scoped-requires-2 : goal.branch_scoped-node_scoped-requires-2
 branch_scoped-node_scoped-requires-2 t c = let i = next-inside _ c.requires.0 _ _ c.requires.1 _ c.requires.2 _ _ c.field4-kind.ensures.is c.field4-next.ensures.is in (omega (arith, c.decreases, i.0, i.1), (c.requires.0, i.1, same-held _ c.requires.0 _ _ c.requires.1 _ c.requires.2 _ _ c.field4-kind.ensures.is c.field4-next.ensures.is c.if-kind-eq2.false))
 
 pub branch_scoped-returns : goal.branch_scoped-returns
-branch_scoped-returns t c = send-body _ c.requires.0 _ _ c.requires.1 _ c.requires.2 _ _ c.field4-kind.ensures.is c.field4-next.ensures.is c.if-kind-eq0.false _ _ c.field4.ensures.is c.word8.ensures.is c.if-word8-eq0.false c.if-kind-eq2.false _ _ c.field4-name.ensures.is c.word8-2.ensures.is c.if-word8-eq0-2.false _ c.node_scoped-2.ensures
+branch_scoped-returns t c = send-body _ c.requires.0 _ _ c.requires.1 _ c.requires.2 _ _ c.field4-kind.ensures.is c.field4-next.ensures.is c.if-kind-eq0.false _ _ c.field4.ensures.is c.word.ensures.is c.if-word-eq0.false c.if-kind-eq2.false _ _ c.field4-name.ensures.is c.word-2.ensures.is c.if-word-eq0-2.false _ c.node_scoped-2.ensures
 
 pub node_scoped-node_scoped-requires : goal.node_scoped-node_scoped-requires
 node_scoped-node_scoped-requires t c = let i = child-inside _ c.requires.0 _ c.requires.1 _ c.requires.2 _ _ _ c.field3-kind.ensures.is c.field3-first.ensures.is c.field3-second.ensures.is c.if-kind-eq2.true in (omega (arith, c.decreases, i.0, i.1), (c.requires.0, i.1, child-held _ c.requires.0 _ c.requires.1 _ c.requires.2 _ _ _ c.field3-kind.ensures.is c.field3-first.ensures.is c.field3-second.ensures.is c.if-kind-eq2.true _ c.tally.ensures))

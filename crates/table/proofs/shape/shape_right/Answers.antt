@@ -22,16 +22,16 @@ module _ (w : List ℕ) (e : ℕ) (r b : Bool) where
 
 pub returns-then-not-spans_consecutive : goal.returns-then-not-spans_consecutive
 unfolding is_shape_right
-returns-then-not-spans_consecutive c = rw (branch-ranges _ _ _ _ c.word16.ensures.is c.spans_consecutive.ensures c.if-not-spans_consecutive.true)
+returns-then-not-spans_consecutive c = rw (branch-ranges _ _ _ _ c.word.ensures.is c.spans_consecutive.ensures c.if-not-spans_consecutive.true)
 
 pub returns-then-not-spans_consecutive-2 : goal.returns-then-not-spans_consecutive-2
 unfolding is_shape_right
-returns-then-not-spans_consecutive-2 c = rw (branch-ranges _ _ _ _ c.word16.ensures.is c.spans_consecutive.ensures c.if-not-spans_consecutive.false, argument-ranges _ _ _ _ c.word16-2.ensures.is c.spans_consecutive-2.ensures c.if-not-spans_consecutive-2.true)
+returns-then-not-spans_consecutive-2 c = rw (branch-ranges _ _ _ _ c.word.ensures.is c.spans_consecutive.ensures c.if-not-spans_consecutive.false, argument-ranges _ _ _ _ c.word-2.ensures.is c.spans_consecutive-2.ensures c.if-not-spans_consecutive-2.true)
 
 pub returns-then-not-owned_once : goal.returns-then-not-owned_once
 unfolding is_shape_right
-returns-then-not-owned_once c = rw (branch-ranges _ _ _ _ c.word16.ensures.is c.spans_consecutive.ensures c.if-not-spans_consecutive.false, argument-ranges _ _ _ _ c.word16-2.ensures.is c.spans_consecutive-2.ensures c.if-not-spans_consecutive-2.false, sym c.owned_once.ensures ∙ c.if-not-owned_once.true)
+returns-then-not-owned_once c = rw (branch-ranges _ _ _ _ c.word.ensures.is c.spans_consecutive.ensures c.if-not-spans_consecutive.false, argument-ranges _ _ _ _ c.word-2.ensures.is c.spans_consecutive-2.ensures c.if-not-spans_consecutive-2.false, sym c.owned_once.ensures ∙ c.if-not-owned_once.true)
 
 pub returns : goal.returns
 unfolding is_shape_right
-returns c = rw (branch-ranges _ _ _ _ c.word16.ensures.is c.spans_consecutive.ensures c.if-not-spans_consecutive.false, argument-ranges _ _ _ _ c.word16-2.ensures.is c.spans_consecutive-2.ensures c.if-not-spans_consecutive-2.false, sym c.owned_once.ensures ∙ c.if-not-owned_once.false) (sym (part _ ChildrenAbove _ _ _ _ c.word16-3.ensures.is c.all_pass.ensures refl))
+returns c = rw (branch-ranges _ _ _ _ c.word.ensures.is c.spans_consecutive.ensures c.if-not-spans_consecutive.false, argument-ranges _ _ _ _ c.word-2.ensures.is c.spans_consecutive-2.ensures c.if-not-spans_consecutive-2.false, sym c.owned_once.ensures ∙ c.if-not-owned_once.false) (sym (part _ ChildrenAbove _ _ _ _ c.word-3.ensures.is c.all_pass.ensures refl))
