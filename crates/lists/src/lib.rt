@@ -29,7 +29,7 @@ impl Unsigned for u8 {
     ghost numbers = { λ w. w };
 
     fn number(self) -> usize {
-        self as usize
+        usize::from(self)
     }
 
     ghost inside = { word_inside 256 };
@@ -43,7 +43,7 @@ impl Unsigned for u16 {
     ghost numbers = { λ w. w };
 
     fn number(self) -> usize {
-        self as usize
+        usize::from(self)
     }
 
     ghost inside = { word_inside 65536 };
