@@ -47,6 +47,7 @@ impl From<Cause> for usize {
 }
 
 // The first cause, in number order, that applies to the words.
+#[tactic(auto, unfolding(crate::specs::Causes::cause))]
 pub fn check(table: &[u16]) -> Result<(), Cause>
     ensures { cause_of result ≡ cause table.now }
 {
@@ -54,6 +55,7 @@ pub fn check(table: &[u16]) -> Result<(), Cause>
 }
 
 // The same, with self-calls spared or not.
+#[tactic(auto, unfolding(crate::specs::Causes::cause_sparing, crate::specs::Causes::first_failed, crate::specs::Causes::long_enough))]
 pub fn check_sparing(table: &[u16], spared: bool) -> Result<(), Cause>
     ensures { cause_of result ≡ cause_sparing table.now spared }
 {
