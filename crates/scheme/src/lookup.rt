@@ -122,10 +122,8 @@ fn write_span(first: usize, count: usize, out: &mut [u32]) -> usize
     requires { (first < 65536) × (count < 65536) }
     ensures { (result ≡ count) × (out.new ≡ sets out.old 0 (from first count)) }
 {
-    let mut i = 0;
-    while i < count {
+    for i in 0..count {
         store(out, i, (first + i) as u32);
-        i += 1;
     }
     count
 }
