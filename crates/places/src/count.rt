@@ -155,19 +155,7 @@ fn node(table: &[u16], index: &[u32], read: usize, t: Totals, n: usize) -> Total
 fn bound(table: &[u16], name: usize) -> usize
     ensures { result ≡ bit (not (nat_lt name (publics table.now))) }
 {
-    if name < word(table, 0) {
-        return 0;
-    }
-    1
-}
-
-pub(crate) fn larger(a: usize, b: usize) -> usize
-    ensures { result ≡ pick (nat_lt a b) b a }
-{
-    if a < b {
-        return b;
-    }
-    a
+    usize::from(word(table, 0) <= name)
 }
 
 // One side of a communication: the branch, its thread, its channel, the name that it sends or binds, and the places
@@ -323,10 +311,10 @@ fn partners(table: &[u16], index: &[u32], t: Totals, send: u32, set: u64, pairs:
     let mut q = t;
     let mut left = set;
     while left != 0 {
-        let r = receive_at(pairs, u64::trailing_zeros(left) as u16);
+        let r = receive_at(pairs, left.trailing_zeros() as u16);
         let i = common(s.values, reach_of(index, r.channel as usize));
         q = pair(table, index, q, s, r, i);
-        left = left & (left - 1);
+        left &= left - 1;
     }
     q
 }
