@@ -52,10 +52,8 @@ pub(crate) fn words(out: &mut [u32], at: usize, list: &[u32], count: usize) -> u
     ensures { (result ≡ at + count)
         × (out.new ≡ writes out.old at (take count list.now)) }
 {
-    let mut i = 0;
-    while i < count {
+    for i in 0..count {
         store(out, at + i, list[i]);
-        i += 1;
     }
     at + count
 }
@@ -66,10 +64,8 @@ fn lay(out: &mut [u32], at: usize, list: &[u32], count: usize) -> usize
     ensures { (result ≡ at + count)
         × (out.new ≡ writes out.old at (take count list.now)) }
 {
-    let mut i = 0;
-    while i < count {
+    for i in 0..count {
         out[at + i] = list[i];
-        i += 1;
     }
     at + count
 }
@@ -162,10 +158,8 @@ fn masks_of(list: &[u32; 16], a: u32, b: u32, c: u32, d: u32, e: u32) -> [u32; 1
     ensures { result ≡ map (mask_of (a ∷ b ∷ c ∷ d ∷ e ∷ [])) list.now }
 {
     let mut masks = [0u32; 16];
-    let mut k = 0;
-    while k < 16 {
+    for k in 0..16 {
         masks[k] = mask(list[k], a, b, c, d, e);
-        k += 1;
     }
     masks
 }
@@ -199,10 +193,8 @@ fn rest(
         × (out.new ≡ writes out.old (at + first)
         (slice first count (sums t list.now masks.now))) }
 {
-    let mut i = first;
-    while i < count {
+    for i in first..count {
         out[at + i] = list[i] + (masks[i] & t);
-        i += 1;
     }
     at + count
 }
@@ -259,12 +251,10 @@ pub(crate) fn series(
     let masks = masks_of(&list, a, b, c, d, e);
     let mut place = h.place;
     let mut arc = h.arc;
-    let mut t = 0;
-    while t < count {
+    for t in 0..count {
         put_record(out, place, label, arc, arcs.inputs, arcs.outputs);
         arc = raised(out, arc, &list, &masks, size, t as u32);
         place += 6;
-        t += 1;
     }
     Heads { place, arc }
 }
