@@ -359,8 +359,7 @@ fn receive_rows(table: &[u16], index: &[u32]) -> Rows
     let mut a = Start { name: 0, row: 0 };
     let mut z = Start { name: 0, row: 0 };
     let mut k = 0;
-    let mut b = 0;
-    while b < branches {
+    for b in 0..branches {
         if field4(table, 11, b, 0) == 2 {
             a = row_on(table, index, a, field4(table, 11, b, 1));
             z = row_on(table, index, z, field4(table, 11, b, 2));
@@ -368,7 +367,6 @@ fn receive_rows(table: &[u16], index: &[u32]) -> Rows
             store(&mut at, k + 1, z.row as u32);
             k += 2;
         }
-        b += 1;
     }
     Rows { at }
 }
@@ -427,8 +425,7 @@ pub(crate) fn communications(
     let mut q = h;
     let mut a = Start { name: 0, row: 0 };
     let mut z = Start { name: 0, row: 0 };
-    let mut s = 0;
-    while s < branches {
+    for s in 0..branches {
         let set = word(pairs, SETS + s) as u64;
         if set != 0 {
             let side = side_of(table, index, s as u32);
@@ -440,7 +437,6 @@ pub(crate) fn communications(
             };
             q = partners(table, index, out, q, Sender { side, own, set }, pairs, rows);
         }
-        s += 1;
     }
     q
 }
