@@ -13,19 +13,14 @@ pub(crate) fn insert(list: &mut [u32], count: usize, x: u32) -> usize
     ensures { Inserted x count list.old result list.new }
 {
     let mut at = count;
-    while 0 < at {
-        if list[at - 1] < x {
-            break;
-        }
-        if list[at - 1] == x {
-            return count;
-        }
+    while 0 < at && x < list[at - 1] {
         at -= 1;
     }
-    let mut k = count;
-    while at < k {
-        list[k] = list[k - 1];
-        k -= 1;
+    if 0 < at && list[at - 1] == x {
+        return count;
+    }
+    for k in (at..count).rev() {
+        list[k + 1] = list[k];
     }
     list[at] = x;
     count + 1
