@@ -7,6 +7,9 @@ ghost use Rattle.builder.specs.Inner.Parts.{Rising, Inserted, Entered, Placed, B
 use crate::layout::equals;
 use lists::word;
 
+// The number of a place that the net does not have.
+pub const NO_SPOT: u32 = u32::MAX;
+
 // Puts x into the ascending first `count` numbers, where it is not there yet, and returns how many there are then.
 pub(crate) fn insert(list: &mut [u32], count: usize, x: u32) -> usize
     requires { Rising list.old count }
@@ -53,7 +56,7 @@ pub(crate) fn insert_spot(list: &mut [u32], count: usize, x: u32) -> usize
     requires { Rising list.old count }
     ensures { Entered x count list.old result list.new }
 {
-    if x == 4294967295 {
+    if x == NO_SPOT {
         return count;
     }
     insert(list, count, x)
