@@ -24,8 +24,7 @@ pub loop-k-preserved : goal.loop-k-preserved
 loop-k-preserved c =
     let a = c.args in
     let m = c.loop-k in
-    let k : m.k - 1 + 1 ≡ m.k = omega (arith, c.loop-k-test.true) in
-    (
+    let k : m.k - 1 + 1 ≡ m.k = omega (arith, c.loop-k-test.true) in (
       omega (arith, c.loop-k-test.true),
       ap (λ (i : ℕ). set m.list i (get_or m.list (m.k - 1) 0)) k
           ∙ ap (λ (xs : List ℕ). set xs m.k (get_or xs (m.k - 1) 0)) m.invariant.1
