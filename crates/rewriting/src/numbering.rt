@@ -13,18 +13,6 @@ ghost use Rattle.rewriting.specs.Inner.Placing.{place_found_at, Numberable, Numb
 use crate::copies::Counts;
 use lists::{store, word};
 
-// Writes v at `count` places from `at` on.
-fn fill(at: usize, count: usize, v: u32, out: &mut [u32])
-    requires { (at < near) × (count < near) }
-    ensures { out.new ≡ sets out.old at (replicate count v) }
-{
-    let mut i = 0;
-    while i < count {
-        store(out, at + i, v);
-        i += 1;
-    }
-}
-
 // Writes where each number below 257 stands among the `count` words of `list` from `first` on, `count` where it does
 // not. The last word goes first, so that the first place stays.
 fn number(list: &[u32], first: usize, count: usize, at: usize, out: &mut [u32])
@@ -32,10 +20,8 @@ fn number(list: &[u32], first: usize, count: usize, at: usize, out: &mut [u32])
     ensures { Numbered (slice first (first + count) list.now) at out.old
         out.new }
 {
-    fill(at, 257, count as u32, out);
-    let mut i = count;
-    while 0 < i {
-        i -= 1;
+    out[at..at + 257].fill(count as u32);
+    for i in (0..count).rev() {
         store(out, at + word(list, first + i), i as u32);
     }
 }

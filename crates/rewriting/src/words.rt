@@ -109,11 +109,9 @@ fn write_nodes(table: &[u16], index: &[u32], places: &[u32], at: usize, out: &mu
         out.old at out.new result }
 {
     let nodes = word(table, 4);
-    let mut n = 0;
     let mut next = at;
-    while n < nodes {
+    for n in 0..nodes {
         next = write_node(table, index, places, n, next, out);
-        n += 1;
     }
     next
 }
@@ -249,12 +247,10 @@ fn write_copies(
     let part = row.part;
     let first = row.first;
     let count = row.count;
-    let mut k = 0;
     let mut next = at;
-    while k < count {
+    for k in 0..count {
         let i = word(list, first + k);
         next = write_copy(table, part, index, places, i, next, out);
-        k += 1;
     }
     next
 }
@@ -265,10 +261,8 @@ fn write_words(table: &[u16], first: usize, count: usize, at: usize, out: &mut [
     ensures { Listed 262144 (map (word table.now) (from first count)) out.old at
         out.new result }
 {
-    let mut i = 0;
-    while i < count {
+    for i in 0..count {
         store(out, at + i, word(table, first + i) as u16);
-        i += 1;
     }
     at + count
 }

@@ -1,14 +1,15 @@
 -- The numbers of copies by their places, and that they are small.
 use mathlib.Core.Path.{◌≡◌, sym, ap, ◌∙◌}
 use mathlib.Core.Bool.{false}
-use mathlib.Core.List.{List, ◌∷◌}
+use mathlib.Core.List.{List, ◌∷◌, append_assoc}
 use mathlib.Core.Logic.{◌⊎◌, inl, inr}
 use Prim.Native.Nat.{ℕ, suc, ◌+◌, ◌-◌, ◌≤◌, ◌<◌}
 use native.Mathlib.Decide.{ℕ_discrete, dec_lt}
 use native.Mathlib.Omega.{arith}
 use lib.Dec.{ltb}
-use lib.ListN.{length, set, replicate, length-replicate, get_or-replicate}
-use lib.Seq.{sets, slice, slice_empty, length-sets, length-slice, get_or-set_same, get_or-set_other}
+use lib.ListN.{length, set, take, drop, replicate, length-replicate, get_or-replicate, length-drop}
+use borrow.Rule.Slice.PartMut.{put_mid}
+use lib.Seq.{sets, sets-eq, length-take-le, drop-drop, slice, slice_empty, length-sets, length-slice, get_or-set_same, get_or-set_other}
 use borrow.Author.Tests.{lt-ltb, le-ltb}
 use Rattle.lists.specs.Lists.{pick, word, member}
 use Rattle.lists.proofs.Tests.{not-true-false}
@@ -72,6 +73,15 @@ small_at list first count j small r h =
     let e = slice-word list first (first + count) j k in
     let m = member-get_or (slice first (first + count) list) j (rw (length-slice first (first + count) list r) k) in
     rw e at (small (word (slice first (first + count) list) j) m)
+
+-- a part filled with one value, as a run of stores
+pub fill_sets : (out new : List ℕ) (at k n v : ℕ) → k ≡ n → at + n ≤ length out → new ≡ replicate (length (take k (drop at out))) v
+    → put_mid at k out new ≡ sets out at (replicate n v)
+fill_sets out new at k n v q r e =
+    let l : length (take k (drop at out)) ≡ n = omega (arith, length-take-le k (drop at out) (omega (arith, length-drop at out)), length-drop at out) in
+    let m : length (replicate n v) ≡ n = length-replicate n v in
+    rw (e, l, q, drop-drop n at out)
+    (sym (sets-eq (replicate n v) out at (rw m r) ∙ rw m (append_assoc (take at out) (replicate n v) (drop (at + n) out))))
 
 pub filled-long : (out filled : List ℕ) (at v : ℕ) → filled ≡ sets out at (replicate 257 v) → length filled ≡ length out
 filled-long out filled at v e = ap length e ∙ length-sets out at (replicate 257 v)

@@ -9,9 +9,6 @@ use Rattle.rewriting.proofs.numbering.number.Given as goal
 
 abbrev pub invariant-loop-i : goal.invariant-loop-i
 invariant-loop-i l =
-    (length l.out ≡ length l.initial.out) × (l.i ≤ l.count) ×
+    (length l.out ≡ length l.initial.out) ×
     ((x : ℕ) → x < 257 → word l.out (l.at + x) ≡ l.i + place x (slice (l.first + l.i) (l.first + l.count) l.list)) ×
     ((k : ℕ) → (k < l.at) ⊎ (l.at + 257 ≤ k) → word l.out k ≡ word l.initial.out k)
-
-abbrev pub decreases-loop-i : goal.decreases-loop-i
-decreases-loop-i l = l.i

@@ -13,7 +13,6 @@ loop-k-preserved c =
           (row_more (copy_words a.table.now a.row.part) a.list.now a.row.first a.row.count l.k
           c.word-i.result c.word-i.ensures.is c.loop-k-test.true c.requires.1) r.ensures,
       omega (arith, l.invariant.1, r.ensures.few),
-      omega (arith, c.loop-k-test.true),
     )
 
 pub returns : goal.returns
@@ -22,4 +21,4 @@ returns c =
     let l = c.loop-k in
     left_end _ _ _ _ _ _ l.invariant.0 _
     (row_done (copy_words a.table.now a.row.part) a.list.now a.row.first a.row.count l.k c.loop-k-test.false)
-    (omega (arith, l.invariant.1, l.invariant.2, c.requires.2))
+    (omega (arith, l.invariant.1, l.auto.k-end, c.requires.2))

@@ -1,4 +1,4 @@
-use Prim.Native.Nat.{◌+◌, ◌-◌, ◌*◌, ◌≤◌}
+use Prim.Native.Nat.{◌+◌, ◌*◌, ◌≤◌}
 use lib.Seq.{slice}
 use Rattle.lists.specs.Lists.{flat}
 use Rattle.process.proofs.Listed.{Left}
@@ -8,8 +8,4 @@ use Rattle.rewriting.proofs.words.write_copies.Given as goal
 abbrev pub invariant-loop-k : goal.invariant-loop-k
 invariant-loop-k l =
     Left (flat (copy_words l.table l.part) (slice l.first (l.first + l.count) l.list)) l.initial.out l.at
-    (flat (copy_words l.table l.part) (slice (l.first + l.k) (l.first + l.count) l.list)) l.out l.next ×
-    (l.next ≤ l.at + 4 * l.k) × (l.k ≤ l.count)
-
-abbrev pub decreases-loop-k : goal.decreases-loop-k
-decreases-loop-k l = l.count - l.k
+    (flat (copy_words l.table l.part) (slice (l.first + l.k) (l.first + l.count) l.list)) l.out l.next × (l.next ≤ l.at + 4 * l.k)
