@@ -1,5 +1,6 @@
 // The words of the rewritten table: a node, the copies of each section, the words that stay, and the header.
 ghost use Rattle.std.specs.Prelude.{◌≡◌, [], ◌∷◌, map, ◌+◌, ◌≤◌, ◌<◌, length};
+ghost use Rattle.std.specs.List.{AllByRecursion};
 ghost use Rattle.std.proofs.lemmas.List.Edits.{sets};
 ghost use Rattle.std.proofs.Math.Seq.{slice};
 ghost use Rattle.lists.specs.Lists.{word, from, range, flat};
@@ -40,34 +41,17 @@ pub struct Row {
     pub count: usize,
 }
 
-// Writes a word; where the next one goes.
-fn write1(out: &mut [u16], at: usize, a: usize) -> usize
-    requires { (at < far) × (a < 65536) }
-    ensures { Listed 4 (a ∷ []) out.old at out.new result }
+// Writes a few words; where the next one goes.
+fn write_all<const N: usize>(out: &mut [u16], at: usize, words: [usize; N]) -> usize
+    requires { (at < far) × (N ≤ 4) × AllByRecursion (λ w. w < 65536) words }
+    ensures { Listed 4 words.entry out.old at out.new result }
 {
-    store(out, at, a as u16);
-    at + 1
-}
-
-fn write3(out: &mut [u16], at: usize, a: usize, b: usize, c: usize) -> usize
-    requires { (at < far) × (a < 65536) × (b < 65536) × (c < 65536) }
-    ensures { Listed 4 (a ∷ b ∷ c ∷ []) out.old at out.new result }
-{
-    store(out, at, a as u16);
-    store(out, at + 1, b as u16);
-    store(out, at + 2, c as u16);
-    at + 3
-}
-
-fn write4(out: &mut [u16], at: usize, a: usize, b: usize, c: usize, d: usize) -> usize
-    requires { (at < far) × (a < 65536) × (b < 65536) × (c < 65536) × (d < 65536) }
-    ensures { Listed 4 (a ∷ b ∷ c ∷ d ∷ []) out.old at out.new result }
-{
-    store(out, at, a as u16);
-    store(out, at + 1, b as u16);
-    store(out, at + 2, c as u16);
-    store(out, at + 3, d as u16);
-    at + 4
+    let mut next = at;
+    for word in words {
+        store(out, next, word as u16);
+        next += 1;
+    }
+    next
 }
 
 // The second word of a node, or of its copy: a self-call of the original goes to the copy, one of the copy to the
@@ -99,7 +83,7 @@ fn write_node(
 {
     let kind = field3(table, 10, node, 0);
     let first = target_of(table, index, places, node, false);
-    write3(out, at, kind, first, field3(table, 10, node, 2))
+    write_all(out, at, [kind, first, field3(table, 10, node, 2)])
 }
 
 // Writes the nodes that were there.
@@ -176,7 +160,7 @@ fn write_definition(table: &[u16], places: &[u32], i: usize, at: usize, out: &mu
     let thread = field4(table, 8, i, 0);
     let root = copy_node(table, places, field4(table, 8, i, 1));
     let formal = copied_formal(table, places, i);
-    write4(out, at, thread, root, formal, field4(table, 8, i, 3))
+    write_all(out, at, [thread, root, formal, field4(table, 8, i, 3)])
 }
 
 fn write_copied_node(
@@ -192,7 +176,7 @@ fn write_copied_node(
 {
     let first = copied_first(table, index, places, i);
     let second = copied_second(table, places, i);
-    write3(out, at, field3(table, 10, i, 0), first, second)
+    write_all(out, at, [field3(table, 10, i, 0), first, second])
 }
 
 fn write_branch(table: &[u16], places: &[u32], i: usize, at: usize, out: &mut [u16]) -> usize
@@ -202,7 +186,7 @@ fn write_branch(table: &[u16], places: &[u32], i: usize, at: usize, out: &mut [u
     let channel = copied_use(table, places, i, field4(table, 11, i, 1));
     let name = copied_use(table, places, i, field4(table, 11, i, 2));
     let next = copy_node(table, places, field4(table, 11, i, 3));
-    write4(out, at, field4(table, 11, i, 0), channel, name, next)
+    write_all(out, at, [field4(table, 11, i, 0), channel, name, next])
 }
 
 // Writes the copy of entry i of a section.
@@ -219,11 +203,11 @@ fn write_copy(
     ensures { Listed 4 (copy_words table.now part i) out.old at out.new result }
 {
     match part {
-        Part::Names => write1(out, at, name_kind(table, i)),
+        Part::Names => write_all(out, at, [name_kind(table, i)]),
         Part::Definitions => write_definition(table, places, i, at, out),
         Part::Nodes => write_copied_node(table, index, places, i, at, out),
         Part::Branches => write_branch(table, places, i, at, out),
-        Part::Arguments => write1(out, at, copy_name(table, places, field1(table, 12, i))),
+        Part::Arguments => write_all(out, at, [copy_name(table, places, field1(table, 12, i))]),
     }
 }
 
@@ -278,17 +262,11 @@ fn write_header(table: &[u16], counts: Counts, out: &mut [u16]) -> usize
     let nodes_at = threads_at + threads;
     let branches_at = nodes_at + 3 * counts.nodes;
     let arguments_at = branches_at + 4 * counts.branches;
-    let mut at = write4(
-        out,
-        0,
-        word(table, 0),
-        counts.names,
-        counts.definitions,
-        threads,
-    );
-    at = write3(out, at, counts.nodes, counts.branches, counts.arguments);
-    at = write3(out, at, 13, definitions_at, threads_at);
-    write3(out, at, nodes_at, branches_at, arguments_at)
+    let publics = word(table, 0);
+    let mut at = write_all(out, 0, [publics, counts.names, counts.definitions, threads]);
+    at = write_all(out, at, [counts.nodes, counts.branches, counts.arguments]);
+    at = write_all(out, at, [13, definitions_at, threads_at]);
+    write_all(out, at, [nodes_at, branches_at, arguments_at])
 }
 
 // How many words the header's counts give.

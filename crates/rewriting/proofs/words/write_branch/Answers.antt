@@ -13,4 +13,4 @@ returns c =
       ← c.field4-3.ensures.is,
       ← c.copy_node-next.ensures.is,
       ← c.field4-4.ensures.is,
-    ) c.write4.ensures
+    ) c.write_all.ensures

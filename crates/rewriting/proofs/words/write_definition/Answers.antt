@@ -11,4 +11,4 @@ returns c =
       ← c.copy_node-root.ensures.is,
       ← c.field4-thread.ensures.is,
       ← c.field4-2.ensures.is,
-    ) c.write4.ensures
+    ) c.write_all.ensures
