@@ -8,7 +8,7 @@ ghost use Rattle.lists.specs.Lists.{pick, same, word, from, flat};
 ghost use Rattle.scheme.specs.Spans.{span_of};
 ghost use Rattle.scheme.specs.Index.{definitions_in, index_end};
 ghost use Rattle.process.specs.Inner.Listed.{Listed, far, near};
-ghost use Rattle.rewriting.specs.Inner.Copying.{self_call, Marked, grouped, Listable, Rows};
+ghost use Rattle.rewriting.specs.Inner.Copying.{self_call, Marked, grouped, Listable, Rows, originals_in};
 ghost use Rattle.rewriting.specs.Inner.Counting.{Few, Summed, counts_within};
 ghost use Rattle.rewriting.specs.Inner.Preparing.{PreparedRight};
 
@@ -19,6 +19,16 @@ use scheme::index::{BINDERS, DEFINITIONS, fill};
 use scheme::lookup::definition;
 use scheme::spans::{Source, span_count, span_first};
 
+// A section that has copies.
+#[derive(Clone, Copy)]
+pub enum Part {
+    Names,
+    Definitions,
+    Nodes,
+    Branches,
+    Arguments,
+}
+
 // How many there are of each.
 #[derive(Clone, Copy)]
 pub struct Counts {
@@ -27,6 +37,20 @@ pub struct Counts {
     pub nodes: usize,
     pub branches: usize,
     pub arguments: usize,
+}
+
+// The originals of a section's copies.
+pub(crate) fn originals(list: &[u32], copies: Counts, part: Part) -> &[u32]
+    requires { (length list.now ≡ 1280) × Few copies }
+    ensures { result.now ≡ originals_in list.now copies part }
+{
+    match part {
+        Part::Definitions => &list[..copies.definitions],
+        Part::Names => &list[256..256 + copies.names],
+        Part::Nodes => &list[512..512 + copies.nodes],
+        Part::Branches => &list[768..768 + copies.branches],
+        Part::Arguments => &list[1024..1024 + copies.arguments],
+    }
 }
 
 // The copies of a table that can be rewritten, or what refuses it.

@@ -11,7 +11,7 @@ use Rattle.std.proofs.lemmas.List.Elements.{All-from_recursion}
 use lib.Seq.{sets, sets-eq, slice, drop-cons, ext_get_or, length-slice, length-take-le}
 use Rattle.lists.specs.Lists.{pick, same, word, from, range, keep, flat}
 use Rattle.lists.proofs.Ranges.{from_more, from-done}
-use Rattle.lists.proofs.Slices.{slice-between, slice-word}
+use Rattle.lists.proofs.Slices.{drop-step, drop-none, slice-between, slice-word}
 use Rattle.lists.proofs.Stores.{word_low}
 use Rattle.rewriting.proofs.Runs.{map-from}
 use Rattle.process.specs.Inner.Listed.{Listed}
@@ -104,3 +104,11 @@ drop-more l i h = rw add-one (drop-cons l i 0 h)
 
 pub below : (n : ℕ) (l : List ℕ) (i : ℕ) → i < length l → AllByRecursion (λ x. x < n) l → get_or l i 0 < n
 below n l i h a = All-from_recursion (λ x. x < n) l a i 0 h
+
+pub flat-drop : (f : ℕ → List ℕ) (l : List ℕ) (i : ℕ) → i < length l → flat f (drop i l) ≡ f (get_or l i 0) ++ flat f (drop (i + 1) l)
+unfolding flat
+flat-drop f l i h = rw (drop-step l i h)
+
+pub flat_end : (f : ℕ → List ℕ) (l : List ℕ) (i : ℕ) → length l ≤ i → flat f (drop i l) ≡ []
+unfolding flat
+flat_end f l i h = rw (drop-none l i h)
