@@ -6,7 +6,8 @@ ghost use Rattle.std.specs.Prelude.{◌≡◌, ◌<◌, length};
 ghost use Rattle.scheme.specs.Words.{Number};
 ghost use Rattle.rewriting.specs.Rewriting.{copy_name_of};
 ghost use Rattle.rewriting.specs.Inner.Copying.{originals_in};
-ghost use Rattle.rewriting.specs.Inner.Placing.{place_found_at, start_of, entries_of, copy_of, Numberable, Numbered, Listing, Places, Placing};
+ghost use Rattle.rewriting.specs.Inner.Placing.{place_found_at, start_of, entries_of, copy_of};
+ghost use Rattle.rewriting.specs.Inner.Placing.{Numberable, Numbered, Listing, Places, Placing};
 
 use crate::copies::{Counts, Part, originals};
 use lists::{store, word};
