@@ -43,10 +43,8 @@ fn write_roots(table: &[u16], out: &mut [u16])
         (map (λ t. root table.now (entry table.now t)) (range (threads table.now))) }
 {
     let threads = word(table, 3);
-    let mut t = 0;
-    while t < threads {
+    for t in 0..threads {
         store(out, t, field4(table, 8, field1(table, 9, t), 1) as u16);
-        t += 1;
     }
 }
 
@@ -57,10 +55,8 @@ fn write_unheld(table: &[u16], out: &mut [u16])
 {
     let threads = word(table, 3);
     let bounds = word(table, 1);
-    let mut i = 0;
-    while i < bounds {
+    for i in 0..bounds {
         store(out, threads + i, 65535);
-        i += 1;
     }
 }
 
