@@ -19,7 +19,7 @@ ghost use Rattle.process.specs.Answers.{outcome_of};
 ghost use Rattle.process.specs.Outcomes.{start_outcome, open_outcome, step_outcome};
 
 use crate::formed::well_formed;
-use crate::labels::{Open, open_step};
+use crate::labels::open_step;
 use crate::listing::list_open;
 use crate::next::write_state;
 use lists::{store, word};
@@ -112,7 +112,7 @@ pub fn step(table: &[u16], state: &[u16], kind: u32, a: u32, b: u32, next: &mut 
     if !well_formed(table, &index, state) {
         return Answer::Malformed;
     }
-    let Open::Taken(taken) = open_step(table, &index, state, kind, a, b) else {
+    let Some(taken) = open_step(table, &index, state, kind, a, b) else {
         return Answer::NotOpen;
     };
     let size = word(table, 3) + word(table, 1);

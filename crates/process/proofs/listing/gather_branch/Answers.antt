@@ -23,8 +23,8 @@ returns c =
     let w = a.table.now in
     let s = state_of (scheme w) a.state.now in
     let e : standing w s a.kind a.branch ≡ [] = elim c.else-branch_is.branch [
-      else-branch_is-via-then-branch_is+else-stands p ↦
+      | else-branch_is-via-then-branch_is+else-stands p ↦
           standing-away w s a.kind a.branch (sym (stand-there (scheme w) s _ _ _ p.home.ensures p.stands.ensures) ∙ p.if-stands.false)
-    | else-branch_is-via-else-branch_is p ↦ standing-other w s a.kind a.branch (sym c.branch_is.ensures ∙ p.if-branch_is.false)
+      | else-branch_is-via-else-branch_is p ↦ standing-other w s a.kind a.branch (sym c.branch_is.ensures ∙ p.if-branch_is.false)
     ] in
     rw e (none-listed _ _ _)
