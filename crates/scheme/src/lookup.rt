@@ -1,6 +1,8 @@
 // What the index of a table tells: the owner, the definition and the thread of a node, the node and the thread of a
 // branch, the binder and the thread of a name, the step up from a node, and the names that it holds. Exact on any
 // words: what the index has no word for reads 0.
+#![tactic(auto, unfolding(crate::specs::Index::numbered, crate::specs::Index::owners_in, crate::specs::Index::homes_in, crate::specs::Index::definitions_in, crate::specs::Index::binders_in))]
+
 ghost use Rattle.std.specs.Prelude.{◌≡◌, ◌≤◌, ◌<◌};
 ghost use Rattle.std.proofs.lemmas.List.Edits.{sets};
 ghost use Rattle.std.proofs.Math.Seq.{slice};
@@ -28,10 +30,7 @@ fn part(index: &[u32], at: usize, end: usize, i: usize) -> usize
     requires { (at ≤ end) × (end ≤ 832) }
     ensures { Word 4294967296 (slice at end index.now) i result }
 {
-    if i < end - at {
-        return word(index, at + i);
-    }
-    0
+    if i < end - at { word(index, at + i) } else { 0 }
 }
 
 // What owns a node, as a number.
@@ -66,24 +65,20 @@ pub fn binder(index: &[u32], name: usize) -> usize
 pub fn step_up(index: &[u32], node: usize) -> Parent
     ensures { result ≡ parent_at index.now node }
 {
-    let owner = owner(index, node);
-    if owner < 65536 {
-        return Parent::Nobody;
-    }
-    if owner < 131072 {
-        return Parent::Definition(owner - 65536);
-    }
-    if owner < 196608 {
-        if owner - 131072 < node {
-            return Parent::New(owner - 131072);
+    match owner(index, node) {
+        owner @ 65536..131072 => Parent::Definition(owner - 65536),
+        owner @ 131072..196608 if owner - 131072 < node => Parent::New(owner - 131072),
+        owner @ 196608.. => {
+            let branch = owner - 196608;
+            let home = home(index, branch);
+            if home < node {
+                Parent::Branch(branch, home)
+            } else {
+                Parent::Nobody
+            }
         }
-        return Parent::Nobody;
+        _ => Parent::Nobody,
     }
-    let home = home(index, owner - 196608);
-    if home < node {
-        return Parent::Branch(owner - 196608, home);
-    }
-    Parent::Nobody
 }
 
 // The thread of a node.
@@ -101,20 +96,16 @@ pub fn branch_thread(table: &[u16], index: &[u32], branch: usize) -> usize
 }
 
 // The thread of what binds a name; the count of threads where nothing does.
+#[tactic(auto, unfolding(crate::specs::Index::binder_thread_in))]
 pub fn name_thread(table: &[u16], index: &[u32], name: usize) -> usize
     ensures { Number (name_thread_at table.now index.now name) result }
 {
-    let binder = binder(index, name);
-    if binder < 65536 {
-        return word(table, 3);
+    match binder(index, name) {
+        ..65536 => word(table, 3),
+        binder @ 65536..131072 => node_thread(table, index, binder - 65536),
+        binder @ 131072..196608 => branch_thread(table, index, binder - 131072),
+        binder => field4(table, 8, binder - 196608, 0),
     }
-    if binder < 131072 {
-        return node_thread(table, index, binder - 65536);
-    }
-    if binder < 196608 {
-        return branch_thread(table, index, binder - 131072);
-    }
-    field4(table, 8, binder - 196608, 0)
 }
 
 // Writes `count` numbers from `first` on, as far as `out` reaches, and returns how many there are.
@@ -122,10 +113,8 @@ fn write_span(first: usize, count: usize, out: &mut [u32]) -> usize
     requires { (first < 65536) × (count < 65536) }
     ensures { (result ≡ count) × (out.new ≡ sets out.old 0 (from first count)) }
 {
-    let mut i = 0;
-    while i < count {
+    for i in 0..count {
         store(out, i, (first + i) as u32);
-        i += 1;
     }
     count
 }
