@@ -1,7 +1,7 @@
 -- Laws of the parts of an index: a word of a part, runs of stores before and behind it, and the definitions as they are filled in.
 use mathlib.Core.Path.{◌≡◌, refl, sym, ap, ◌∙◌}
 use mathlib.Core.List.{List, ◌++◌, map, map-append, append_assoc}
-use Prim.Native.Nat.{ℕ, zero, suc, ◌+◌, ◌-◌, ◌≤◌, ◌<◌}
+use Prim.Native.Nat.{ℕ, zero, suc, ◌+◌, ◌-◌, ◌≤◌, ◌<◌, min}
 use native.Mathlib.Omega.{arith}
 use lib.Dec.{ltb}
 use lib.ListN.{length, set, take, drop, replicate, length-append, length-drop, length-map, length-replicate}
@@ -65,13 +65,13 @@ zero-run (suc k) l i h =
     ap (λ (r : List ℕ). sets r (suc i) (replicate k 0)) e ∙
     zero-run k l (suc i) (λ j u. let q : suc i + j ≡ i + suc j = omega arith in rw q (h (suc j) (omega arith)))
 
-map-zeros : (g : ℕ → ℕ) (a k : ℕ) → ((n : ℕ) → a ≤ n → g n ≡ 0) → map g (from a k) ≡ replicate k 0
+map-zeros : (g : ℕ → ℕ) (a k : ℕ) → ((n : ℕ) → a ≤ n → n < a + k → g n ≡ 0) → map g (from a k) ≡ replicate k 0
 unfolding from
 map-zeros g a zero h = refl
-map-zeros g a (suc k) h = rw (h a (omega arith), map-zeros g (a + 1) k (λ n l. h n (omega arith)))
+map-zeros g a (suc k) h = rw (h a (omega arith) (omega arith), map-zeros g (a + 1) k (λ n l u. h n (omega arith) (omega arith)))
 
 -- the nodes that the table does not have are 0 already
-pub rest-clear : (w lent : List ℕ) → Standing w lent → (n : ℕ) → n ≤ 256 → nodes w ≤ n
+pub rest-clear : (w lent : List ℕ) → Standing w lent → (n : ℕ) → n ≤ 256 → min (nodes w) 256 ≤ n
     → sets lent definitions_offset (map (node_word w) (range n)) ≡ sets lent definitions_offset (definition_words w)
 unfolding definition_words definitions_in
 rest-clear w lent S n few l =
@@ -82,7 +82,7 @@ rest-clear w lent S n few l =
     ap (λ (j : ℕ). sets lent 512 (map (node_word w) (range j))) k ∙
     ap (λ (us : List ℕ). sets lent 512 us) (ap (map (node_word w)) (from-append 0 n (256 - n)) ∙ map-append (node_word w) (range n) (from (0 + n) (256 - n))) ∙
     sets-append lent 512 (map (node_word w) (range n)) (map (node_word w) (from (0 + n) (256 - n))) ∙
-    rw (z, m, map-zeros (node_word w) n (256 - n) (λ j u. rw (le-ltb j (nodes w) (omega arith))))
+    rw (z, m, map-zeros (node_word w) n (256 - n) (λ j u v. rw (le-ltb j (nodes w) (omega arith))))
     (zero-run (256 - n) (sets lent 512 (map (node_word w) (range n))) (512 + n) (λ j u.
     let q : 512 + n + j ≡ 512 + (n + j) = omega arith in
     word-high lent 512 (map (node_word w) (range n)) (512 + n + j) (omega (arith, m)) ∙

@@ -24,23 +24,12 @@ pub const BINDERS: usize = 768;
 
 pub const SIZE: usize = 832;
 
-// Sets every word to 0.
-fn clear(out: &mut [u32])
-    ensures { out.new ≡ replicate (length out.old) 0 }
-{
-    let mut i = 0;
-    while i < out.len() {
-        out[i] = 0;
-        i += 1;
-    }
-}
-
 // The owner of each node, as far as `out` reaches.
 fn owners(table: &[u16], out: &mut [u32])
     ensures { out.new
         ≡ map (λ k. owner_number (owner table.now k)) (range (length out.old)) }
 {
-    clear(out);
+    out.fill(0);
     scatter_source(table, Source::NextNodes, word(table, 5), 196608, out);
     scatter_source(table, Source::NewChildren, word(table, 4), 131072, out);
     scatter_source(table, Source::Roots, word(table, 2), 65536, out);
@@ -50,7 +39,7 @@ fn owners(table: &[u16], out: &mut [u32])
 fn homes(table: &[u16], out: &mut [u32])
     ensures { out.new ≡ map (home table.now) (range (length out.old)) }
 {
-    clear(out);
+    out.fill(0);
     scatter_source(table, Source::Branches, word(table, 4), 0, out);
 }
 
@@ -59,7 +48,7 @@ fn binders(table: &[u16], out: &mut [u32])
     ensures { out.new
         ≡ map (λ x. binder_number (binder_of table.now x)) (range (length out.old)) }
 {
-    clear(out);
+    out.fill(0);
     scatter_source(table, Source::Formals, word(table, 2), 196608, out);
     scatter_source(table, Source::ReceivedNames, word(table, 5), 131072, out);
     scatter_source(table, Source::NewNames, word(table, 4), 65536, out);
@@ -83,15 +72,9 @@ fn fill_definitions(table: &[u16], index: &mut [u32])
     ensures { index.new
         ≡ sets index.old definitions_offset (definition_words table.now) }
 {
-    let count = word(table, 4);
-    let mut n = 0;
-    while n < count {
-        if 256 <= n {
-            return;
-        }
+    for n in 0..word(table, 4).min(256) {
         let d = definition_word(index, n);
         store(index, DEFINITIONS + n, d);
-        n += 1;
     }
 }
 
@@ -104,7 +87,7 @@ pub fn fill_bodies(table: &[u16], index: &mut [u32]) -> bool
     }
     owners(table, &mut index[..HOMES]);
     homes(table, &mut index[HOMES..DEFINITIONS]);
-    clear(&mut index[DEFINITIONS..BINDERS]);
+    index[DEFINITIONS..BINDERS].fill(0);
     fill_definitions(table, index);
     true
 }

@@ -1,6 +1,8 @@
 // What the index of a table tells: the owner, the definition and the thread of a node, the node and the thread of a
 // branch, the binder and the thread of a name, the step up from a node, and the names that it holds. Exact on any
 // words: what the index has no word for reads 0.
+#![tactic(auto, unfolding(crate::specs::Index::numbered, crate::specs::Index::owners_in, crate::specs::Index::homes_in, crate::specs::Index::definitions_in, crate::specs::Index::binders_in))]
+
 ghost use Rattle.std.specs.Prelude.{◌≡◌, ◌≤◌, ◌<◌};
 ghost use Rattle.std.proofs.lemmas.List.Edits.{sets};
 ghost use Rattle.std.proofs.Math.Seq.{slice};
@@ -101,6 +103,7 @@ pub fn branch_thread(table: &[u16], index: &[u32], branch: usize) -> usize
 }
 
 // The thread of what binds a name; the count of threads where nothing does.
+#[tactic(auto, unfolding(crate::specs::Index::binder_thread_in))]
 pub fn name_thread(table: &[u16], index: &[u32], name: usize) -> usize
     ensures { Number (name_thread_at table.now index.now name) result }
 {
@@ -122,10 +125,8 @@ fn write_span(first: usize, count: usize, out: &mut [u32]) -> usize
     requires { (first < 65536) × (count < 65536) }
     ensures { (result ≡ count) × (out.new ≡ sets out.old 0 (from first count)) }
 {
-    let mut i = 0;
-    while i < count {
+    for i in 0..count {
         store(out, i, (first + i) as u32);
-        i += 1;
     }
     count
 }

@@ -1,4 +1,6 @@
 // The numbers that the entries of a table name, a span of consecutive numbers an entry, and tallies of them.
+#![tactic(auto, unfolding(lists::specs::Lists::same, crate::specs::Spans::tallied))]
+
 ghost use Rattle.std.specs.Prelude.{◌≡◌, ◌+◌, ◌-◌, ◌<◌};
 ghost use Rattle.lists.specs.Lists.{bit, from, range, flat};
 ghost use Rattle.scheme.specs.Words.{is_new, is_receive};
@@ -29,20 +31,14 @@ pub enum Source {
 fn new_count(table: &[u16], node: usize) -> usize
     ensures { Number (bit (is_new table.now node)) result }
 {
-    if field3(table, 10, node, 0) == 2 {
-        return 1;
-    }
-    0
+    usize::from(field3(table, 10, node, 0) == 2)
 }
 
 // 1 for a receive, 0 for another branch.
 fn received_count(table: &[u16], branch: usize) -> usize
     ensures { Number (bit (is_receive table.now branch)) result }
 {
-    if field4(table, 11, branch, 0) == 2 {
-        return 1;
-    }
-    0
+    usize::from(field4(table, 11, branch, 0) == 2)
 }
 
 // How many branches a node has.
@@ -112,10 +108,8 @@ pub fn tally(counts: &mut [u8], x: usize)
 pub fn tally_span(counts: &mut [u8], first: usize, end: usize)
     ensures { counts.new ≡ tally_all counts.old (from first (end - first)) }
 {
-    let mut x = first;
-    while x < end {
+    for x in first..end {
         tally(counts, x);
-        x += 1;
     }
 }
 
@@ -124,11 +118,9 @@ pub fn tally_source(table: &[u16], source: Source, n: usize, counts: &mut [u8])
     ensures { counts.new
         ≡ tally_all counts.old (flat (span_of table.now source) (range n)) }
 {
-    let mut i = 0;
-    while i < n {
+    for i in 0..n {
         let first = span_first(table, source, i);
         tally_span(counts, first, first + span_count(table, source, i));
-        i += 1;
     }
 }
 
@@ -136,10 +128,8 @@ pub fn tally_source(table: &[u16], source: Source, n: usize, counts: &mut [u8])
 pub(crate) fn put_span(out: &mut [u32], first: usize, end: usize, v: u32)
     ensures { out.new ≡ put_all v (from first (end - first)) out.old }
 {
-    let mut x = first;
-    while x < end {
+    for x in first..end {
         store(out, x, v);
-        x += 1;
     }
 }
 
@@ -148,9 +138,7 @@ pub(crate) fn scatter_source(table: &[u16], source: Source, n: usize, tag: u32, 
     requires { (n < 65536) × (tag < 262144) }
     ensures { out.new ≡ scatter (span_of table.now source) tag n out.old }
 {
-    let mut i = n;
-    while 0 < i {
-        i -= 1;
+    for i in (0..n).rev() {
         let first = span_first(table, source, i);
         put_span(
             out,

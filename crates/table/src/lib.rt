@@ -10,16 +10,14 @@ mod shape;
 mod tests;
 
 ghost use Rattle.std.specs.Prelude.{◌≡◌, ◌<◌};
-ghost use Rattle.lists.specs.Lists.{same};
-ghost use Rattle.table.specs.Answer.{cause_of};
+ghost use Rattle.table.specs.Answer.{cause_of, cause_number};
 ghost use Rattle.table.specs.Causes.{cause, cause_sparing, are_counts_right, is_layout_right};
 
 use lists::word;
 
-// What a table is refused for, or that it is accepted.
-#[derive(Clone, Copy)]
-pub enum Verdict {
-    Accepted,
+// What a table is refused for.
+#[derive(Clone, Copy, Debug, PartialEq, Eq)]
+pub enum Cause {
     Short,
     Counts,
     Layout,
@@ -31,81 +29,63 @@ pub enum Verdict {
     Calls,
 }
 
+impl From<Cause> for usize {
+    ghost from_gives = { λ cause number. (number ≡ cause_number cause) × (number < 10) };
+
+    fn from(cause: Cause) -> usize {
+        match cause {
+            Cause::Short => 1,
+            Cause::Counts => 2,
+            Cause::Layout => 3,
+            Cause::Kinds => 4,
+            Cause::Ranges => 5,
+            Cause::Shape => 6,
+            Cause::Binding => 7,
+            Cause::Scope => 8,
+            Cause::Calls => 9,
+        }
+    }
+}
+
 // The first cause, in number order, that applies to the words.
-pub fn check(table: &[u16]) -> Verdict
+pub fn check(table: &[u16]) -> Result<(), Cause>
     ensures { cause_of result ≡ cause table.now }
 {
     check_sparing(table, false)
 }
 
 // The same, with self-calls spared or not.
-pub fn check_sparing(table: &[u16], spared: bool) -> Verdict
+pub fn check_sparing(table: &[u16], spared: bool) -> Result<(), Cause>
     ensures { cause_of result ≡ cause_sparing table.now spared }
 {
     if table.len() < 13 {
-        return Verdict::Short;
+        return Err(Cause::Short);
     }
     if !counts_right(table) {
-        return Verdict::Counts;
+        return Err(Cause::Counts);
     }
     if !layout_right(table) {
-        return Verdict::Layout;
+        return Err(Cause::Layout);
     }
     if !kinds::kinds_right(table) {
-        return Verdict::Kinds;
+        return Err(Cause::Kinds);
     }
     if !ranges::ranges_right(table) {
-        return Verdict::Ranges;
+        return Err(Cause::Ranges);
     }
     if !shape::shape_right(table) {
-        return Verdict::Shape;
+        return Err(Cause::Shape);
     }
     if !binding::binding_right(table) {
-        return Verdict::Binding;
+        return Err(Cause::Binding);
     }
     if !scope::scope_right(table) {
-        return Verdict::Scope;
+        return Err(Cause::Scope);
     }
     if !calls::calls_right(table, spared) {
-        return Verdict::Calls;
+        return Err(Cause::Calls);
     }
-    Verdict::Accepted
-}
-
-// The number of a verdict's cause, 0 where nothing is refused.
-pub fn number(verdict: Verdict) -> usize
-    ensures { (result ≡ cause_of verdict) × (result < 10) }
-{
-    match verdict {
-        Verdict::Accepted => 0,
-        Verdict::Short => 1,
-        Verdict::Counts => 2,
-        Verdict::Layout => 3,
-        Verdict::Kinds => 4,
-        Verdict::Ranges => 5,
-        Verdict::Shape => 6,
-        Verdict::Binding => 7,
-        Verdict::Scope => 8,
-        Verdict::Calls => 9,
-    }
-}
-
-// Whether a verdict refuses nothing.
-pub fn is_accepted(verdict: Verdict) -> bool
-    ensures { result ≡ same (cause_of verdict) 0 }
-{
-    match verdict {
-        Verdict::Accepted => true,
-        Verdict::Short => false,
-        Verdict::Counts => false,
-        Verdict::Layout => false,
-        Verdict::Kinds => false,
-        Verdict::Ranges => false,
-        Verdict::Shape => false,
-        Verdict::Binding => false,
-        Verdict::Scope => false,
-        Verdict::Calls => false,
-    }
+    Ok(())
 }
 
 // Cause 2: whether each count is within its bound.

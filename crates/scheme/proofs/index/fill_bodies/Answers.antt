@@ -12,7 +12,7 @@ slice_bounds-owners-end-2 c = sym (length-take-le 256 c.args.index.now (omega ar
 pub fill_definitions-requires : goal.fill_definitions-requires
 fill_definitions-requires c =
     let a = c.args in
-    ready a.table.now a.index.now c.if-index-lt-BINDERS.false _ _ c.owners.ensures c.homes.ensures _ _ refl c.clear.ensures _ refl
+    ready a.table.now a.index.now c.if-index-lt-BINDERS.false _ _ c.owners.ensures c.homes.ensures _ _ refl (c.fill.ensures.after (λ y e. e)) _ refl
 
 pub returns : goal.returns
 returns c =
@@ -23,6 +23,6 @@ returns c =
       words =
           rw e
           (bodies-filled a.table.now a.index.now c.if-index-lt-BINDERS.false _ _ c.owners.ensures c.homes.ensures _ _ refl
-          c.clear.ensures _ refl _
+          (c.fill.ensures.after (λ y e. e)) _ refl _
           c.fill_definitions.ensures);
     }

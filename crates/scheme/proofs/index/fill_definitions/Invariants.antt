@@ -9,7 +9,4 @@ use Rattle.scheme.proofs.Parts.{node_word}
 use Rattle.scheme.proofs.index.fill_definitions.Given as goal
 
 abbrev pub invariant-loop-n : goal.invariant-loop-n
-invariant-loop-n l = (l.index ≡ sets l.initial.index definitions_offset (map (node_word l.table) (range l.n))) × (l.n ≤ 256) × (length l.index ≡ length l.initial.index)
-
-abbrev pub decreases-loop-n : goal.decreases-loop-n
-decreases-loop-n l = l.count - l.n
+invariant-loop-n l = (l.index ≡ sets l.initial.index definitions_offset (map (node_word l.table) (range l.n))) × (length l.index ≡ length l.initial.index)

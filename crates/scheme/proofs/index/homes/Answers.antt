@@ -7,4 +7,4 @@ pub returns : goal.returns
 returns c =
     let a = c.args in
     c.scatter_source.ensures ∙
-    rw (c.word.ensures.is, c.clear.ensures) (homes-scattered a.table.now (length a.out.now))
+    rw (c.word.ensures.is, c.fill.ensures.after (λ y e. e)) (homes-scattered a.table.now (length a.out.now))

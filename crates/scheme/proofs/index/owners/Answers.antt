@@ -13,5 +13,5 @@ returns c =
       c.word-2.ensures.is,
       c.scatter_source.ensures,
       c.word.ensures.is,
-      c.clear.ensures,
+      c.fill.ensures.after (λ y e. e),
     ) (owners-scattered a.table.now (length a.out.now))

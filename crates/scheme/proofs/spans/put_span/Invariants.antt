@@ -7,6 +7,3 @@ use Rattle.scheme.proofs.spans.put_span.Given as goal
 
 abbrev pub invariant-loop-x : goal.invariant-loop-x
 invariant-loop-x l = (put_all l.v (from l.first (l.end - l.first)) l.initial.out ≡ put_all l.v (from l.x (l.end - l.x)) l.out) × (length l.out ≡ length l.initial.out)
-
-abbrev pub decreases-loop-x : goal.decreases-loop-x
-decreases-loop-x l = l.end - l.x

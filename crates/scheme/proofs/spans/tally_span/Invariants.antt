@@ -7,6 +7,3 @@ use Rattle.scheme.proofs.spans.tally_span.Given as goal
 
 abbrev pub invariant-loop-x : goal.invariant-loop-x
 invariant-loop-x l = (tally_all l.initial.counts (from l.first (l.end - l.first)) ≡ tally_all l.counts (from l.x (l.end - l.x))) × (length l.counts ≡ length l.initial.counts)
-
-abbrev pub decreases-loop-x : goal.decreases-loop-x
-decreases-loop-x l = l.end - l.x
