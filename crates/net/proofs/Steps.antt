@@ -14,10 +14,6 @@ use Rattle.lists.proofs.Tests.{and_left, same-yes, same-no, same_true}
 use Rattle.lists.proofs.Slices.{drop-step, drop-none}
 use Rattle.net.proofs.Marks.{length-put}
 use Rattle.net.proofs.Images.{Good}
-use Rattle.net.specs.declared.Cause.{Cause}
-use Rattle.net.specs.declared.Firing.{Firing}
-use Rattle.net.specs.declared.Firing.TheVariants.{Made, Refused}
-use Rattle.net.specs.Answers.{firing_number, firings_made, firing_outcome}
 use Rattle.net.specs.Inner.Arcs.{Fired}
 use Rattle.net.specs.Image.{place_count_of, transition_count, initial_places, is_header_right, inputs_at, outputs_at, record_right}
 use Rattle.net.specs.Firing.{is_marking, is_enabled, has_contact, put, moved, initial_marking, Step, made, refused}
@@ -110,13 +106,6 @@ module _ (w m : List ℕ) (t : ℕ) where
     pub fire-as : is_marking (place_count_of w) m ≡ true → fire w m t ≡ in_turn w m (t ∷ [])
     unfolding fire
     fire-as b = rw (a, b)
-
--- the answer of one firing, by its cases
-pub made-outcome : (r : Firing) (m : List ℕ) (o : Outcome) → r ≡ Made → firing_outcome r m ≡ o → outcome 0 1 m ≡ o
-made-outcome r m o p e = sym (ap (λ (f : Firing). firing_outcome f m) p) ∙ e
-
-pub refused-outcome : (r : Firing) (c : Cause) (m : List ℕ) (o : Outcome) → r ≡ Refused c → firing_outcome r m ≡ o → outcome (firing_number r) 0 m ≡ o
-refused-outcome r c m o p e = sym (ap (λ (f : Firing). outcome (firing_number r) (firings_made f) m) p) ∙ e
 
 -- an enabled transition is fired or meets a contact
 pub fired-enabled : (s : Step) (m ins outs next : List ℕ) (r : Bool) → s ≡ step_of m ins outs → is_enabled m ins ≡ true → r ≡ not (has_contact m ins outs)

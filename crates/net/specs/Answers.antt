@@ -1,11 +1,9 @@
 -- The documents' number and values for each case of the calls' answers.
-use Rattle.std.specs.Prelude.{◌≡◌, List, ◌++◌, ℕ, drop}
+use Rattle.std.specs.Prelude.{◌≡◌, List, ◌++◌, ℕ, drop, Result, Ok, Err, ⊤}
 use Rattle.net.specs.declared.Cause.{Cause}
 use Rattle.net.specs.declared.Cause.TheVariants.{ImageWrong, RecordWrong, MarkingWrong, NoTransition, NotEnabled, Contact}
-use Rattle.net.specs.declared.Firing.{Firing}
-use Rattle.net.specs.declared.Firing.TheVariants.{Made, Refused}
-use Rattle.net.specs.declared.Looked.{Looked}
-use Rattle.net.specs.declared.Looked.TheVariants as looks
+use Rattle.net.specs.declared.Refusal.{Refusal}
+use Rattle.net.specs.declared.Refusal.TheVariants as refusals
 use Rattle.net.specs.declared.Replayed.{Replayed}
 use Rattle.net.specs.declared.Reason.{Reason}
 use Rattle.net.specs.declared.Reason.TheVariants.{LimitReached, HistoryFull, NothingEnabled, Stopped}
@@ -23,33 +21,33 @@ cause_number NotEnabled = 15
 cause_number Contact = 16
 
 -- the number of an answer, 0 where nothing was refused
-abbrev pub firing_number : Firing → ℕ
-firing_number Made = 0
-firing_number (Refused cause) = cause_number cause
+abbrev pub firing_number : Result ⊤ Cause → ℕ
+firing_number (Ok done) = 0
+firing_number (Err cause) = cause_number cause
 
 -- the firings that a single firing made
-abbrev pub firings_made : Firing → ℕ
-firings_made Made = 1
-firings_made (Refused cause) = 0
+abbrev pub firings_made : Result ⊤ Cause → ℕ
+firings_made (Ok done) = 1
+firings_made (Err cause) = 0
 
 -- a single firing's answer with the marking that it left
-abbrev pub firing_outcome : Firing → List ℕ → Outcome
+abbrev pub firing_outcome : Result ⊤ Cause → List ℕ → Outcome
 firing_outcome answer marking = outcome (firing_number answer) (firings_made answer) marking
 
 -- the number of a look's answer, 0 where nothing was refused
-abbrev pub look_number : Looked → ℕ
-look_number (looks.Done bytes) = 0
-look_number (looks.Refused cause) = cause_number cause
-look_number looks.NoRoom = 10
+abbrev pub look_number : Result ℕ Refusal → ℕ
+look_number (Ok bytes) = 0
+look_number (Err (refusals.Cause cause)) = cause_number cause
+look_number (Err refusals.NoRoom) = 10
 
 -- the bytes that a look wrote
-abbrev pub bytes_shown : Looked → ℕ
-bytes_shown (looks.Done bytes) = bytes
-bytes_shown (looks.Refused cause) = 0
-bytes_shown looks.NoRoom = 0
+abbrev pub bytes_shown : Result ℕ Refusal → ℕ
+bytes_shown (Ok bytes) = bytes
+bytes_shown (Err (refusals.Cause cause)) = 0
+bytes_shown (Err refusals.NoRoom) = 0
 
 -- a look's answer with the second buffer that it left
-abbrev pub look_outcome : Looked → List ℕ → LookOutcome
+abbrev pub look_outcome : Result ℕ Refusal → List ℕ → LookOutcome
 look_outcome answer next = looked (look_number answer) (bytes_shown answer) next
 
 -- a replay's answer with the marking that it left

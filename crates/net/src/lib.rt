@@ -9,7 +9,8 @@ ghost use Rattle.net.specs.Image.{are_records_right};
 ghost use Rattle.net.specs.Firing.{is_marking, is_enabled, initial_marking};
 ghost use Rattle.net.specs.Firing.{step, in_turn, fire, replay, run_by, run_of, run, run_of_lowest};
 ghost use Rattle.net.specs.Looking.{shown, look};
-ghost use Rattle.net.specs.Answers.{firing_outcome, look_outcome, replay_outcome, Leaves};
+ghost use Rattle.net.specs.Answers.{cause_number, firing_outcome, look_outcome, replay_outcome, Leaves};
+ghost use Rattle.net.specs.declared.Refusal.TheVariants as refusals;
 ghost use Rattle.net.specs.Inner.Arcs.{Header, Larger, Fired};
 ghost use Rattle.net.specs.Inner.Passes.{rule_of, is_end_at};
 
@@ -21,7 +22,7 @@ use arcs::{
 };
 
 // Why a call refuses: causes 11, 12, 13, 14, 15 and 16.
-#[derive(Clone, Copy)]
+#[derive(Clone, Copy, Debug, PartialEq, Eq)]
 pub enum Cause {
     ImageWrong,
     RecordWrong,
@@ -31,30 +32,45 @@ pub enum Cause {
     Contact,
 }
 
-// What a single firing answers.
-#[derive(Clone, Copy)]
-pub enum Firing {
-    Made,
-    Refused(Cause),
+impl From<Cause> for usize {
+    ghost from_gives = { λ c n. n ≡ cause_number c };
+
+    fn from(cause: Cause) -> usize {
+        match cause {
+            Cause::ImageWrong => 11,
+            Cause::RecordWrong => 12,
+            Cause::MarkingWrong => 13,
+            Cause::NoTransition => 14,
+            Cause::NotEnabled => 15,
+            Cause::Contact => 16,
+        }
+    }
 }
 
-// What a look answers: how many bytes it wrote, or what it refuses.
-#[derive(Clone, Copy)]
-pub enum Looked {
-    Done(usize),
-    Refused(Cause),
+// Why a call that writes a list refuses: a cause, or 10.
+#[derive(Clone, Copy, Debug, PartialEq, Eq)]
+pub enum Refusal {
+    Cause(Cause),
     NoRoom,
 }
 
+impl From<Cause> for Refusal {
+    ghost from_gives = { λ c r. r ≡ refusals.Cause c };
+
+    fn from(cause: Cause) -> Refusal {
+        Refusal::Cause(cause)
+    }
+}
+
 // What a replay answers: its last firing's answer, and its count of firings.
-#[derive(Clone, Copy)]
+#[derive(Clone, Copy, Debug, PartialEq, Eq)]
 pub struct Replayed {
-    pub outcome: Firing,
+    pub outcome: Result<(), Cause>,
     pub firings: usize,
 }
 
 // Why a run ended.
-#[derive(Clone, Copy)]
+#[derive(Clone, Copy, Debug, PartialEq, Eq)]
 pub enum Reason {
     LimitReached,
     HistoryFull,
@@ -63,7 +79,7 @@ pub enum Reason {
 }
 
 // What a run answers: the reason and its count of firings.
-#[derive(Clone, Copy)]
+#[derive(Clone, Copy, Debug, PartialEq, Eq)]
 pub struct Ran {
     pub reason: Reason,
     pub firings: usize,
@@ -133,26 +149,26 @@ pub fn marking_right(marking: &[u8], places: usize) -> bool
 }
 
 // One firing on an image whose header is right, at a marking of its length. It costs its arcs.
-fn fire_one(image: &[u32], marking: &mut [u8], transition: usize) -> Firing
+fn fire_one(image: &[u32], marking: &mut [u8], transition: usize) -> Result<(), Cause>
     requires { Header image.now × (length marking.old ≡ place_count_of image.now) }
     ensures { firing_outcome result marking.new
         ≡ in_turn image.now marking.old (transition ∷ []) }
 {
     let count = image[1] as usize;
     if count <= transition {
-        return Firing::Refused(Cause::NoTransition);
+        return Err(Cause::NoTransition);
     }
     let Record::Arcs(start, middle, end) = record_at(image, transition, false) else {
-        return Firing::Refused(Cause::RecordWrong);
+        return Err(Cause::RecordWrong);
     };
     if !all_marked(image, start, middle, marking) {
-        return Firing::Refused(Cause::NotEnabled);
+        return Err(Cause::NotEnabled);
     }
     if contact(image, start, middle, end, marking) {
-        return Firing::Refused(Cause::Contact);
+        return Err(Cause::Contact);
     }
     move_tokens(image, start, middle, end, marking);
-    Firing::Made
+    Ok(())
 }
 
 // Fires a transition whose record is right and whose inputs have their tokens. At a contact it answers false and
@@ -178,16 +194,16 @@ fn fire_enabled(image: &[u32], marking: &mut [u8], transition: usize) -> bool
 }
 
 // Fires one transition by number: 11, 13, 14, 12, 15, 16. A refusal leaves the marking.
-pub fn fire(image: &[u32], marking: &mut [u8], transition: u32) -> Firing
+pub fn fire(image: &[u32], marking: &mut [u8], transition: u32) -> Result<(), Cause>
     ensures { firing_outcome result marking.new
         ≡ fire image.now marking.old transition }
 {
     if !header_right(image) {
-        return Firing::Refused(Cause::ImageWrong);
+        return Err(Cause::ImageWrong);
     }
     let places = image[0] as usize;
     if !marking_right(marking, places) {
-        return Firing::Refused(Cause::MarkingWrong);
+        return Err(Cause::MarkingWrong);
     }
     fire_one(image, marking, transition as usize)
 }
@@ -207,7 +223,7 @@ fn copy(from: &[u8], to: &mut [u8])
 
 // One look on an image whose header is right, at a marking of its length: 14, 12, 15 and 16 as of a firing, then 10.
 // It costs a copy of the marking and the arcs.
-fn look_one(image: &[u32], marking: &[u8], number: usize, next: &mut [u8]) -> Looked
+fn look_one(image: &[u32], marking: &[u8], number: usize, next: &mut [u8]) -> Result<usize, Refusal>
     requires { Header image.now × (length marking.now ≡ place_count_of image.now) }
     ensures { look_outcome result next.new
         ≡ shown (place_count_of image.now)
@@ -217,37 +233,42 @@ fn look_one(image: &[u32], marking: &[u8], number: usize, next: &mut [u8]) -> Lo
     let places = marking.len();
     let room = next.len();
     if count <= number {
-        return Looked::Refused(Cause::NoTransition);
+        return Err(Refusal::Cause(Cause::NoTransition));
     }
     let Record::Arcs(inputs, outputs, end) = record_at(image, number, false) else {
-        return Looked::Refused(Cause::RecordWrong);
+        return Err(Refusal::Cause(Cause::RecordWrong));
     };
     if !all_marked(image, inputs, outputs, marking) {
-        return Looked::Refused(Cause::NotEnabled);
+        return Err(Refusal::Cause(Cause::NotEnabled));
     }
     if contact(image, inputs, outputs, end, marking) {
-        return Looked::Refused(Cause::Contact);
+        return Err(Refusal::Cause(Cause::Contact));
     }
     if room < places {
-        return Looked::NoRoom;
+        return Err(Refusal::NoRoom);
     }
     copy(marking, next);
     move_tokens(image, inputs, outputs, end, &mut next[..places]);
-    Looked::Done(places)
+    Ok(places)
 }
 
 // Writes to the front of `next` what firing a transition by number would leave. It is refused as the firing is, by 11,
 // 13, 14, 12, 15 or 16, then by 10. A refusal writes nothing, and the marking is only read.
-pub fn look(image: &[u32], marking: &[u8], transition: u32, next: &mut [u8]) -> Looked
+pub fn look(
+    image: &[u32],
+    marking: &[u8],
+    transition: u32,
+    next: &mut [u8],
+) -> Result<usize, Refusal>
     ensures { look_outcome result next.new
         ≡ look image.now marking.now transition next.old }
 {
     if !header_right(image) {
-        return Looked::Refused(Cause::ImageWrong);
+        return Err(Refusal::Cause(Cause::ImageWrong));
     }
     let places = image[0] as usize;
     if !marking_right(marking, places) {
-        return Looked::Refused(Cause::MarkingWrong);
+        return Err(Refusal::Cause(Cause::MarkingWrong));
     }
     look_one(image, marking, transition as usize, next)
 }
@@ -260,17 +281,16 @@ fn fire_all(image: &[u32], marking: &mut [u8], numbers: &[u32]) -> Replayed
 {
     let mut i = 0;
     while i < numbers.len() {
-        let fired = fire_one(image, marking, numbers[i] as usize);
-        let Firing::Made = fired else {
+        if let Err(cause) = fire_one(image, marking, numbers[i] as usize) {
             return Replayed {
-                outcome: fired,
+                outcome: Err(cause),
                 firings: i,
             };
-        };
+        }
         i += 1;
     }
     Replayed {
-        outcome: Firing::Made,
+        outcome: Ok(()),
         firings: i,
     }
 }
@@ -293,14 +313,14 @@ pub fn replay(image: &[u32], marking: &mut [u8], numbers: &[u32]) -> Replayed
 {
     if !header_right(image) {
         return Replayed {
-            outcome: Firing::Refused(Cause::ImageWrong),
+            outcome: Err(Cause::ImageWrong),
             firings: 0,
         };
     }
     let places = image[0] as usize;
     if marking.len() != places {
         return Replayed {
-            outcome: Firing::Refused(Cause::MarkingWrong),
+            outcome: Err(Cause::MarkingWrong),
             firings: 0,
         };
     }

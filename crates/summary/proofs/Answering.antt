@@ -8,7 +8,7 @@ use Rattle.net.proofs.Steps.{marking-length}
 use Rattle.summary.specs.Summary.{Summary, summary, set_length, summary_of, same_summary, worked_out, shares}
 use Rattle.summary.specs.Calls as Calls
 use Rattle.summary.specs.Calls.{keeps, are_lengths_right, make_summary, fire_with, check_cause}
-use Rattle.summary.specs.declared.Kept.TheVariants.{Done}
+use Rattle.std.specs.Prelude.{Ok}
 use Rattle.summary.specs.Answers.{keep_outcome}
 use Rattle.summary.specs.Inner.Marks.{Sound, Fits}
 
@@ -104,7 +104,7 @@ module _ (w m : List ℕ) (s : Summary) (t : ℕ) where
                 ∙ ap (λ (r : Step). elim r [ made x ↦ keeps 0 1 x (worked_out w (shares w t) x s) | refused cause ↦ keeps cause 0 m s ]) e
 
 -- what the call leaves, as its answer
-pub answer-made : (m next counts enabled : List ℕ) (s : Summary) → m ≡ next → summary counts enabled ≡ s → keep_outcome Done m counts enabled ≡ keeps 0 1 next s
+pub answer-made : (m next counts enabled : List ℕ) (s : Summary) → m ≡ next → summary counts enabled ≡ s → keep_outcome (Ok tt) m counts enabled ≡ keeps 0 1 next s
 answer-made m next counts enabled s p q = rw (p, q) refl
 
 -- lists of the lengths asked for

@@ -8,6 +8,7 @@ ghost use Rattle.lists.specs.Lists.{pick, same, word, from, every};
 ghost use Rattle.net.specs.Image.{place_count_of, transition_count, inputs_at, outputs_at};
 ghost use Rattle.net.specs.Firing.{is_marking, is_enabled, has_contact, put, moved};
 ghost use Rattle.net.specs.Inner.Arcs.{Header, Listed, Offsets};
+ghost use Rattle.summary.specs.declared.Refusal.TheVariants as refusals;
 ghost use Rattle.summary.specs.Sets.{is_in_set, lowest_in, number_in};
 ghost use Rattle.summary.specs.Summary.{summary, summary_of, worked_out, shares, same_summary};
 ghost use Rattle.summary.specs.Calls.{make_summary, fire_with, check_cause};
@@ -19,27 +20,19 @@ mod bits;
 
 use net::Cause;
 
-// What making a summary answers: how many transitions were counted, or what it refuses.
-#[derive(Clone, Copy)]
-pub enum Made {
-    Done(usize),
-    Refused(Cause),
-    NoRoom,
-}
-
-// What a firing with a summary, and a check of one, answer: 20 where the summary is wrong.
-#[derive(Clone, Copy)]
-pub enum Kept {
-    Done,
-    Refused(Cause),
+// Why a firing with a summary, and a check of one, refuse: a cause, or 20 where the summary is wrong.
+#[derive(Clone, Copy, Debug, PartialEq, Eq)]
+pub enum Refusal {
+    Cause(Cause),
     SummaryWrong,
 }
 
-// The lowest of a set: bit b of word w is 64·w + b.
-#[derive(Clone, Copy)]
-pub enum Found {
-    At(usize, u32),
-    Nothing,
+impl From<Cause> for Refusal {
+    ghost from_gives = { λ c r. r ≡ refusals.Cause c };
+
+    fn from(cause: Cause) -> Refusal {
+        Refusal::Cause(cause)
+    }
 }
 
 // Where the inputs of a transition start, where its outputs start and where they end.
@@ -50,19 +43,19 @@ struct Span {
     end: usize,
 }
 
-// The lowest transition of the set as lent, by counting trailing zeros.
-pub fn lowest(enabled: &[u64]) -> Found
+// The lowest transition of the set as lent, by counting trailing zeros: bit b of word w is 64·w + b.
+pub fn lowest(enabled: &[u64]) -> Option<(usize, u32)>
     ensures { lowest_found result ≡ lowest_in enabled.now }
 {
     let mut i = 0;
     while i < enabled.len() {
         let zeros = u64::trailing_zeros(enabled[i]);
         if zeros < 64 {
-            return Found::At(i, zeros);
+            return Some((i, zeros));
         }
         i += 1;
     }
-    Found::Nothing
+    None
 }
 
 // How many transitions the set has as lent, by counting ones, modulo 2⁶⁴.
@@ -250,31 +243,36 @@ fn make_all(image: &[u32], marking: &[u8], counts: &mut [u32], enabled: &mut [u6
 
 // Makes the summary of a marking at the start of both lists: 11, 13, 12 (every record), then 10. A refusal writes
 // nothing.
-pub fn make(image: &[u32], marking: &[u8], counts: &mut [u32], enabled: &mut [u64]) -> Made
+pub fn make(
+    image: &[u32],
+    marking: &[u8],
+    counts: &mut [u32],
+    enabled: &mut [u64],
+) -> Result<usize, net::Refusal>
     ensures { make_outcome result counts.new enabled.new
         ≡ make_summary image.now marking.now
         (summary counts.old enabled.old) }
 {
     if !net::header_right(image) {
-        return Made::Refused(Cause::ImageWrong);
+        return Err(net::Refusal::Cause(Cause::ImageWrong));
     }
     let places = image[0] as usize;
     if !net::marking_right(marking, places) {
-        return Made::Refused(Cause::MarkingWrong);
+        return Err(net::Refusal::Cause(Cause::MarkingWrong));
     }
     if !net::records_right(image) {
-        return Made::Refused(Cause::RecordWrong);
+        return Err(net::Refusal::Cause(Cause::RecordWrong));
     }
     let count = image[1] as usize;
     let words = (count + 63) / 64;
     if counts.len() < count {
-        return Made::NoRoom;
+        return Err(net::Refusal::NoRoom);
     }
     if enabled.len() < words {
-        return Made::NoRoom;
+        return Err(net::Refusal::NoRoom);
     }
     make_all(image, marking, &mut counts[..count], &mut enabled[..words]);
-    Made::Done(count)
+    Ok(count)
 }
 
 // Whether a summary has a count for each of so many transitions, and a bit.
@@ -344,7 +342,7 @@ fn fire_known(
     counts: &mut [u32],
     enabled: &mut [u64],
     transition: usize,
-) -> Kept
+) -> Result<(), Refusal>
     requires { Sound image.now marking.old
         × Fits image.now counts.old enabled.old
         × (transition < transition_count image.now)
@@ -358,13 +356,13 @@ fn fire_known(
     let outputs = span.outputs;
     let end = span.end;
     if missing(image, inputs, outputs, marking) != 0 {
-        return Kept::Refused(Cause::NotEnabled);
+        return Err(Refusal::Cause(Cause::NotEnabled));
     }
     if contact(image, marking, inputs, outputs, end) {
-        return Kept::Refused(Cause::Contact);
+        return Err(Refusal::Cause(Cause::Contact));
     }
     keep(image, marking, counts, enabled, transition);
-    Kept::Done
+    Ok(())
 }
 
 // Fires by number and keeps the summary: 11, 13, 20 (a length not exact), 14, 12 (every record), 15, 16. It decides by
@@ -375,27 +373,27 @@ pub fn fire(
     counts: &mut [u32],
     enabled: &mut [u64],
     transition: u32,
-) -> Kept
+) -> Result<(), Refusal>
     ensures { keep_outcome result marking.new counts.new enabled.new
         ≡ fire_with image.now marking.old
         (summary counts.old enabled.old) transition }
 {
     if !net::header_right(image) {
-        return Kept::Refused(Cause::ImageWrong);
+        return Err(Refusal::Cause(Cause::ImageWrong));
     }
     let places = image[0] as usize;
     let count = image[1];
     if !net::marking_right(marking, places) {
-        return Kept::Refused(Cause::MarkingWrong);
+        return Err(Refusal::Cause(Cause::MarkingWrong));
     }
     if !lengths_right(count as usize, counts.len(), enabled.len()) {
-        return Kept::SummaryWrong;
+        return Err(Refusal::SummaryWrong);
     }
     if count <= transition {
-        return Kept::Refused(Cause::NoTransition);
+        return Err(Refusal::Cause(Cause::NoTransition));
     }
     if !net::records_right(image) {
-        return Kept::Refused(Cause::RecordWrong);
+        return Err(Refusal::Cause(Cause::RecordWrong));
     }
     fire_known(image, marking, counts, enabled, transition as usize)
 }
@@ -464,27 +462,27 @@ fn entries_right(image: &[u32], marking: &[u8], counts: &[u32], enabled: &[u64])
 }
 
 // Checks a summary: 11, 13, 20 (lengths), 12 (every record), 20 (contents, spare bits too).
-pub fn check(image: &[u32], marking: &[u8], counts: &[u32], enabled: &[u64]) -> Kept
+pub fn check(image: &[u32], marking: &[u8], counts: &[u32], enabled: &[u64]) -> Result<(), Refusal>
     ensures { kept_number result
         ≡ check_cause image.now marking.now
         (summary counts.now enabled.now) }
 {
     if !net::header_right(image) {
-        return Kept::Refused(Cause::ImageWrong);
+        return Err(Refusal::Cause(Cause::ImageWrong));
     }
     let places = image[0] as usize;
     let count = image[1] as usize;
     if !net::marking_right(marking, places) {
-        return Kept::Refused(Cause::MarkingWrong);
+        return Err(Refusal::Cause(Cause::MarkingWrong));
     }
     if !lengths_right(count, counts.len(), enabled.len()) {
-        return Kept::SummaryWrong;
+        return Err(Refusal::SummaryWrong);
     }
     if !net::records_right(image) {
-        return Kept::Refused(Cause::RecordWrong);
+        return Err(Refusal::Cause(Cause::RecordWrong));
     }
     if !entries_right(image, marking, counts, enabled) {
-        return Kept::SummaryWrong;
+        return Err(Refusal::SummaryWrong);
     }
-    Kept::Done
+    Ok(())
 }
