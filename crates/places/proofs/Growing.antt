@@ -43,9 +43,9 @@ pub some-none : (p : ℕ → Bool) → some p (range 0) ≡ false
 unfolding some from
 some-none p = refl
 
-pub bit-either : (h g : Bool) → bit (h || g) ≤ bit g + bit h
-bit-either true g = omega arith
-bit-either false g = omega arith
+pub bit-either : (g h : Bool) → bit (g || h) ≤ bit g + bit h
+bit-either true h = omega arith
+bit-either false h = omega arith
 
 -- ---- just this is joined
 
@@ -112,11 +112,11 @@ pub joined-none : (ws : List ℕ) (B : ℕ → ℕ → Bool) → ((x o : ℕ) �
 joined-none ws B f = record { adds = adds_none ws B f; still = λ e. refl; rises = omega arith }
 
 pub joined-then : (a b c : List ℕ) (g h : Bool) (B C D : ℕ → ℕ → Bool) → ((x o : ℕ) → (B x o || C x o) ≡ D x o) → Joined a b g B → Joined b c h C
-    → Joined a c (h || g) D
+    → Joined a c (g || h) D
 joined-then a b c g h B C D f F G = record {
   adds = adds_same a c (λ x o. B x o || C x o) D f (adds_then a b c B C F.adds G.adds);
-  still = λ e. let (p, q) = or-none h g e in G.still p ∙ F.still q;
-  rises = omega (arith, F.rises, G.rises, bit-either h g);
+  still = λ e. let (p, q) = or-none g h e in G.still q ∙ F.still p;
+  rises = omega (arith, F.rises, G.rises, bit-either g h);
 }
 
 pub joined_same : (a b : List ℕ) (g : Bool) (B C : ℕ → ℕ → Bool) → ((x o : ℕ) → B x o ≡ C x o) → Joined a b g B → Joined a b g C
@@ -156,15 +156,15 @@ grown-joined a b g B mono J = record {
     went Q cl u x o (inr q) = cl x o (mono (in_set a) Q u x o q)
 
 pub grown-then : (a b c : List ℕ) (g h : Bool) (B C D : Flow) → ((R : ℕ → ℕ → Bool) (x o : ℕ) → (B R x o || C R x o) ≡ D R x o) → Grown a b g B
-    → Grown b c h C → Grown a c (h || g) D
+    → Grown b c h C → Grown a c (g || h) D
 grown-then a b c g h B C D f F G = record {
   size = G.size ∙ F.size;
   keeps = λ x o q. G.keeps x o (F.keeps x o q);
   within =
       λ Q cl u. G.within Q (λ x o q. cl x o (sym (f Q x o) ∙ or_right (B Q x o) (C Q x o) q))
       (F.within Q (λ x o q. cl x o (sym (f Q x o) ∙ or_left (B Q x o) (C Q x o) q)) u);
-  still = λ e. let (p, q) = or-none h g e in stopped (F.still q) (G.still p);
-  rises = omega (arith, F.rises, G.rises, bit-either h g);
+  still = λ e. let (p, q) = or-none g h e in stopped (F.still p) (G.still q);
+  rises = omega (arith, F.rises, G.rises, bit-either g h);
 }
   where
     stopped : (b ≡ a) × Quiet a B → (c ≡ b) × Quiet b C → (c ≡ a) × Quiet a D
@@ -176,7 +176,7 @@ grown-then a b c g h B C D f F G = record {
 
 -- one step more of a loop
 pub grown-next : (a b c : List ℕ) (g h : Bool) (B : ℕ → Flow) (i : ℕ) → Grown a b g (λ R x o. some (λ j. B j R x o) (range i)) → Grown b c h (B i)
-    → Grown a c (h || g) (λ R x o. some (λ j. B j R x o) (range (i + 1)))
+    → Grown a c (g || h) (λ R x o. some (λ j. B j R x o) (range (i + 1)))
 grown-next a b c g h B i =
     grown-then a b c g h (λ R x o. some (λ j. B j R x o) (range i)) (B i) (λ R x o. some (λ j. B j R x o) (range (i + 1)))
     (λ R x o. sym (some_next (λ j. B j R x o) i))

@@ -1,21 +1,21 @@
 -- What `plan` and `measure` answer, as code meets it: where the plan stands, where the table is refused, where the lent words are too few.
-use Rattle.std.proofs.Common.{◌≡◌, ℕ, ◌<◌, ◌≤◌, Bool, true, false, leb, List, ◌++◌, length, drop, refl, ap, ◌∙◌, arith, le-leb, leb-true}
+use Rattle.std.specs.Prelude.{⊤}
+use Rattle.std.proofs.Common.{◌≡◌, ℕ, ◌<◌, ◌≤◌, Bool, true, false, leb, List, Result, Ok, Err, IsErrAnd, ◌++◌, length, drop, refl, ap, ◌∙◌, arith, le-leb, leb-true}
 use borrow.Author.Tests.{lt-leb}
 use Rattle.lists.specs.Lists.{pick, same}
 use Rattle.lists.proofs.Tests.{same_true, same-yes, same-no, same_false, false-true}
-use Rattle.table.specs.Answer.{cause_of}
+use Rattle.table.specs.Answer.{cause_number}
 use Rattle.table.specs.Causes.{cause}
-use Rattle.table.specs.declared.Verdict.{Verdict}
+use Rattle.table.specs.declared.Cause.{Cause}
+use Rattle.table.specs.declared.Cause.TheVariants.{Short, Counts, Layout, Kinds, Ranges, Shape, Binding, Scope, Calls}
 use Rattle.places.specs.Plan.{plan_end, plan_words, Laid}
 use Rattle.places.specs.Sides.{pairs_end, pair_words}
 use Rattle.places.specs.Inner.Counting.{Pairs}
 use Rattle.places.specs.Answers.{Sums, sums_of, net_sums, Answer, ready, counted, refused, short, Outcome, outcome, Measurement, measurement}
-use Rattle.places.specs.Answers.{planned, answered, measured, plan_outcome, measure_outcome, short_answer}
+use Rattle.places.specs.Answers.{planned, measured, plan_outcome, measure_outcome}
 use Rattle.places.specs.declared.count.Totals.{Totals}
-use Rattle.places.specs.declared.Planned.{Planned}
-use Rattle.places.specs.declared.Planned.TheVariants.{Ready, Refused, Short}
-use Rattle.places.specs.declared.Measured.{Measured}
-use Rattle.places.specs.declared.Measured.TheVariants as measure
+use Rattle.places.specs.declared.Refusal.{Refusal}
+use Rattle.places.specs.declared.Refusal.TheVariants.{Table, NoRoom}
 use Rattle.places.proofs.Plans.{laid-with, plan-laid}
 use Rattle.places.proofs.Meeting.{pairs-filled, pairs-same}
 
@@ -40,12 +40,28 @@ counts (counted s) d = s
 counts (refused n) d = d
 counts short d = d
 
+-- a cause is not 0
+named : (v : Cause) → 0 < cause_number v
+named Short = omega arith
+named Counts = omega arith
+named Layout = omega arith
+named Kinds = omega arith
+named Ranges = omega arith
+named Shape = omega arith
+named Binding = omega arith
+named Scope = omega arith
+named Calls = omega arith
+
+not-accepted : (w : List ℕ) (v : Cause) → cause_number v ≡ cause w → cause w ≡ 0 → ⊥
+not-accepted w v e z = omega (arith, named v)
+
 -- ---- what `plan` answers
 
 module _ (w lent : List ℕ) where
-  pub is-refused : (n : ℕ) → same n 0 ≡ false → n ≡ cause w → outcome (refused n) lent ≡ plan_outcome w lent
+  pub is-refused : (v : Cause) → cause_number v ≡ cause w → (r : Result ⊤ Refusal) → IsErrAnd r (λ q. q ≡ Table v) → planned r lent ≡ plan_outcome w lent
   unfolding plan_outcome
-  is-refused n h e = rw (← e, h)
+  is-refused v e (Ok u) h = absurd h
+  is-refused v e (Err q) h = rw (h, e, same-no (cause w) 0 (not-accepted w v e))
 
   pub is-short : cause w ≡ 0 → length lent < plan_end → outcome short lent ≡ plan_outcome w lent
   unfolding plan_outcome
@@ -94,36 +110,37 @@ module _ (w lent : List ℕ) where
             (same_true (cause w) 0 e, λ room. false-true f (le-leb plan_end (length lent) room), ap (λ (o : Outcome). o.left) q)
         go false l e f q = absurd (omega (arith, kinds q, k))
 
-module _ (w lent left : List ℕ) (r : Planned) (right : planned r left ≡ plan_outcome w lent) where
-  ready-told : r ≡ Ready → (cause w ≡ 0) × (plan_end ≤ length lent) × (left ≡ plan_words w ++ drop plan_end lent)
-  ready-told e = stands-told w lent ready left (rw e at right) refl
+module _ (w lent left : List ℕ) (r : Result ⊤ Refusal) (right : planned r left ≡ plan_outcome w lent) where
+  ready-told : (u : ⊤) → r ≡ Ok u → (cause w ≡ 0) × (plan_end ≤ length lent) × (left ≡ plan_words w ++ drop plan_end lent)
+  ready-told u e = stands-told w lent ready left (rw e at right) refl
 
-  pub plan-ready : r ≡ Ready → Laid w left
-  plan-ready e = let t = ready-told e in laid-with w left (drop plan_end lent) t.0 t.2
+  pub plan-ready : (u : ⊤) → r ≡ Ok u → Laid w left
+  plan-ready u e = let t = ready-told u e in laid-with w left (drop plan_end lent) t.0 t.2
 
-  pub plan-refused : (v : Verdict) → r ≡ Refused v → (cause_of v ≡ cause w) × (cause w ≡ 0 → ⊥)
+  pub plan-refused : (v : Cause) → r ≡ Err (Table v) → (cause_number v ≡ cause w) × (cause w ≡ 0 → ⊥)
   plan-refused v e =
-      let t = refused-told w lent (refused (cause_of v)) left (rw e at right) refl in
+      let t = refused-told w lent (refused (cause_number v)) left (rw e at right) refl in
       (ap number t.0, t.1)
 
-  pub plan-short : r ≡ Short → plan_end ≤ length lent → ⊥
+  pub plan-short : r ≡ Err NoRoom → plan_end ≤ length lent → ⊥
   plan-short e = (short-told w lent short left (rw e at right) refl).1
 
 -- ---- what `measure` answers
 
 module _ (w lent pairs : List ℕ) where
-  no_room : length pairs < pairs_end → measurement (short_answer w) lent pairs ≡ measure_outcome w lent pairs
+  pub no_room : cause w ≡ 0 → length pairs < pairs_end → measured (Err NoRoom) lent pairs ≡ measure_outcome w lent pairs
   unfolding measure_outcome
-  no_room h = rw (lt-leb pairs_end (length pairs) h) (go (same (cause w) 0) (leb plan_end (length lent)))
+  no_room e h = rw (same-yes (cause w) 0 e, lt-leb pairs_end (length pairs) h) (go (leb plan_end (length lent)))
     where
-      go : (c l : Bool) → measurement (pick c short (refused (cause w))) lent pairs
-          ≡ pick c (pick l (measurement short lent pairs) (measurement short lent pairs)) (measurement (refused (cause w)) lent pairs)
-      go true true = refl
-      go true false = refl
-      go false l = refl
+      go : (l : Bool) → measurement short lent pairs ≡ pick l (measurement short lent pairs) (measurement short lent pairs)
+      go true = refl
+      go false = refl
 
-  pub measure-without : (r : Measured) → answered r ≡ short_answer w → length pairs < pairs_end → measured r lent pairs ≡ measure_outcome w lent pairs
-  measure-without r e h = ap (λ (a : Answer). measurement a lent pairs) e ∙ no_room h
+  pub cause-first : (v : Cause) → cause_number v ≡ cause w → (r : Result Totals Refusal) → IsErrAnd r (λ q. q ≡ Table v)
+      → measured r lent pairs ≡ measure_outcome w lent pairs
+  unfolding measure_outcome
+  cause-first v e (Ok t) h = absurd h
+  cause-first v e (Err q) h = rw (h, e, same-no (cause w) 0 (not-accepted w v e))
 
   is-measured : cause w ≡ 0 → plan_end ≤ length lent → pairs_end ≤ length pairs
       → measurement (counted (net_sums w)) (plan_words w ++ drop plan_end lent) (pair_words w (plan_words w) pairs) ≡ measure_outcome w lent pairs
@@ -131,36 +148,31 @@ module _ (w lent pairs : List ℕ) where
   is-measured h l m = rw (same-yes (cause w) 0 h, le-leb plan_end (length lent) l, le-leb pairs_end (length pairs) m)
 
   -- as `measure` goes on from what `plan` answered
-  module _ (left : List ℕ) (r : Planned) (right : planned r left ≡ plan_outcome w lent) where
-    pub measure-net : r ≡ Ready → pairs_end ≤ length pairs → (after : List ℕ) → after ≡ pair_words w left pairs → (t : Totals) → sums_of t ≡ net_sums w
-        → measured (measure.Net t) left after ≡ measure_outcome w lent pairs
-    measure-net e m after f t s =
-        let o = ready-told w lent left r right e in
+  module _ (left : List ℕ) (r : Result ⊤ Refusal) (right : planned r left ≡ plan_outcome w lent) where
+    pub measure-net : (u : ⊤) → r ≡ Ok u → pairs_end ≤ length pairs → (after : List ℕ) → after ≡ pair_words w left pairs → (t : Totals) → sums_of t ≡ net_sums w
+        → measured (Ok t) left after ≡ measure_outcome w lent pairs
+    measure-net u e m after f t s =
+        let o = ready-told w lent left r right u e in
         let p : after ≡ pair_words w (plan_words w) pairs =
-        f ∙ pairs-same w left (plan_words w) (plan-ready w lent left r right e)
+        f ∙ pairs-same w left (plan_words w) (plan-ready w lent left r right u e)
         (plan-laid w o.0) pairs in
         ap (λ (z : Sums). measurement (counted z) left after) s ∙ ap (λ (l : List ℕ). measurement (counted (net_sums w)) l after) o.2
         ∙ ap (measurement (counted (net_sums w)) (plan_words w ++ drop plan_end lent)) p ∙ is-measured o.0 o.1 m
 
-    pub measure-refused : (v : Verdict) → r ≡ Refused v → measured (measure.Refused v) left pairs ≡ measure_outcome w lent pairs
+    not-planned : (q : Refusal) → r ≡ Err q → measured (Err q) left pairs ≡ measure_outcome w lent pairs
     unfolding measure_outcome
-    measure-refused v e =
-        let t = refused-told w lent (refused (cause_of v)) left (rw e at right) refl in
-        ap (λ (l : List ℕ). measurement (refused (cause_of v)) l pairs) t.2
+    not-planned (Table v) e =
+        let t = refused-told w lent (refused (cause_number v)) left (rw e at right) refl in
+        ap (λ (l : List ℕ). measurement (refused (cause_number v)) l pairs) t.2
         ∙ ap (λ (a : Answer). measurement a lent pairs) t.0 ∙ rw (same-no (cause w) 0 t.1)
-
-    pub measure-short : r ≡ Short → measured measure.Short left pairs ≡ measure_outcome w lent pairs
-    unfolding measure_outcome
-    measure-short e =
+    not-planned NoRoom e =
         let t = short-told w lent short left (rw e at right) refl in
         ap (λ (l : List ℕ). measurement short l pairs) t.2
         ∙ rw (same-yes (cause w) 0 t.0, lt-leb plan_end (length lent) (omega (arith, t.1)))
 
-pub without-refused : (w : List ℕ) (n : ℕ) → same n 0 ≡ false → n ≡ cause w → refused n ≡ short_answer w
-without-refused w n h e = rw (← e, h)
-
-pub without-short : (w : List ℕ) → cause w ≡ 0 → short ≡ short_answer w
-without-short w h = rw (same-yes (cause w) 0 h)
+    pub measure-refused : (q : Refusal) → r ≡ Err q → (s : Result Totals Refusal) → IsErrAnd s (λ p. p ≡ q) → measured s left pairs ≡ measure_outcome w lent pairs
+    measure-refused q e (Ok t) h = absurd h
+    measure-refused q e (Err p) h = rw h (not-planned q e)
 
 -- what an answer tells
 module _ (w lent pairs left after : List ℕ) (a : Answer) (right : measurement a left after ≡ measure_outcome w lent pairs) where
@@ -216,8 +228,8 @@ module _ (w lent pairs left after : List ℕ) (a : Answer) (right : measurement 
       go true false m e f q = false-true e (le-leb plan_end (length lent) room)
       go false l m e f q = omega (arith, answer-kinds q, k)
 
-module _ (w lent pairs left after : List ℕ) (r : Measured) (right : measured r left after ≡ measure_outcome w lent pairs) where
-  pub measured-net : (t : Totals) → r ≡ measure.Net t → Laid w left × (sums_of t ≡ net_sums w) × Pairs w left after
+module _ (w lent pairs left after : List ℕ) (r : Result Totals Refusal) (right : measured r left after ≡ measure_outcome w lent pairs) where
+  pub measured-net : (t : Totals) → r ≡ Ok t → Laid w left × (sums_of t ≡ net_sums w) × Pairs w left after
   measured-net t e =
       let q = net-told w lent pairs left after (counted (sums_of t)) (rw e at right) refl in
       let L = laid-with w left (drop plan_end lent) q.0 q.3 in
@@ -227,10 +239,10 @@ module _ (w lent pairs left after : List ℕ) (r : Measured) (right : measured r
         pairs-filled w left L pairs after q.1 (q.4 ∙ pairs-same w (plan_words w) left P L pairs),
       )
 
-  pub measured-refused : (v : Verdict) → r ≡ measure.Refused v → (cause_of v ≡ cause w) × (cause w ≡ 0 → ⊥)
+  pub measured-refused : (v : Cause) → r ≡ Err (Table v) → (cause_number v ≡ cause w) × (cause w ≡ 0 → ⊥)
   measured-refused v e =
-      let t = refusal-told w lent pairs left after (refused (cause_of v)) (rw e at right) refl in
+      let t = refusal-told w lent pairs left after (refused (cause_number v)) (rw e at right) refl in
       (ap number t.0, t.1)
 
-  pub measured-short : r ≡ measure.Short → plan_end ≤ length lent → pairs_end ≤ length pairs → ⊥
+  pub measured-short : r ≡ Err NoRoom → plan_end ≤ length lent → pairs_end ≤ length pairs → ⊥
   measured-short e = no-room-told w lent pairs left after short (rw e at right) refl

@@ -44,7 +44,7 @@ module _ (w : List ℕ) where
 
   pub pass-grown : (formal argument j v : ℕ) (a b c : List ℕ) (g h : Bool) → v ≡ word b (argument_name w (argument + j))
       → Grown a b g (passing formal argument j) → Joined b c h (λ y o. same (formal + j) y && bit_at v o)
-      → Grown a c (h || g) (passing formal argument (j + 1))
+      → Grown a c (g || h) (passing formal argument (j + 1))
   pass-grown formal argument j v a b c g h e F J =
       grown-then a b c g h (passing formal argument j) B (passing formal argument (j + 1)) (passing-next formal argument j) F
       (grown-joined b c h B (λ R Q inc x o q. and_intro (same x (formal + j)) (Q z o) (and_left (same x (formal + j)) (R z o) q)

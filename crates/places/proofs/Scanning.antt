@@ -154,7 +154,7 @@ spread-start set a ws h = (joined-none ws (λ y o. (bit_at set y && not (bit_at 
     go false c = refl
 
 pub spread-next : (set a : ℕ) (before ws after : List ℕ) (g h : Bool) (left : ℕ) → (left ≡ 0 → ⊥) → Spreading set a before ws g left
-    → Joined ws after h (λ y o. same (count_trailing_zeros 64 left) y && bit_at a o) → Spreading set a before after (h || g) (bit_and left (left - 1))
+    → Joined ws after h (λ y o. same (count_trailing_zeros 64 left) y && bit_at a o) → Spreading set a before after (g || h) (bit_and left (left - 1))
 spread-next set a before ws after g h left d (J, inc, small) K = (
   joined-then before ws after g h (λ y o. (bit_at set y && not (bit_at left y)) && bit_at a o) (λ y o. same z y && bit_at a o)
       (λ y o. (bit_at set y && not (bit_at next y)) && bit_at a o) (λ y o. split y o (ℕ_discrete z y)) J K,

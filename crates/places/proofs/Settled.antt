@@ -269,13 +269,13 @@ module _ (S : Scheme) where
   Rest ws = (x o : ℕ) → x < 64 → (is_sent S (in_set ws) x o || is_passed S (in_set ws) x o) ≡ true → in_set ws x o ≡ true
 
   pub round-made : Accepted S → (before mid after ears : List ℕ) (g h : Bool) → length before ≡ 64 → Heard S before ears
-      → Grown before mid g (is_said S ears) → Grown mid after h (is_passed S) → Round S before after (h || g)
+      → Grown before mid g (is_said S ears) → Grown mid after h (is_passed S) → Round S before after (g || h)
   round-made ok before mid after ears g h e H F G = record {
     size = G.size ∙ F.size;
     keeps = λ x o q. G.keeps x o (F.keeps x o q);
     within = λ low. G.within (found S) (passed-sound ok) (F.within (found S) (said-sound ok before ears H low) low);
-    still = λ low q. let (p, r) = or-none h g q in rest low (F.still r) (G.still p);
-    rises = omega (arith, F.rises, G.rises, bit-either h g);
+    still = λ low q. let (p, r) = or-none g h q in rest low (F.still p) (G.still r);
+    rises = omega (arith, F.rises, G.rises, bit-either g h);
   }
     where
       rest : Under before (found S) → (mid ≡ before) × Quiet before (is_said S ears) → (after ≡ mid) × Quiet mid (is_passed S) → Rest after

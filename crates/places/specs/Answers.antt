@@ -1,18 +1,16 @@
 -- What `plan` and `measure` answer, and what they leave in the lent words.
-use Rattle.std.specs.Prelude.{ℕ, List, ◌++◌, length, drop, nat_le}
+use Rattle.std.specs.Prelude.{ℕ, List, Result, Ok, Err, ⊤, ◌++◌, length, drop, nat_le}
 use Rattle.lists.specs.Lists.{pick, same}
 use Rattle.scheme.specs.Scheme.{scheme}
-use Rattle.table.specs.Answer.{cause_of}
+use Rattle.table.specs.Answer.{cause_number}
 use Rattle.table.specs.Causes.{cause}
 use Rattle.net.specs.Net.{input_total, output_total}
 use Rattle.places.specs.Image.{net_of}
 use Rattle.places.specs.Plan.{plan_words, plan_end}
 use Rattle.places.specs.Sides.{pair_words, pairs_end}
 use Rattle.places.specs.declared.count.Totals.{Totals}
-use Rattle.places.specs.declared.Planned.{Planned}
-use Rattle.places.specs.declared.Planned.TheVariants.{Ready, Refused, Short}
-use Rattle.places.specs.declared.Measured.{Measured}
-use Rattle.places.specs.declared.Measured.TheVariants as measure
+use Rattle.places.specs.declared.Refusal.{Refusal}
+use Rattle.places.specs.declared.Refusal.TheVariants.{Table, NoRoom}
 
 -- the counts of a net's transitions and arcs
 pub record Sums : Type 0 where
@@ -45,10 +43,13 @@ pub record Outcome : Type 0 where
 abbrev pub outcome : Answer → List ℕ → Outcome
 outcome answer left = record { answer = answer; left = left }
 
-abbrev pub planned : Planned → List ℕ → Outcome
-planned Ready left = outcome ready left
-planned (Refused v) left = outcome (refused (cause_of v)) left
-planned Short left = outcome short left
+abbrev pub refusal : Refusal → Answer
+refusal (Table cause) = refused (cause_number cause)
+refusal NoRoom = short
+
+abbrev pub planned : Result ⊤ Refusal → List ℕ → Outcome
+planned (Ok _) left = outcome ready left
+planned (Err r) left = outcome (refusal r) left
 
 -- "Checking a table precedes checking anything else"; then whether there is room. A refusal leaves the lent words.
 unfoldable pub plan_outcome : List ℕ → List ℕ → Outcome
@@ -65,12 +66,11 @@ pub record Measurement : Type 0 where
 abbrev pub measurement : Answer → List ℕ → List ℕ → Measurement
 measurement answer left pairs = record { answer = answer; left = left; pairs = pairs }
 
-abbrev pub answered : Measured → Answer
-answered (measure.Net t) = counted (sums_of t)
-answered (measure.Refused v) = refused (cause_of v)
-answered measure.Short = short
+abbrev pub answered : Result Totals Refusal → Answer
+answered (Ok t) = counted (sums_of t)
+answered (Err r) = refusal r
 
-abbrev pub measured : Measured → List ℕ → List ℕ → Measurement
+abbrev pub measured : Result Totals Refusal → List ℕ → List ℕ → Measurement
 measured r left pairs = measurement (answered r) left pairs
 
 -- the same order: the table, then whether there is room for the plan and for the pairs. A refusal leaves all lent words.
@@ -83,7 +83,3 @@ measure_outcome w lent pairs =
     (measurement short lent pairs))
     (measurement short lent pairs))
     (measurement (refused (cause w)) lent pairs)
-
--- where there is no room for the pairs
-abbrev pub short_answer : List ℕ → Answer
-short_answer w = pick (same (cause w) 0) short (refused (cause w))

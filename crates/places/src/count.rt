@@ -76,10 +76,8 @@ fn all_releases(table: &[u16], index: &[u32], t: Totals, names: &[u32], count: u
         ≡ over (release_sums table.now) (sums_of t) (take count names.now) }
 {
     let mut r = t;
-    let mut i = 0;
-    while i < count {
+    for i in 0..count {
         r = releases(table, index, r, word(names, i));
-        i += 1;
     }
     r
 }
@@ -109,10 +107,8 @@ fn all_copies(table: &[u16], index: &[u32], t: Totals, first: usize, end: usize)
         (map (argument table.now) (from first (end - first))) }
 {
     let mut r = t;
-    let mut i = first;
-    while i < end {
+    for i in first..end {
         r = copies(table, index, r, field1(table, 12, i));
-        i += 1;
     }
     r
 }
@@ -123,12 +119,10 @@ fn silents(table: &[u16], t: Totals, first: usize, end: usize) -> Totals
     ensures { sums_of result ≡ over (silent_sums table.now) (sums_of t) (from first (end - first)) }
 {
     let mut r = t;
-    let mut b = first;
-    while b < end {
+    for b in first..end {
         if field4(table, 11, b, 0) == 0 {
             r = more(r, 1, 1, 1);
         }
-        b += 1;
     }
     r
 }
@@ -229,13 +223,11 @@ pub(crate) fn receives(table: &[u16], index: &[u32], list: &mut [u32]) -> usize
 {
     let branches = word(table, 5);
     let mut count = 0;
-    let mut b = 0;
-    while b < branches {
+    for b in 0..branches {
         if field4(table, 11, b, 0) == 2 {
             enter(table, index, list, 8 * count, b as u32);
             count += 1;
         }
-        b += 1;
     }
     count
 }
@@ -349,10 +341,8 @@ fn of_nodes(table: &[u16], index: &[u32], t: Totals) -> Totals
     let nodes = word(table, 4);
     let read = reading_names(table, index);
     let mut q = t;
-    let mut n = 0;
-    while n < nodes {
+    for n in 0..nodes {
         q = node(table, index, read, q, n);
-        n += 1;
     }
     q
 }
@@ -366,13 +356,11 @@ fn of_sends(table: &[u16], index: &[u32], t: Totals, pairs: &[u32]) -> Totals
 {
     let branches = word(table, 5);
     let mut q = t;
-    let mut s = 0;
-    while s < branches {
+    for s in 0..branches {
         let set = word(pairs, SETS + s) as u64;
         if set != 0 {
             q = partners(table, index, q, s as u32, set, pairs);
         }
-        s += 1;
     }
     q
 }

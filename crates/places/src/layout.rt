@@ -71,11 +71,9 @@ fn fill_nodes(table: &[u16], held: &[u32], first: usize, index: &mut [u32]) -> u
 {
     let count = word(table, 4);
     let mut at = first;
-    let mut n = 0;
-    while n < count {
+    for n in 0..count {
         store(index, NODES + n, at as u32);
         at += control_count(table, n, word(held, n));
-        n += 1;
     }
     repeat(&mut index[NODES + count..PRIVATES], at as u32);
     at

@@ -2,7 +2,8 @@
 #![tactic(auto)]
 
 ghost use Rattle.std.specs.Prelude.{◌≡◌};
-ghost use Rattle.places.specs.Answers.{planned, answered, measured, plan_outcome, measure_outcome, short_answer};
+ghost use Rattle.places.specs.Answers.{planned, measured, plan_outcome, measure_outcome};
+ghost use Rattle.places.specs.declared.Refusal.TheVariants.{Table};
 
 pub mod count;
 pub mod layout;
@@ -16,65 +17,46 @@ pub mod row;
 use count::Totals;
 use lookup::SIZE;
 use pairs::PAIRS;
-use table::Verdict;
+use table::Cause;
 
-// What `plan` answers: that the plan stands, the table's cause, or that the lent words are too few.
-#[derive(Clone, Copy)]
-pub enum Planned {
-    Ready,
-    Refused(Verdict),
-    Short,
+// Why there is no plan: the table's cause, or that the lent words are too few.
+#[derive(Clone, Copy, Debug, PartialEq, Eq)]
+pub enum Refusal {
+    Table(Cause),
+    NoRoom,
 }
 
-// What `measure` answers: the counts of the net, the table's cause, or that the lent words are too few.
-#[derive(Clone, Copy)]
-pub enum Measured {
-    Net(Totals),
-    Refused(Verdict),
-    Short,
+impl From<Cause> for Refusal {
+    ghost from_gives = { λ cause refusal. refusal ≡ Table cause };
+
+    fn from(cause: Cause) -> Refusal {
+        Refusal::Table(cause)
+    }
 }
 
 // Checks a table and fills in its plan.
-pub fn plan(table: &[u16], index: &mut [u32]) -> Planned
+pub fn plan(table: &[u16], index: &mut [u32]) -> Result<(), Refusal>
     ensures { planned result index.new ≡ plan_outcome table.now index.old }
 {
-    let verdict = table::check(table);
-    if !table::is_accepted(verdict) {
-        return Planned::Refused(verdict);
-    }
+    table::check(table)?;
     if index.len() < SIZE {
-        return Planned::Short;
+        return Err(Refusal::NoRoom);
     }
     scheme::index::fill(table, index);
     layout::lay_out(table, index);
-    Planned::Ready
-}
-
-// Where there is no room for the pairs.
-fn without_room(table: &[u16]) -> Measured
-    ensures { answered result ≡ short_answer table.now }
-{
-    let verdict = table::check(table);
-    if !table::is_accepted(verdict) {
-        return Measured::Refused(verdict);
-    }
-    Measured::Short
+    Ok(())
 }
 
 // As `plan`, with the counts of transitions and arcs; fills in also which receives each send can meet.
-pub fn measure(table: &[u16], index: &mut [u32], pairs: &mut [u32]) -> Measured
+pub fn measure(table: &[u16], index: &mut [u32], pairs: &mut [u32]) -> Result<Totals, Refusal>
     ensures { measured result index.new pairs.new
         ≡ measure_outcome table.now index.old pairs.old }
 {
     if pairs.len() < PAIRS {
-        return without_room(table);
+        table::check(table)?;
+        return Err(Refusal::NoRoom);
     }
-    match plan(table, index) {
-        Planned::Ready => {
-            pairs::fill_pairs(table, index, pairs);
-            Measured::Net(count::totals_of(table, index, pairs))
-        }
-        Planned::Refused(verdict) => Measured::Refused(verdict),
-        Planned::Short => Measured::Short,
-    }
+    plan(table, index)?;
+    pairs::fill_pairs(table, index, pairs);
+    Ok(count::totals_of(table, index, pairs))
 }

@@ -46,10 +46,8 @@ fn note_all(list: &[u32], count: usize, words: &mut [u64])
     ensures { Noted (heard_at list.now) (λ k. word list.now (8 * k + 1)) count
         words.new }
 {
-    let mut k = 0;
-    while k < count {
+    for k in 0..count {
         note(list, words, k);
-        k += 1;
     }
 }
 
@@ -84,10 +82,8 @@ pub(crate) fn fill_pairs(table: &[u16], index: &[u32], pairs: &mut [u32])
     let mut words = [0u64; 72];
     note_all(pairs, count, &mut words);
     let branches = word(table, 5);
-    let mut b = 0;
-    while b < branches {
+    for b in 0..branches {
         let set = set_of(table, index, &words, b);
         store(pairs, SETS + b, set as u32);
-        b += 1;
     }
 }

@@ -64,11 +64,9 @@ pub(crate) fn hold_all(table: &[u16], index: &[u32], held: &mut [u32])
     ensures { HeldBelow (scheme table.now) (nodes table.now) held.new }
 {
     let nodes = word(table, 4);
-    let mut node = 0;
-    while node < nodes {
+    for node in 0..nodes {
         let count = held_count(table, index, held, node);
         store(held, node, count as u32);
-        node += 1;
     }
 }
 
@@ -79,14 +77,12 @@ fn raise_all(table: &[u16], index: &[u32], held: &[u32], most: &mut [u32])
     ensures { MostsHeld (scheme table.now) most.new }
 {
     let nodes = word(table, 4);
-    let mut n = 0;
-    while n < nodes {
+    for n in 0..nodes {
         raise(
             most,
             node_thread(table, index, n),
             most_at(table, n, word(held, n)),
         );
-        n += 1;
     }
 }
 

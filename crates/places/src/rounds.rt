@@ -65,7 +65,7 @@ pub(crate) fn spread(words: &mut [u64], set: u64, a: u64) -> bool
     let mut left = set;
     while left != 0 {
         let x = u64::trailing_zeros(left) as usize;
-        grew = join(words, x, a) | grew;
+        grew |= join(words, x, a);
         left = left & (left - 1);
     }
     grew
@@ -88,12 +88,10 @@ fn own(table: &[u16], words: &mut [u64])
     ensures { Start (scheme table.now) words.new }
 {
     let end = word(table, 0) + word(table, 1);
-    let mut x = 0;
-    while x < end {
+    for x in 0..end {
         if is_source(table, x) {
             words[x] = 1u64 << x;
         }
-        x += 1;
     }
 }
 
@@ -119,10 +117,8 @@ fn listen_all(table: &[u16], index: &[u32], words: &[u64], ears: &mut [u64])
     ensures { Heard (scheme table.now) words.now ears.new }
 {
     let branches = word(table, 5);
-    let mut r = 0;
-    while r < branches {
+    for r in 0..branches {
         listen(table, index, words, ears, r);
-        r += 1;
     }
 }
 
@@ -150,10 +146,8 @@ fn say_all(table: &[u16], index: &[u32], ears: &[u64], words: &mut [u64]) -> boo
 {
     let branches = word(table, 5);
     let mut grew = false;
-    let mut s = 0;
-    while s < branches {
-        grew = say(table, index, ears, words, s) | grew;
-        s += 1;
+    for s in 0..branches {
+        grew |= say(table, index, ears, words, s);
     }
     grew
 }
@@ -166,11 +160,9 @@ fn pass(table: &[u16], words: &mut [u64], formal: usize, argument: usize, count:
         (map (argument_name table.now) (from argument count))) }
 {
     let mut grew = false;
-    let mut j = 0;
-    while j < count {
+    for j in 0..count {
         let a = word64(words, field1(table, 12, argument + j));
-        grew = join(words, formal + j, a) | grew;
-        j += 1;
+        grew |= join(words, formal + j, a);
     }
     grew
 }
@@ -201,10 +193,8 @@ fn call_all(table: &[u16], words: &mut [u64]) -> bool
     }
     let nodes = word(table, 4);
     let mut grew = false;
-    let mut n = 0;
-    while n < nodes {
-        grew = call(table, words, n) | grew;
-        n += 1;
+    for n in 0..nodes {
+        grew |= call(table, words, n);
     }
     grew
 }
@@ -218,7 +208,7 @@ fn round(table: &[u16], index: &[u32], words: &mut [u64], ears: &mut [u64]) -> b
 {
     listen_all(table, index, words, ears);
     let said = say_all(table, index, ears, words);
-    call_all(table, words) | said
+    said | call_all(table, words)
 }
 
 // Makes the sets of public and restricted names the least reaches. `ears` is for work.
@@ -241,10 +231,8 @@ fn put_digits(words: &[u64], n: usize, first: usize, size: usize, at: usize, ind
         ≡ sets index.old at (map (λ x. word words.now x / 2 ^ first % 2 ^ size) (range 64)) }
 {
     let limit = 1u64 << size;
-    let mut x = 0;
-    while x < n {
+    for x in 0..n {
         store(index, at + x, ((word64(words, x) >> first) % limit) as u32);
-        x += 1;
     }
     repeat(&mut index[at + n..at + 64], 0);
 }

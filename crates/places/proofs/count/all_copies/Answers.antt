@@ -1,4 +1,4 @@
-use Rattle.std.proofs.Common.{◌-◌, map, sym, ◌∙◌, arith}
+use Rattle.std.proofs.Common.{◌-◌, map, sym, ◌∙◌}
 use Rattle.lists.specs.Lists.{from}
 use Rattle.scheme.specs.Words.{argument}
 use Rattle.places.specs.Answers.{sums_of}
@@ -14,7 +14,7 @@ copies-r-requires c =
     let x = c.field1 in (
       c.requires.0,
       map-few (copy_sums w) (copy-grows w) (argument w) (over (copy_sums w) (sums_of a.t) (map (argument w) (from a.first (a.end - a.first))))
-          (sums_of l.r) l.i a.end x.result l.invariant.0 c.loop-i-test.true x.ensures.is c.requires.1,
+          (sums_of l.r) l.i a.end x.result l.invariant c.loop-i-test.true x.ensures.is c.requires.1,
     )
 
 pub loop-i-preserved : goal.loop-i-preserved
@@ -23,15 +23,13 @@ loop-i-preserved c =
     let w = a.table.now in
     let l = c.loop-i in
     let x = c.field1 in
-    let r = c.copies-r in (
-      map_on (copy_sums w) (argument w) (over (copy_sums w) (sums_of a.t) (map (argument w) (from a.first (a.end - a.first)))) (sums_of l.r)
-          (sums_of r.result) l.i a.end x.result l.invariant.0 c.loop-i-test.true x.ensures.is r.ensures,
-      omega (arith, l.invariant.1),
-    )
+    let r = c.copies-r in
+    map_on (copy_sums w) (argument w) (over (copy_sums w) (sums_of a.t) (map (argument w) (from a.first (a.end - a.first)))) (sums_of l.r)
+    (sums_of r.result) l.i a.end x.result l.invariant c.loop-i-test.true x.ensures.is r.ensures
 
 pub returns : goal.returns
 returns c =
     let a = c.args in
     let w = a.table.now in
     let l = c.loop-i in
-    sym (l.invariant.0 ∙ map-done (copy_sums w) (argument w) (sums_of l.r) l.i a.end c.loop-i-test.false)
+    sym (l.invariant ∙ map-done (copy_sums w) (argument w) (sums_of l.r) l.i a.end c.loop-i-test.false)

@@ -1,4 +1,4 @@
-use Rattle.std.proofs.Common.{◌≡◌, ◌-◌, ◌≤◌, map}
+use Rattle.std.proofs.Common.{◌≡◌, ◌-◌, map}
 use Rattle.lists.specs.Lists.{from}
 use Rattle.scheme.specs.Words.{argument}
 use Rattle.places.specs.Answers.{sums_of}
@@ -7,8 +7,5 @@ use Rattle.places.proofs.count.all_copies.Given as goal
 
 abbrev pub invariant-loop-i : goal.invariant-loop-i
 invariant-loop-i l =
-    (over (copy_sums l.table) (sums_of l.initial.r) (map (argument l.table) (from l.first (l.end - l.first)))
-    ≡ over (copy_sums l.table) (sums_of l.r) (map (argument l.table) (from l.i (l.end - l.i)))) × (l.first ≤ l.i)
-
-abbrev pub decreases-loop-i : goal.decreases-loop-i
-decreases-loop-i l = l.end - l.i
+    over (copy_sums l.table) (sums_of l.initial.r) (map (argument l.table) (from l.first (l.end - l.first)))
+    ≡ over (copy_sums l.table) (sums_of l.r) (map (argument l.table) (from l.i (l.end - l.i)))

@@ -7,6 +7,3 @@ use Rattle.places.proofs.count.of_nodes.Given as goal
 
 abbrev pub invariant-loop-n : goal.invariant-loop-n
 invariant-loop-n l = over (node_sums l.table) (sums_of l.initial.q) (range (nodes l.table)) ≡ over (node_sums l.table) (sums_of l.q) (from l.n (nodes l.table - l.n))
-
-abbrev pub decreases-loop-n : goal.decreases-loop-n
-decreases-loop-n l = l.nodes - l.n

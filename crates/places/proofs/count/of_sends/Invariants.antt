@@ -7,6 +7,3 @@ use Rattle.places.proofs.count.of_sends.Given as goal
 
 abbrev pub invariant-loop-s : goal.invariant-loop-s
 invariant-loop-s l = over (send_sums l.table) (sums_of l.initial.q) (range (branches l.table)) ≡ over (send_sums l.table) (sums_of l.q) (from l.s (branches l.table - l.s))
-
-abbrev pub decreases-loop-s : goal.decreases-loop-s
-decreases-loop-s l = l.branches - l.s

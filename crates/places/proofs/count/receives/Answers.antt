@@ -1,5 +1,5 @@
-use Rattle.std.proofs.Common.{ℕ, ◌*◌, List, length, sym, refl, ap, ◌∙◌, arith}
-use lib.Seq.{sets, length-sets}
+use Rattle.std.proofs.Common.{ℕ, List, length, sym, refl, ap, ◌∙◌, arith}
+use lib.Seq.{sets}
 use Rattle.lists.specs.Lists.{flat, keep, from}
 use Rattle.lists.proofs.Tests.{same-yes, same-no}
 use Rattle.scheme.specs.Words.{branch_kind}
@@ -10,7 +10,7 @@ use Rattle.places.proofs.count.receives.Goals as goal
 
 pub loop-b-init : goal.loop-b-init
 unfolding keep from flat
-loop-b-init c = (refl, refl, omega arith, refl, omega arith)
+loop-b-init c = (refl, refl, omega arith)
 
 pub loop-b-preserved : goal.loop-b-preserved
 loop-b-preserved c =
@@ -18,7 +18,6 @@ loop-b-preserved c =
     let w = a.table.now in
     let x = a.index.now in
     let l = c.loop-b in
-    let t = c.loop-b-test.true in
     let f = c.field4.ensures.is in
     elim c.if-field4-eq2.branch [
       | then-field4-eq2 v ↦
@@ -27,16 +26,12 @@ loop-b-preserved c =
           c.if-field4-eq2.list (v.list-is ∙ v.enter.ensures) in (
             v.count-is ∙ m,
             n,
-            omega (arith, t),
-            ap length (v.list-is ∙ v.enter.ensures) ∙ length-sets l.list (8 * l.count) (receive_words w x l.b) ∙ l.invariant.3,
-            omega (arith, v.count-is, l.invariant.4),
+            omega (arith, v.count-is, l.invariant.2),
           )
       | else-field4-eq2 v ↦
           let k = list-skip w l.b (same-no (branch_kind w l.b) 2 (λ q. v.if-field4-eq2.false (f ∙ q))) in (
             v.count-is ∙ l.invariant.0 ∙ ap (λ (xs : List ℕ). length xs) k,
             v.list-is ∙ l.invariant.1 ∙ ap (λ (xs : List ℕ). sets a.list.now 0 (flat (receive_words w x) xs)) k,
-            omega (arith, t),
-            ap length v.list-is ∙ l.invariant.3,
-            omega (arith, v.count-is, l.invariant.4),
+            omega (arith, v.count-is, l.invariant.2),
           )
     ]

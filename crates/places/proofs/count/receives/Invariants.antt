@@ -1,4 +1,4 @@
-use Rattle.std.proofs.Common.{◌≡◌, ◌-◌, ◌≤◌, length}
+use Rattle.std.proofs.Common.{◌≡◌, ◌≤◌, length}
 use lib.Seq.{sets}
 use Rattle.lists.specs.Lists.{range, flat, keep}
 use Rattle.scheme.specs.Words.{is_receive}
@@ -8,7 +8,4 @@ use Rattle.places.proofs.count.receives.Given as goal
 abbrev pub invariant-loop-b : goal.invariant-loop-b
 invariant-loop-b l =
     (l.count ≡ length (keep (is_receive l.table) (range l.b))) × (l.list ≡ sets l.initial.list 0 (flat (receive_words l.table l.index) (keep (is_receive l.table) (range l.b))))
-    × (l.b ≤ l.branches) × (length l.list ≡ length l.initial.list) × (l.count ≤ l.b)
-
-abbrev pub decreases-loop-b : goal.decreases-loop-b
-decreases-loop-b l = l.branches - l.b
+    × (l.count ≤ l.b)

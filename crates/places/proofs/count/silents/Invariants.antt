@@ -6,6 +6,3 @@ use Rattle.places.proofs.count.silents.Given as goal
 
 abbrev pub invariant-loop-b : goal.invariant-loop-b
 invariant-loop-b l = over (silent_sums l.table) (sums_of l.initial.r) (from l.first (l.end - l.first)) ≡ over (silent_sums l.table) (sums_of l.r) (from l.b (l.end - l.b))
-
-abbrev pub decreases-loop-b : goal.decreases-loop-b
-decreases-loop-b l = l.end - l.b

@@ -1,4 +1,4 @@
-use Rattle.std.proofs.Common.{◌≡◌, ◌+◌, ◌-◌, ◌≤◌, sym, refl, ◌∙◌, arith, length-set}
+use Rattle.std.proofs.Common.{◌≡◌, ◌+◌, ◌-◌, ◌≤◌, sym, refl, ◌∙◌, arith}
 use Rattle.lists.specs.Lists.{from}
 use Rattle.lists.proofs.Stores.{store-more}
 use Rattle.places.specs.Plan.{node_word, node_words}
@@ -15,7 +15,7 @@ nodes-few c =
 pub loop-n-init : goal.loop-n-init
 unfolding from
 loop-n-init c =
-    (c.requires.2 ∙ sym (node-inside c.args.table.now 0 (omega arith)), refl, omega arith, refl)
+    (c.requires.2 ∙ sym (node-inside c.args.table.now 0 (omega arith)), refl)
 
 pub overflow_cast-at : goal.overflow_cast-at
 overflow_cast-at c =
@@ -33,8 +33,6 @@ loop-n-preserved c =
     let u = c.store.ensures in (
       omega (arith, l.invariant.0, c.control_count-at.ensures.0),
       u ∙ store-more (node_word w) c.args.index.now 960 l.n l.index l.invariant.1 l.at l.invariant.0,
-      omega (arith, c.loop-n-test.true),
-      rw u (simp length-set l.invariant.3),
     )
 
 pub slice_bounds-repeat-start : goal.slice_bounds-repeat-start
@@ -57,7 +55,7 @@ returns c =
     let n = c.word-count.result in
     let i = c.word-count.ensures.is in
     let few = (nodes-few (goal.at.returns c).At-loop-n) in
-    let e : l.n ≡ n = omega (arith, l.invariant.2, c.loop-n-test.false) in
+    let e : l.n ≡ n = omega (arith, c.loop-n-test.false) in
     let q : n + (1217 - (960 + n)) ≡ 257 = omega (arith, few) in
     let o = l.invariant.0 ∙ node-past w l.n (omega (arith, i, e)) in (
       o,

@@ -1,4 +1,4 @@
-use Rattle.std.proofs.Common.{◌≡◌, ℕ, List, map, refl, ap, ◌∙◌, arith, length-set}
+use Rattle.std.proofs.Common.{◌≡◌, ℕ, List, map, refl, ap, ◌∙◌, arith}
 use lib.Seq.{sets}
 use Rattle.lists.specs.Lists.{from, range}
 use Rattle.lists.proofs.Stores.{store-more}
@@ -14,7 +14,7 @@ note_all-requires c =
 
 pub loop-b-init : goal.loop-b-init
 unfolding from
-loop-b-init c = (refl, omega arith, refl)
+loop-b-init c = refl
 
 pub set_of-set-requires : goal.set_of-set-requires
 set_of-set-requires c =
@@ -33,11 +33,7 @@ pub loop-b-preserved : goal.loop-b-preserved
 loop-b-preserved c =
     let a = c.args in
     let l = c.loop-b in
-    let u = c.store.ensures in (
-      u ∙ store-more (partner_set a.table.now a.index.now) _ 256 l.b l.pairs l.invariant.0 c.set_of-set.result c.set_of-set.ensures,
-      omega (arith, c.loop-b-test.true),
-      rw u (simp length-set l.invariant.2),
-    )
+    c.store.ensures ∙ store-more (partner_set a.table.now a.index.now) _ 256 l.b l.pairs l.invariant c.set_of-set.result c.set_of-set.ensures
 
 pub returns : goal.returns
 unfolding pair_words
@@ -45,5 +41,5 @@ returns c =
     let a = c.args in
     let w = a.table.now in
     let l = c.loop-b in
-    let e : l.b ≡ branches w = omega (arith, l.invariant.1, c.loop-b-test.false, c.word-branches.ensures.is) in
-    l.invariant.0 ∙ rw e (ap (λ (p : List ℕ). sets p 256 (map (partner_set w a.index.now) (range (branches w)))) c.receives-count.ensures.1)
+    let e : l.b ≡ branches w = omega (arith, c.loop-b-test.false, c.word-branches.ensures.is) in
+    l.invariant ∙ rw e (ap (λ (p : List ℕ). sets p 256 (map (partner_set w a.index.now) (range (branches w)))) c.receives-count.ensures.1)

@@ -1,4 +1,4 @@
-use Rattle.std.proofs.Common.{ℕ, ◌+◌, ◌-◌, ◌*◌, ◌≤◌, List}
+use Rattle.std.proofs.Common.{ℕ, ◌+◌, ◌*◌, List}
 use Rattle.lists.specs.Lists.{word}
 use Rattle.places.specs.Sides.{heard_at}
 use Rattle.places.specs.Inner.Sets.{Adds}
@@ -9,7 +9,4 @@ abbrev pub threads : List ℕ → ℕ → ℕ
 threads list k = word list (8 * k + 1)
 
 abbrev pub invariant-loop-k : goal.invariant-loop-k
-invariant-loop-k l = Adds l.initial.words l.words (noted_to (heard_at l.list) (threads l.list) l.k) × (l.k ≤ l.count)
-
-abbrev pub decreases-loop-k : goal.decreases-loop-k
-decreases-loop-k l = l.count - l.k
+invariant-loop-k l = Adds l.initial.words l.words (noted_to (heard_at l.list) (threads l.list) l.k)

@@ -1,4 +1,4 @@
-use Rattle.std.proofs.Common.{◌<◌, arith, length-set}
+use Rattle.std.proofs.Common.{◌<◌, arith}
 use Rattle.scheme.specs.Scheme.{scheme}
 use Rattle.table.proofs.Accepted.{accepted}
 use Rattle.places.proofs.Controls.{nodes-are}
@@ -13,9 +13,6 @@ pub loop-node-preserved : goal.loop-node-preserved
 loop-node-preserved c =
     let l = c.loop-node in
     let w = c.args.table.now in
-    let u : l.node < (scheme w).nodes = omega (arith, nodes-are w, c.word-nodes.ensures.is, c.loop-node-test.true) in (
-      rw c.store.ensures
-          (below_next (scheme w) (accepted w c.requires.0.accepted) l.node c.held_count-count.result l.held u l.invariant.0 c.held_count-count.ensures),
-      omega (arith, c.loop-node-test.true),
-      rw c.store.ensures (simp length-set l.invariant.2),
-    )
+    let u : l.node < (scheme w).nodes = omega (arith, nodes-are w, c.word-nodes.ensures.is, c.loop-node-test.true) in
+    rw c.store.ensures
+    (below_next (scheme w) (accepted w c.requires.0.accepted) l.node c.held_count-count.result l.held u l.invariant c.held_count-count.ensures)

@@ -16,20 +16,18 @@ pub loop-n-init : goal.loop-n-init
 loop-n-init c =
     let a = c.args in
     let w = a.table.now in
-    (grown-none a.words.now (λ R x o. some (λ k. at_node w k R x o) (range 0)) (λ R x o. some-none (λ k. at_node w k R x o)), omega arith)
+    grown-none a.words.now (λ R x o. some (λ k. at_node w k R x o) (range 0)) (λ R x o. some-none (λ k. at_node w k R x o))
 
 pub loop-n-preserved : goal.loop-n-preserved
 loop-n-preserved c =
     let j = c.call-grew in
     let l = c.loop-n in
-    let a = c.args in (
-      grown-next a.words.now l.words j.new.words l.grew j.result (λ k R x o. at_node a.table.now k R x o) l.n l.invariant.0 j.ensures,
-      omega (arith, c.loop-n-test.true),
-    )
+    let a = c.args in
+    grown-next a.words.now l.words j.new.words l.grew j.result (λ k R x o. at_node a.table.now k R x o) l.n l.invariant j.ensures
 
 pub returns : goal.returns
 returns c =
     let l = c.loop-n in
     let a = c.args in
-    let e : l.n ≡ nodes a.table.now = omega (arith, l.invariant.1, c.loop-n-test.false, c.word-nodes.ensures.is) in
-    all-passed a.table.now a.words.now l.words l.grew l.n e l.invariant.0
+    let e : l.n ≡ nodes a.table.now = omega (arith, c.loop-n-test.false, c.word-nodes.ensures.is) in
+    all-passed a.table.now a.words.now l.words l.grew l.n e l.invariant

@@ -10,26 +10,22 @@ use Rattle.places.proofs.rounds.listen_all.Goals as goal
 pub loop-r-init : goal.loop-r-init
 loop-r-init c =
     let a = c.args in
-    let S = scheme a.table.now in (
-      adds_none a.ears.now (heard_to S a.words.now 0) (λ k y. some-none (λ r. hears_at S (in_set a.words.now) k y r (S.branch r))),
-      omega arith,
-    )
+    let S = scheme a.table.now in
+    adds_none a.ears.now (heard_to S a.words.now 0) (λ k y. some-none (λ r. hears_at S (in_set a.words.now) k y r (S.branch r)))
 
 pub loop-r-preserved : goal.loop-r-preserved
 loop-r-preserved c =
     let l = c.loop-r in
     let a = c.args in
-    let S = scheme a.table.now in (
-      adds-next a.ears.now l.ears c.listen.new.ears (λ r k y. hears_at S (in_set a.words.now) k y r (S.branch r))
-          l.r l.invariant.0 c.listen.ensures,
-      omega (arith, c.loop-r-test.true),
-    )
+    let S = scheme a.table.now in
+    adds-next a.ears.now l.ears c.listen.new.ears (λ r k y. hears_at S (in_set a.words.now) k y r (S.branch r))
+    l.r l.invariant c.listen.ensures
 
 pub returns : goal.returns
 returns c =
     let l = c.loop-r in
     let a = c.args in
     let S = scheme a.table.now in
-    let e : l.r ≡ branches a.table.now = omega (arith, l.invariant.1, c.loop-r-test.false, c.word-branches.ensures.is) in
+    let e : l.r ≡ branches a.table.now = omega (arith, c.loop-r-test.false, c.word-branches.ensures.is) in
     heard_all S a.words.now a.ears.now l.ears c.requires.1
-    (subst (λ (i : ℕ). Adds a.ears.now l.ears (heard_to S a.words.now i)) (e ∙ sym (branches-are a.table.now c.requires.0.accepted)) l.invariant.0)
+    (subst (λ (i : ℕ). Adds a.ears.now l.ears (heard_to S a.words.now i)) (e ∙ sym (branches-are a.table.now c.requires.0.accepted)) l.invariant)

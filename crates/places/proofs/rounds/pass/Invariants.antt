@@ -1,10 +1,6 @@
-use Rattle.std.proofs.Common.{◌-◌, ◌≤◌}
 use Rattle.places.specs.Inner.Sets.{Grown}
 use Rattle.places.proofs.Passing.{passing}
 use Rattle.places.proofs.rounds.pass.Given as goal
 
 abbrev pub invariant-loop-j : goal.invariant-loop-j
-invariant-loop-j l = Grown l.initial.words l.words l.grew (passing l.table l.formal l.argument l.j) × (l.j ≤ l.count)
-
-abbrev pub decreases-loop-j : goal.decreases-loop-j
-decreases-loop-j l = l.count - l.j
+invariant-loop-j l = Grown l.initial.words l.words l.grew (passing l.table l.formal l.argument l.j)
