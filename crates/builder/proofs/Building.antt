@@ -1,4 +1,5 @@
 -- The header, the places marked at first, then the transitions of nodes and the communications: the image of a table in the lent words.
+use Rattle.std.proofs.Common.{Result, Ok, Err, IsErrAnd}
 use mathlib.Core.Path.{◌≡◌, refl, sym, ap, ◌∙◌}
 use mathlib.Core.List.{List, [], ◌∷◌, ◌++◌, map}
 use Prim.Native.Nat.{ℕ, ◌+◌, ◌*◌, ◌≤◌, ◌<◌}
@@ -14,7 +15,12 @@ use Rattle.net.specs.Net.{Net, Transition, arc_words, records_offset, arcs_offse
 use Rattle.net.proofs.Encode
 use Rattle.places.specs.Transitions.{Description, from_node_descriptions, of_pair, descriptions}
 use Rattle.places.specs.Image.{net_of, image_of}
-use Rattle.builder.specs.Answer.{outcome, build_outcome, laid_outcome, extent, size_outcome}
+use Rattle.table.specs.Answer.{cause_number}
+use Rattle.table.specs.declared.Cause.{Cause}
+use Rattle.places.specs.declared.Refusal as unplanned
+use Rattle.places.specs.declared.Refusal.TheVariants as unplanned_for
+use Rattle.builder.specs.declared.Refusal.{Refusal}
+use Rattle.builder.specs.Answer.{outcome, unbuilt, built_outcome, build_outcome, laid_outcome, extent, size_outcome}
 use Rattle.places.specs.Inner.Arcs.{initial_numbers}
 use Rattle.builder.specs.Inner.Writing
 use Rattle.builder.specs.Inner.Writing.{writes, heads, put_all, Inside}
@@ -130,9 +136,13 @@ module _ (w : List ℕ) where
       → outcome 0 n out ≡ laid_outcome w lent
   all-fits lent out n e l f = rw (le-ltb (length lent) (length (image_of w)) (omega arith), e, f)
 
-  pub refused-answer : (lent : List ℕ) (n : ℕ) → n ≡ cause w → (cause w ≡ 0 → ⊥) → outcome n 0 lent ≡ build_outcome w lent
+  pub refused-answer : (lent : List ℕ) (q : unplanned.Refusal)
+      → ((v : Cause) → q ≡ unplanned_for.Table v → (cause_number v ≡ cause w) × (cause w ≡ 0 → ⊥)) → (q ≡ unplanned_for.NoRoom → ⊥)
+      → (r : Result ℕ Refusal) → IsErrAnd r (λ p. p ≡ unbuilt q) → built_outcome r lent ≡ build_outcome w lent
   unfolding build_outcome
-  refused-answer lent n e d = rw (same-no (cause w) 0 d, e)
+  refused-answer lent q t n (Ok k) h = absurd h
+  refused-answer lent (unplanned_for.Table v) t n (Err p) h = let k = t v refl in rw (h, same-no (cause w) 0 k.1, k.0)
+  refused-answer lent unplanned_for.NoRoom t n (Err p) h = absurd (n refl)
 
   pub laid-answer : (lent : List ℕ) → cause w ≡ 0 → laid_outcome w lent ≡ build_outcome w lent
   unfolding build_outcome

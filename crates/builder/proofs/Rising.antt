@@ -21,46 +21,6 @@ use Rattle.places.proofs.Split.{numbers-none, numbers-yes, numbers-no}
 
 -- ---- one number
 
-mask-yes : (ms : List ℕ) (x : ℕ) → member x ms ≡ true → 4294967295 ≡ mask_of ms x
-unfolding mask_of
-mask-yes ms x h = rw h
-
--- a number that is one of five, or none of them
-module _ (x a b c d e : ℕ) where
-  abbrev five : List ℕ
-  five = a ∷ b ∷ c ∷ d ∷ e ∷ []
-
-  pub mask_first : x ≡ a → 4294967295 ≡ mask_of five x
-  mask_first q = mask-yes five x (rw q (member-here a (b ∷ c ∷ d ∷ e ∷ [])))
-
-  pub mask-second : x ≡ b → 4294967295 ≡ mask_of five x
-  mask-second q = mask-yes five x (rw q (member-there b a (b ∷ c ∷ d ∷ e ∷ []) (member-here b (c ∷ d ∷ e ∷ []))))
-
-  pub mask-third : x ≡ c → 4294967295 ≡ mask_of five x
-  mask-third q =
-      mask-yes five x (rw q (member-there c a (b ∷ c ∷ d ∷ e ∷ []) (member-there c b (c ∷ d ∷ e ∷ []) (member-here c (d ∷ e ∷ [])))))
-
-  pub mask-fourth : x ≡ d → 4294967295 ≡ mask_of five x
-  mask-fourth q =
-      mask-yes five x
-      (rw q (member-there d a (b ∷ c ∷ d ∷ e ∷ []) (member-there d b (c ∷ d ∷ e ∷ []) (member-there d c (d ∷ e ∷ []) (member-here d (e ∷ []))))))
-
-  pub mask-fifth : x ≡ e → 4294967295 ≡ mask_of five x
-  mask-fifth q =
-      mask-yes five x
-      (rw q (member-there e a (b ∷ c ∷ d ∷ e ∷ []) (member-there e b (c ∷ d ∷ e ∷ []) (member-there e c (d ∷ e ∷ [])
-      (member-there e d (e ∷ []) (member-here e []))))))
-
-  none_of : (x ≡ a → ⊥) → (x ≡ b → ⊥) → (x ≡ c → ⊥) → (x ≡ d → ⊥) → (x ≡ e → ⊥) → member x five ≡ false
-  unfolding member
-  none_of f g h i j =
-      member-not x a (b ∷ c ∷ d ∷ e ∷ []) f (member-not x b (c ∷ d ∷ e ∷ []) g (member-not x c (d ∷ e ∷ []) h (member-not x d (e ∷ []) i
-      (member-not x e [] j refl))))
-
-  pub mask-none : (x ≡ a → ⊥) → (x ≡ b → ⊥) → (x ≡ c → ⊥) → (x ≡ d → ⊥) → (x ≡ e → ⊥) → 0 ≡ mask_of five x
-  unfolding mask_of
-  mask-none f g h i j = rw (none_of f g h i j)
-
 -- what holds of each of five numbers
 pub each_of : (Q : ℕ → Type 0) (a b c d e : ℕ) → Q a → Q b → Q c → Q d → Q e → (m : ℕ) → member m (a ∷ b ∷ c ∷ d ∷ e ∷ []) ≡ true → Q m
 each_of Q a b c d e qa qb qc qd qe m i = first (member-cases m a (b ∷ c ∷ d ∷ e ∷ []) i)

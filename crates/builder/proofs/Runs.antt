@@ -25,7 +25,7 @@ use Rattle.builder.specs.Inner.Writing
 use Rattle.builder.specs.Inner.Writing.{put_one_transition, put_all, rise}
 use Rattle.places.specs.Inner.Plan.{today, Holds}
 use Rattle.builder.specs.Inner.Parts.{Paired, Tells, of_table, state, put, told, arrow, ins_of, outs_of, risen}
-use Rattle.builder.specs.Inner.Parts.{no_spot, spot_of, Spotted, channel_at, sent_at, told_by, risers_of, risers_in, Telling}
+use Rattle.builder.specs.Inner.Parts.{no_spot, spot_of, Spotted, channel_at, sent_at, told_by, risers_of, Telling}
 use Rattle.builder.specs.declared.write.Heads.{Heads}
 use Rattle.builder.specs.declared.write.Arcs.{Arcs}
 use Rattle.builder.specs.declared.communications.Pair.{Pair}
@@ -497,10 +497,10 @@ module _ (w : List ℕ) (ok : cause w ≡ 0) (p : Pair) (q : Paired w p) (way : 
     z = omega arith
 
     pub run-series : put w out h (map (told_by w p way) (from low count))
-        ≡ put_all (risen 4 p.send p.receive arcs (risers_in (risers_of way spots))) (state out h) (range count)
+        ≡ put_all (risen 4 p.send p.receive arcs (risers_of way spots)) (state out h) (range count)
     run-series =
         ap (λ (j : ℕ). put w out h (map (told_by w p way) (from j count))) z
-        ∙ put-run (of_table w) (told_by w p way) (risen 4 p.send p.receive arcs (risers_in (risers_of way spots))) low count 0 (state out h)
+        ∙ put-run (of_table w) (told_by w p way) (risen 4 p.send p.receive arcs (risers_of way spots)) low count 0 (state out h)
         (λ t l u. risen-told t (omega arith) spots
         (subst (λ (v : ℕ). Spotted w p (channel_at way v) (sent_at way v) spots) z sp) arcs
         (subst (λ (v : ℕ). Tells w p (channel_at way v) (sent_at way v) arcs) z tells))

@@ -1,13 +1,19 @@
 -- What `build` answers and leaves in the buffer, and what `size` answers (document 01, Causes of refusal, Net image).
-use Rattle.std.specs.Prelude.{List, ◌++◌, ℕ, ltb, length, drop}
+use Rattle.std.specs.Prelude.{List, ◌++◌, ℕ, Result, Ok, Err, ltb, length, drop}
 use Rattle.lists.specs.Lists.{pick, same}
-use Rattle.table.specs.Answer.{cause_of}
+use Rattle.table.specs.Answer.{cause_number}
 use Rattle.table.specs.Causes.{cause}
 use Rattle.places.specs.Image.{image_of}
-use Rattle.builder.specs.declared.Built.{Built}
-use Rattle.builder.specs.declared.Built.TheVariants.{Words, Refused, Room}
-use Rattle.builder.specs.declared.Sized.{Sized}
-use Rattle.builder.specs.declared.Sized.TheVariants as sized
+use Rattle.table.specs.declared.Cause.{Cause}
+use Rattle.places.specs.declared.Refusal as unplanned
+use Rattle.places.specs.declared.Refusal.TheVariants as unplanned_for
+use Rattle.builder.specs.declared.Refusal.{Refusal}
+use Rattle.builder.specs.declared.Refusal.TheVariants.{Table, NoRoom}
+
+-- what is not planned is not built
+abbrev pub unbuilt : unplanned.Refusal → Refusal
+unbuilt (unplanned_for.Table cause) = Table cause
+unbuilt unplanned_for.NoRoom = NoRoom
 
 -- the number of the cause, 0 for none, the words written, and the lent buffer afterwards
 pub record BuildOutcome : Type 0 where
@@ -19,10 +25,10 @@ abbrev pub outcome : ℕ → ℕ → List ℕ → BuildOutcome
 outcome number words buffer = record { number = number; words = words; buffer = buffer }
 
 -- document 01's number and value of each answer
-abbrev pub built_outcome : Built → List ℕ → BuildOutcome
-built_outcome (Words n) out = outcome 0 n out
-built_outcome (Refused v) out = outcome (cause_of v) 0 out
-built_outcome Room out = outcome 10 0 out
+abbrev pub built_outcome : Result ℕ Refusal → List ℕ → BuildOutcome
+built_outcome (Ok n) out = outcome 0 n out
+built_outcome (Err (Table cause)) out = outcome (cause_number cause) 0 out
+built_outcome (Err NoRoom) out = outcome 10 0 out
 
 -- of an accepted table: the image, or 10: "lent output shorter than the answer"; "Of a longer output only the answer's part changes."
 abbrev pub laid_outcome : List ℕ → List ℕ → BuildOutcome
@@ -43,9 +49,9 @@ abbrev pub extent : ℕ → ℕ → SizeOutcome
 extent number words = record { number = number; words = words }
 
 -- document 01's number and value of each answer
-abbrev pub sized_outcome : Sized → SizeOutcome
-sized_outcome (sized.Words n) = extent 0 n
-sized_outcome (sized.Refused v) = extent (cause_of v) 0
+abbrev pub sized_outcome : Result ℕ Cause → SizeOutcome
+sized_outcome (Ok n) = extent 0 n
+sized_outcome (Err cause) = extent (cause_number cause) 0
 
 -- the words of an accepted table's image ("the length is exact"), or the table's cause
 unfoldable pub size_outcome : List ℕ → SizeOutcome

@@ -91,11 +91,9 @@ fn release_publics(out: &mut [u32], h: Heads, c: Chain, x: Held, row: usize, cou
     };
     let outs = [on(c, x.k); 1];
     let mut q = h;
-    let mut i = 0;
-    while i < count {
+    for i in 0..count {
         let ins = [(row + i) as u32, (c.first + x.k) as u32];
         q = transition(out, q, label, &ins, 2, &outs, 1);
-        i += 1;
     }
     q
 }
@@ -123,12 +121,10 @@ fn release_privates(
     };
     let after = on(c, x.k);
     let mut q = h;
-    let mut i = 0;
-    while i < count {
+    for i in 0..count {
         let ins = [(row + i) as u32, (c.first + x.k) as u32];
         let outs = [(back + i) as u32, after];
         q = transition(out, q, label, &ins, 2, &outs, 2);
-        i += 1;
     }
     q
 }
@@ -187,12 +183,10 @@ pub(crate) fn release_all(
     let count = held_names(table, index, c.node as u8, &mut names);
     let mut q = h;
     let mut s = Start { name: 0, row: 0 };
-    let mut i = 0;
-    while i < count {
+    for i in 0..count {
         let z = word(&names, i);
         s = row_on(table, index, s, z);
         q = release_name(table, index, out, q, c, Held { k: k + i, name: z }, s.row);
-        i += 1;
     }
     q
 }
@@ -279,15 +273,13 @@ fn copy_formal(
     let formal = row_start(table, index, x.formal);
     let argument = row_start(table, index, x.argument);
     let mut q = h;
-    let mut i = 0;
-    while i < count {
+    for i in 0..count {
         let v = Copied {
             value: value_at(publics, r, i),
             formal,
             argument,
         };
         q = copy(table, index, out, q, c, x, v);
-        i += 1;
     }
     q
 }
@@ -317,15 +309,13 @@ pub(crate) fn copy_all(
         (map (argument_name table.now) (from x.argument count))) }
 {
     let mut q = h;
-    let mut i = 0;
-    while i < count {
+    for i in 0..count {
         let y = Passed {
             k: x.k + i,
             formal: x.formal + i,
             argument: field1(table, 12, x.argument + i),
         };
         q = copy_formal(table, index, out, q, c, y);
-        i += 1;
     }
     q
 }

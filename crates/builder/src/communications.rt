@@ -13,10 +13,10 @@ ghost use Rattle.builder.specs.Inner.Parts.{put, state, pair_told, with_all_of, 
 ghost use Rattle.builder.specs.Inner.Parts.{spot_of, Spotted, Can, risers_of, told_by, Telling, Told, Coursed};
 ghost use Rattle.builder.specs.Inner.Parts.{Begins, StartsOf};
 
-use crate::insertion::{insert, insert_spot};
+use crate::insertion::{NO_SPOT, insert, insert_spot};
 use crate::layout::{differs, equals, value_count};
 use crate::spans::{Span, Values, behind, behind_one, first_run, first_value, is_none, values_of};
-use crate::write::{Arcs, Heads, Label, Risers, series, transition, words};
+use crate::write::{Arcs, Heads, Label, series, transition, words};
 use lists::{store, word};
 use places::count::{Side, receive_at, side_of};
 use places::lookup::privates;
@@ -106,7 +106,7 @@ fn spot(table: &[u16], index: &[u32], row: u32, name: usize, v: usize) -> u32
     ensures { result ≡ spot_of table.now (equals name v) }
 {
     if name < word(table, 0) {
-        return 4294967295;
+        return NO_SPOT;
     }
     equals(table, index, row as usize, name, v)
 }
@@ -118,7 +118,7 @@ fn free_spot(table: &[u16], index: &[u32], row: u32, name: usize, v: usize) -> u
     ensures { result ≡ spot_of table.now (differs name v) }
 {
     if v < word(table, 0) {
-        return 4294967295;
+        return NO_SPOT;
     }
     differs(table, index, row as usize, name, v)
 }
@@ -171,36 +171,24 @@ fn arcs_of(
     }
 }
 
-// The value of a run where it is told, else the one that stays.
-fn value_of(moves: bool, v: usize, other: usize) -> usize
-    ensures { result ≡ pick moves v other }
+// The first where the test holds, else the second.
+fn either<T: Copy>(test: bool, x: T, y: T) -> T
+    ensures { result ≡ pick test x y }
 {
-    if moves {
-        return v;
-    }
-    other
+    if test { x } else { y }
 }
 
-// The number of a place that rises from one value of a run to the next, 2³² − 1 for one that stays.
-fn riser(moves: bool, x: u32) -> u32
-    ensures { result ≡ pick moves x 4294967295 }
-{
-    if moves {
-        return x;
-    }
-    4294967295
-}
-
-fn risers(way: Way, t: Spots) -> Risers
+// The numbers of the places that rise from one value of a run to the next.
+fn risers(way: Way, t: Spots) -> [u32; 5]
     ensures { result ≡ risers_of way t }
 {
-    Risers {
-        a: riser(way.channels, t.channel),
-        b: riser(way.channels, t.heard),
-        c: riser(way.sents, t.sent),
-        d: riser(way.sents, t.bound),
-        e: riser(way.sents, t.free),
-    }
+    [
+        either(way.channels, t.channel, NO_SPOT),
+        either(way.channels, t.heard, NO_SPOT),
+        either(way.sents, t.sent, NO_SPOT),
+        either(way.sents, t.bound, NO_SPOT),
+        either(way.sents, t.free, NO_SPOT),
+    ]
 }
 
 // The communications of a run. From one value to the next the places of the names that are told rise by 1, and the
@@ -220,8 +208,8 @@ fn tell(
         ≡ put table.now out.old h
         (map (told_by table.now p way) (from s.low s.count)) }
 {
-    let i = value_of(way.channels, s.low, way.other);
-    let j = value_of(way.sents, s.low, way.other);
+    let i = either(way.channels, s.low, way.other);
+    let j = either(way.sents, s.low, way.other);
     let mut ins = [0u32; 8];
     let mut outs = [0u32; 8];
     let t = arcs_of(table, index, p, i, j, &mut ins, &mut outs);
@@ -265,16 +253,6 @@ fn values_told(
         left = behind(left, s);
     }
     q
-}
-
-// The first values where the test holds, else the second.
-fn either(test: bool, x: Values, y: Values) -> Values
-    ensures { result ≡ pick test x y }
-{
-    if test {
-        return x;
-    }
-    y
 }
 
 // The communications of a send and a receive.
@@ -359,8 +337,7 @@ fn receive_rows(table: &[u16], index: &[u32]) -> Rows
     let mut a = Start { name: 0, row: 0 };
     let mut z = Start { name: 0, row: 0 };
     let mut k = 0;
-    let mut b = 0;
-    while b < branches {
+    for b in 0..branches {
         if field4(table, 11, b, 0) == 2 {
             a = row_on(table, index, a, field4(table, 11, b, 1));
             z = row_on(table, index, z, field4(table, 11, b, 2));
@@ -368,7 +345,6 @@ fn receive_rows(table: &[u16], index: &[u32]) -> Rows
             store(&mut at, k + 1, z.row as u32);
             k += 2;
         }
-        b += 1;
     }
     Rows { at }
 }
@@ -427,8 +403,7 @@ pub(crate) fn communications(
     let mut q = h;
     let mut a = Start { name: 0, row: 0 };
     let mut z = Start { name: 0, row: 0 };
-    let mut s = 0;
-    while s < branches {
+    for s in 0..branches {
         let set = word(pairs, SETS + s) as u64;
         if set != 0 {
             let side = side_of(table, index, s as u32);
@@ -440,7 +415,6 @@ pub(crate) fn communications(
             };
             q = partners(table, index, out, q, Sender { side, own, set }, pairs, rows);
         }
-        s += 1;
     }
     q
 }

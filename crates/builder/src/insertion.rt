@@ -7,25 +7,23 @@ ghost use Rattle.builder.specs.Inner.Parts.{Rising, Inserted, Entered, Placed, B
 use crate::layout::equals;
 use lists::word;
 
+// The number of a place that the net does not have.
+pub const NO_SPOT: u32 = u32::MAX;
+
 // Puts x into the ascending first `count` numbers, where it is not there yet, and returns how many there are then.
 pub(crate) fn insert(list: &mut [u32], count: usize, x: u32) -> usize
     requires { Rising list.old count }
     ensures { Inserted x count list.old result list.new }
 {
     let mut at = count;
-    while 0 < at {
-        if list[at - 1] < x {
-            break;
-        }
-        if list[at - 1] == x {
-            return count;
-        }
+    while 0 < at && x < list[at - 1] {
         at -= 1;
     }
-    let mut k = count;
-    while at < k {
-        list[k] = list[k - 1];
-        k -= 1;
+    if 0 < at && list[at - 1] == x {
+        return count;
+    }
+    for k in (at..count).rev() {
+        list[k + 1] = list[k];
     }
     list[at] = x;
     count + 1
@@ -58,7 +56,7 @@ pub(crate) fn insert_spot(list: &mut [u32], count: usize, x: u32) -> usize
     requires { Rising list.old count }
     ensures { Entered x count list.old result list.new }
 {
-    if x == 4294967295 {
+    if x == NO_SPOT {
         return count;
     }
     insert(list, count, x)

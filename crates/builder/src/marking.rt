@@ -22,10 +22,8 @@ fn count_up(out: &mut [u32], at: usize, first: usize, count: usize) -> usize
     requires { (first + count ≤ 4294967296) × (at < 4294967296) }
     ensures { (result ≡ at + count) × (out.new ≡ writes out.old at (from first count)) }
 {
-    let mut i = 0;
-    while i < count {
+    for i in 0..count {
         store(out, at + i, (first + i) as u32);
-        i += 1;
     }
     at + count
 }
@@ -40,14 +38,12 @@ fn initial_rows(table: &[u16], index: &[u32], out: &mut [u32]) -> usize
     let end = publics + word(table, 1);
     let mut at = 8;
     let mut row = 0;
-    let mut x = publics;
-    while x < end {
+    for x in publics..end {
         if is_read(table, index, x) {
             let held = publics_of(table, reach_of(index, x)) + privates;
             at = count_up(out, at, row + held, privates);
         }
         row += row_places(table, index, x, x + 1);
-        x += 1;
     }
     at
 }
@@ -60,11 +56,9 @@ fn initial_spots(table: &[u16], index: &[u32], out: &mut [u32], at: usize)
     let threads = word(table, 3);
     let mut list = [0u32; 8];
     let mut count = 0;
-    let mut t = 0;
-    while t < threads {
+    for t in 0..threads {
         let root = field4(table, 8, field1(table, 9, t), 1);
         count = insert(&mut list, count, node_start(index, root) as u32);
-        t += 1;
     }
     words(out, at, &list, count);
 }

@@ -43,8 +43,7 @@ fn silents(
 {
     let from = node_start(index, n) as u32;
     let mut q = h;
-    let mut b = first;
-    while b < end {
+    for b in first..end {
         if field4(table, 11, b, 0) == 0 {
             q = go(
                 out,
@@ -55,7 +54,6 @@ fn silents(
                 node_start(index, field4(table, 11, b, 3)) as u32,
             );
         }
-        b += 1;
     }
     q
 }
@@ -74,13 +72,11 @@ fn differences(table: &[u16], index: &[u32], list: &mut [u32], v: usize) -> usiz
     let end = publics + word(table, 1);
     let mut count = 0;
     let mut row = 0;
-    let mut x = publics;
-    while x < end {
+    for x in publics..end {
         if is_read(table, index, x) {
             count = insert(list, count, differs(table, index, row, x, v));
         }
         row += row_places(table, index, x, x + 1);
-        x += 1;
     }
     count
 }
@@ -121,10 +117,8 @@ fn risen(table: &[u16], first: &[u32], count: usize, v: usize, list: &mut [u32])
         (all_differ (scheme table.now) v))) }
 {
     let rise = (v - word(table, 0)) as u32;
-    let mut i = 0;
-    while i < count {
+    for i in 0..count {
         list[i] = first[i] + rise;
-        i += 1;
     }
     count
 }
@@ -196,10 +190,8 @@ fn news(
         row: row_start(table, index, field3(table, 10, n, 1)),
     };
     let mut q = h;
-    let mut k = 0;
-    while k < privates {
+    for k in 0..privates {
         q = make(table, index, out, q, m, publics + k, first);
-        k += 1;
     }
     q
 }
@@ -302,10 +294,8 @@ pub(crate) fn nodes(table: &[u16], index: &[u32], out: &mut [u32], h: Heads) -> 
     let read = first_reads(table, index, &mut reads);
     let count = word(table, 4);
     let mut q = h;
-    let mut n = 0;
-    while n < count {
+    for n in 0..count {
         q = node(table, index, out, q, n, &reads, read);
-        n += 1;
     }
     q
 }

@@ -46,10 +46,7 @@ pub(crate) fn is_none(x: Values) -> bool
     requires { Narrow x }
     ensures { result ≡ same (length (values_in x)) 0 }
 {
-    if x.set != 0 {
-        return false;
-    }
-    x.low == x.end
+    x.set == 0 && x.low == x.end
 }
 
 // The first value.

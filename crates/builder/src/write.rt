@@ -6,7 +6,7 @@ ghost use Rattle.builder.specs.Inner.Writing.{writes, put_one_transition, put_al
 ghost use Rattle.places.specs.Plan.{places_at, tokens_at};
 ghost use Rattle.places.specs.Answers.{sums_of};
 ghost use Rattle.places.specs.Inner.Counting.{Few};
-ghost use Rattle.builder.specs.Inner.Parts.{state, arrow, risen, risers_in, Short};
+ghost use Rattle.builder.specs.Inner.Parts.{state, arrow, risen, Short};
 ghost use Rattle.places.specs.Inner.Plan.{header_of};
 
 use lists::store;
@@ -37,25 +37,13 @@ pub struct Arcs {
     pub outputs: usize,
 }
 
-// The numbers of arcs that rise from one transition to the next; 2³² − 1 is the number of none.
-#[derive(Clone, Copy)]
-pub struct Risers {
-    pub a: u32,
-    pub b: u32,
-    pub c: u32,
-    pub d: u32,
-    pub e: u32,
-}
-
 pub(crate) fn words(out: &mut [u32], at: usize, list: &[u32], count: usize) -> usize
     requires { (count ≤ length list.now) × (at < 8589934592) }
     ensures { (result ≡ at + count)
         × (out.new ≡ writes out.old at (take count list.now)) }
 {
-    let mut i = 0;
-    while i < count {
+    for i in 0..count {
         store(out, at + i, list[i]);
-        i += 1;
     }
     at + count
 }
@@ -66,10 +54,8 @@ fn lay(out: &mut [u32], at: usize, list: &[u32], count: usize) -> usize
     ensures { (result ≡ at + count)
         × (out.new ≡ writes out.old at (take count list.now)) }
 {
-    let mut i = 0;
-    while i < count {
+    for i in 0..count {
         out[at + i] = list[i];
-        i += 1;
     }
     at + count
 }
@@ -136,36 +122,19 @@ pub(crate) fn go(out: &mut [u32], h: Heads, kind: u32, a: usize, from: u32, to: 
 }
 
 // All bits for a number that rises, none for another.
-fn mask(x: u32, a: u32, b: u32, c: u32, d: u32, e: u32) -> u32
-    ensures { result ≡ mask_of (a ∷ b ∷ c ∷ d ∷ e ∷ []) x }
+fn mask(x: u32, rise: &[u32; 5]) -> u32
+    ensures { result ≡ mask_of rise.now x }
 {
-    if x == a {
-        return 4294967295;
-    }
-    if x == b {
-        return 4294967295;
-    }
-    if x == c {
-        return 4294967295;
-    }
-    if x == d {
-        return 4294967295;
-    }
-    if x == e {
-        return 4294967295;
-    }
-    0
+    if rise.contains(&x) { u32::MAX } else { 0 }
 }
 
-fn masks_of(list: &[u32; 16], a: u32, b: u32, c: u32, d: u32, e: u32) -> [u32; 16]
+fn masks_of(list: &[u32; 16], rise: &[u32; 5]) -> [u32; 16]
     requires { length list.now ≡ 16 }
-    ensures { result ≡ map (mask_of (a ∷ b ∷ c ∷ d ∷ e ∷ [])) list.now }
+    ensures { result ≡ map (mask_of rise.now) list.now }
 {
     let mut masks = [0u32; 16];
-    let mut k = 0;
-    while k < 16 {
-        masks[k] = mask(list[k], a, b, c, d, e);
-        k += 1;
+    for k in 0..16 {
+        masks[k] = mask(list[k], rise);
     }
     masks
 }
@@ -199,10 +168,8 @@ fn rest(
         × (out.new ≡ writes out.old (at + first)
         (slice first count (sums t list.now masks.now))) }
 {
-    let mut i = first;
-    while i < count {
+    for i in first..count {
         out[at + i] = list[i] + (masks[i] & t);
-        i += 1;
     }
     at + count
 }
@@ -230,20 +197,20 @@ fn raised(
 }
 
 // Transitions of one label that follow one another: the first has the given arcs, and from one to the next those of
-// given numbers rise by 1.
+// given numbers rise by 1; 2³² − 1 is the number of none.
 pub(crate) fn series(
     out: &mut [u32],
     h: Heads,
     label: Label,
     arcs: Arcs,
-    rise: Risers,
+    rise: [u32; 5],
     count: usize,
 ) -> Heads
     requires { (label.a < 65536) × (label.b < 65536) × (count < 65536) × Short arcs
-        × Inside (put_all (risen label.kind label.a label.b arcs (risers_in rise))
+        × Inside (put_all (risen label.kind label.a label.b arcs rise)
         (state out.old h) (range count)) }
     ensures { state out.new result
-        ≡ put_all (risen label.kind label.a label.b arcs (risers_in rise))
+        ≡ put_all (risen label.kind label.a label.b arcs rise)
         (state out.old h) (range count) }
 {
     let ins = arcs.ins;
@@ -251,20 +218,13 @@ pub(crate) fn series(
     let mut list = [0u32; 16];
     let middle = words(&mut list, 0, &ins, arcs.inputs);
     let size = words(&mut list, middle, &outs, arcs.outputs);
-    let a = rise.a;
-    let b = rise.b;
-    let c = rise.c;
-    let d = rise.d;
-    let e = rise.e;
-    let masks = masks_of(&list, a, b, c, d, e);
+    let masks = masks_of(&list, &rise);
     let mut place = h.place;
     let mut arc = h.arc;
-    let mut t = 0;
-    while t < count {
+    for t in 0..count {
         put_record(out, place, label, arc, arcs.inputs, arcs.outputs);
         arc = raised(out, arc, &list, &masks, size, t as u32);
         place += 6;
-        t += 1;
     }
     Heads { place, arc }
 }

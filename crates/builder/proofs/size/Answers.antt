@@ -1,4 +1,5 @@
-use mathlib.Core.Path.{refl, ◌∙◌}
+use Rattle.std.proofs.Common.{Err}
+use mathlib.Core.Path.{refl, ap, ◌∙◌}
 use native.Mathlib.Omega.{arith}
 use Rattle.places.proofs.Outcomes.{measured-net, measured-refused, measured-short}
 use Rattle.places.proofs.Plans.{few-tokens}
@@ -8,20 +9,22 @@ use Rattle.builder.proofs.size.Goals as goal
 
 pub length_of-requires : goal.length_of-requires
 length_of-requires c =
-    let m = measured-net _ _ _ _ _ _ c.measure.ensures _ c.in-Net.is in
+    let m = measured-net _ _ _ _ _ _ c.measure.ensures _ c.in-Ok.is in
     (few-tokens _ _ m.0, few-totals _ m.0.accepted _ m.0 _ m.1)
 
-pub returns-in-Net : goal.returns-in-Net
-returns-in-Net c =
-    let m = measured-net _ _ _ _ _ _ c.measure.ensures _ c.in-Net.is in
+pub returns-in-Ok : goal.returns-in-Ok
+returns-in-Ok c =
+    let m = measured-net _ _ _ _ _ _ c.measure.ensures _ c.in-Ok.is in
     size-answer _ _ m.0.accepted (c.length_of.ensures ∙ words_are _ m.0.accepted _ m.0 _ m.1 _ refl)
 
-pub returns-in-Refused : goal.returns-in-Refused
-returns-in-Refused c =
-    let k = measured-refused _ _ _ _ _ _ c.measure.ensures _ c.in-Refused.is in
-    no_size _ _ k.0 k.1
+pub returns-in-Err-Table : goal.returns-in-Err-Table
+returns-in-Err-Table c =
+    let e = c.in-Err-Table in
+    let k = measured-refused _ _ _ _ _ _ c.measure.ensures _ (e.is ∙ ap Err e.field-0-is) in
+    rw e.field-0-is (no_size _ _ k.0 k.1)
 
-pub returns-in-Short : goal.returns-in-Short
-returns-in-Short c =
+pub unreachable-requires : goal.unreachable-requires
+unreachable-requires c =
     let m = c.measure in
-    absurd (measured-short _ _ _ _ _ _ m.ensures c.in-Short.is (omega (arith, c.measure.auto.index)) (omega (arith, c.measure.auto.pairs)))
+    let e = c.in-Err-NoRoom in
+    measured-short _ _ _ _ _ _ m.ensures (e.is ∙ ap Err e.field-0-is) (omega (arith, c.measure.auto.index)) (omega (arith, c.measure.auto.pairs))

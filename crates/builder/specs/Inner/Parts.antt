@@ -20,7 +20,6 @@ use Rattle.places.specs.declared.reach.Reach.{Reach}
 use Rattle.places.specs.declared.count.Side.{Side}
 use Rattle.builder.specs.declared.write.Heads.{Heads}
 use Rattle.builder.specs.declared.write.Arcs.{Arcs}
-use Rattle.builder.specs.declared.write.Risers.{Risers}
 use Rattle.builder.specs.declared.communications.Starts.{Starts}
 use Rattle.builder.specs.declared.spans.Values.{Values}
 use Rattle.builder.specs.declared.chain.Chain.{Chain}
@@ -178,17 +177,10 @@ abbrev pub told_by : List ℕ → Pair → Way → ℕ → Description
 told_by w p way v = told w p.send p.receive (channel_at way v) (sent_at way v)
 
 -- the numbers that rise
-abbrev pub risers_of : Way → Spots → Risers
-risers_of way t = record {
-  a = pick way.channels t.channel no_spot;
-  b = pick way.channels t.heard no_spot;
-  c = pick way.sents t.sent no_spot;
-  d = pick way.sents t.bound no_spot;
-  e = pick way.sents t.free no_spot;
-}
-
-abbrev pub risers_in : Risers → List ℕ
-risers_in r = r.a ∷ r.b ∷ r.c ∷ r.d ∷ r.e ∷ []
+abbrev pub risers_of : Way → Spots → List ℕ
+risers_of way t =
+    pick way.channels t.channel no_spot ∷ pick way.channels t.heard no_spot ∷ pick way.sents t.sent no_spot
+    ∷ pick way.sents t.bound no_spot ∷ pick way.sents t.free no_spot ∷ []
 
 -- a name sent on itself goes with its channel
 abbrev pub Together : Pair → Way → Type 0

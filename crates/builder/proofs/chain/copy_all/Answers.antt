@@ -69,7 +69,6 @@ loop-i-preserved c =
     y.ensures.is in (
       part-more (of_table w) _ (state l.out l.q) _ _ (l.invariant.0 ∙ ap (put w l.out l.q) e) _ c.copy_formal-q.ensures,
       state-length w l.out _ l.q _ _ c.copy_formal-q.ensures ∙ l.invariant.1,
-      omega (arith, u),
     )
 
 pub returns : goal.returns

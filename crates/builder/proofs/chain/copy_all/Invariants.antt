@@ -15,7 +15,4 @@ invariant-loop-i l =
     (map (argument_name l.table) (from l.x.argument l.count)))
     ≡ put l.table l.out l.q (copies (scheme l.table) (today l.table) l.c.node l.c.to (l.x.k + l.i) (from (l.x.formal + l.i) (l.count - l.i))
     (map (argument_name l.table) (from (l.x.argument + l.i) (l.count - l.i)))))
-    × (length l.out ≡ length l.initial.out) × (l.i ≤ l.count)
-
-abbrev pub decreases-loop-i : goal.decreases-loop-i
-decreases-loop-i l = l.count - l.i
+    × (length l.out ≡ length l.initial.out)

@@ -73,7 +73,6 @@ loop-i-preserved c =
           a.x.formal a.x.argument)
           l.invariant.0 v.result u (t.value-is l.i v.result u v.ensures) _ c.copy-q.ensures,
       state-length w l.out _ l.q _ _ c.copy-q.ensures ∙ l.invariant.1,
-      omega (arith, c.loop-i-test.true),
     )
 
 pub returns : goal.returns

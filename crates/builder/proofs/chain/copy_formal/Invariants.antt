@@ -12,7 +12,4 @@ abbrev pub invariant-loop-i : goal.invariant-loop-i
 invariant-loop-i l =
     (put l.table l.initial.out l.initial.q (map (copying (scheme l.table) (today l.table) l.c.node l.c.to l.x.k l.x.formal l.x.argument) (values l.table l.x.argument))
     ≡ put l.table l.out l.q (map (copying (scheme l.table) (today l.table) l.c.node l.c.to l.x.k l.x.formal l.x.argument) (drop l.i (values l.table l.x.argument))))
-    × (length l.out ≡ length l.initial.out) × (l.i ≤ l.count)
-
-abbrev pub decreases-loop-i : goal.decreases-loop-i
-decreases-loop-i l = l.count - l.i
+    × (length l.out ≡ length l.initial.out)

@@ -66,7 +66,6 @@ loop-i-init c =
       ap (put w a.out.now a.h)
           (releases-start (scheme w) (today w) a.c.node a.c.to a.k (take c.held_names-count.result c.held_names-count.new.out)),
       refl,
-      omega arith,
       right-first w a.index.now c.requires.0,
     )
 
@@ -95,7 +94,7 @@ release_name-q-requires c =
       omega (arith, few h, u),
       b.0,
       b.1,
-      on_row w x p.0 l.s l.invariant.3 s.result z.result s.ensures b.0 b.1,
+      on_row w x p.0 l.s l.invariant.2 s.result z.result s.ensures b.0 b.1,
       part-inside (of_table w) _ (state l.out l.q) _ _ (l.invariant.0 ∙ ap (put w l.out l.q) e) (inside h),
     )
 
@@ -113,8 +112,7 @@ loop-i-preserved c =
     z.ensures.is in (
       part-more (of_table w) _ (state l.out l.q) _ _ (l.invariant.0 ∙ ap (put w l.out l.q) e) _ r,
       state-length w l.out _ l.q _ _ r ∙ l.invariant.1,
-      omega (arith, u),
-      counted-on w a.index.now c.requires.0 l.s l.invariant.3 s.result z.result s.ensures,
+      counted-on w a.index.now c.requires.0 l.s l.invariant.2 s.result z.result s.ensures,
     )
 
 pub returns : goal.returns

@@ -12,7 +12,4 @@ abbrev pub invariant-loop-i : goal.invariant-loop-i
 invariant-loop-i l =
     (put l.table l.initial.out l.initial.q (releases (scheme l.table) (today l.table) l.c.node l.c.to l.k (take l.count l.names))
     ≡ put l.table l.out l.q (releases (scheme l.table) (today l.table) l.c.node l.c.to (l.k + l.i) (drop l.i (take l.count l.names))))
-    × (length l.out ≡ length l.initial.out) × (l.i ≤ l.count) × Right l.table l.index l.s
-
-abbrev pub decreases-loop-i : goal.decreases-loop-i
-decreases-loop-i l = l.count - l.i
+    × (length l.out ≡ length l.initial.out) × Right l.table l.index l.s

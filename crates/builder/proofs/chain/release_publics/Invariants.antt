@@ -11,6 +11,3 @@ abbrev pub invariant-loop-i : goal.invariant-loop-i
 invariant-loop-i l =
     (put_all (released l.c l.x l.row) (state l.initial.out l.initial.q) (range l.count) ≡ put_all (released l.c l.x l.row) (state l.out l.q) (from l.i (l.count - l.i)))
     × (length l.out ≡ length l.initial.out)
-
-abbrev pub decreases-loop-i : goal.decreases-loop-i
-decreases-loop-i l = l.count - l.i

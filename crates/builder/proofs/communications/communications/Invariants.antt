@@ -10,6 +10,3 @@ abbrev pub invariant-loop-s : goal.invariant-loop-s
 invariant-loop-s l =
     (put l.table l.initial.out l.initial.q (flat (with_all_of l.table) (range l.branches)) ≡ put l.table l.out l.q (flat (with_all_of l.table) (from l.s (l.branches - l.s))))
     × (length l.out ≡ length l.initial.out) × Right l.table l.index l.a × Right l.table l.index l.z
-
-abbrev pub decreases-loop-s : goal.decreases-loop-s
-decreases-loop-s l = l.branches - l.s

@@ -9,8 +9,5 @@ use Rattle.builder.proofs.communications.receive_rows.Given as goal
 
 abbrev pub invariant-loop-b : goal.invariant-loop-b
 invariant-loop-b l =
-    (l.k ≡ 2 * length (keep (is_receive l.table) (range l.b))) × StartsOf l.table l.at (keep (is_receive l.table) (range l.b)) × (length l.at ≡ 64) × (l.k ≤ 2 * l.b) × (l.b ≤ l.branches)
+    (l.k ≡ 2 * length (keep (is_receive l.table) (range l.b))) × StartsOf l.table l.at (keep (is_receive l.table) (range l.b)) × (length l.at ≡ 64) × (l.k ≤ 2 * l.b)
     × Right l.table l.index l.a × Right l.table l.index l.z
-
-abbrev pub decreases-loop-b : goal.decreases-loop-b
-decreases-loop-b l = l.branches - l.b

@@ -11,7 +11,4 @@ abbrev pub decreases-loop-at : goal.decreases-loop-at
 decreases-loop-at l = l.at
 
 abbrev pub invariant-loop-k : goal.invariant-loop-k
-invariant-loop-k l = (l.at ≤ l.k) × (l.k ≤ l.count) × (l.list ≡ shifted l.initial.list l.k l.count) × (length l.list ≡ length l.initial.list)
-
-abbrev pub decreases-loop-k : goal.decreases-loop-k
-decreases-loop-k l = l.k
+invariant-loop-k l = (l.at ≤ l.k) × (l.list ≡ shifted l.initial.list l.k l.count)

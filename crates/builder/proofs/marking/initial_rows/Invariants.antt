@@ -6,6 +6,3 @@ use Rattle.builder.proofs.marking.initial_rows.Given as goal
 
 abbrev pub invariant-loop-x : goal.invariant-loop-x
 invariant-loop-x l = RowsTurn l.table l.initial.out l.end l.out l.at l.x × (l.row ≡ row_of l.table l.x)
-
-abbrev pub decreases-loop-x : goal.decreases-loop-x
-decreases-loop-x l = l.end - l.x

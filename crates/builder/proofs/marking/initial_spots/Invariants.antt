@@ -4,6 +4,3 @@ use Rattle.builder.proofs.marking.initial_spots.Given as goal
 
 abbrev pub invariant-loop-t : goal.invariant-loop-t
 invariant-loop-t l = SpotsTurn l.table l.threads l.list l.count l.t
-
-abbrev pub decreases-loop-t : goal.decreases-loop-t
-decreases-loop-t l = l.threads - l.t

@@ -1,8 +1,8 @@
 use mathlib.Core.Path.{◌≡◌, refl, sym, ap, ◌∙◌}
-use Prim.Native.Nat.{◌+◌, ◌<◌}
+use Prim.Native.Nat.{◌+◌, ◌≤◌, ◌<◌}
 use native.Mathlib.Omega.{arith}
 use lib.ListN.{length}
-use Rattle.scheme.specs.Words.{names}
+use Rattle.scheme.specs.Words.{publics, names}
 use Rattle.scheme.specs.Scheme.{scheme}
 use Rattle.places.specs.Inner.Arcs.{numbers_for}
 use Rattle.places.specs.Inner.Plan.{today, row_of, Differs}
@@ -22,8 +22,6 @@ loop-x-init c =
     let e = c.word-publics.ensures.is in (
       below-start a.table.now a.v a.list.now c.word-publics.result e,
       refl,
-      omega (arith, e),
-      omega arith,
       sym (row-none a.table.now c.word-publics.result (omega (arith, e))),
     )
 
@@ -38,7 +36,7 @@ differs-requires c =
     let i = c.args.index.now in
     let v = c.args.v in
     let r = sym (read-tells w p.0.accepted i (laid-reached w i p.0) x k.result k.ensures) ∙ c.if-is_read.true in
-    let l = c.loop-x.invariant.2 in
+    let l : publics w ≤ x = omega (arith, c.word-publics.ensures.is) in
     let u : x < names w = omega (
       arith,
       c.loop-x-test.true,
@@ -48,7 +46,7 @@ differs-requires c =
     record { low = l; high = u; free = read-free w v x r; reads = read-private w v x r; private = p.1; value = p.2 } in (
       c.requires.0,
       differs-here,
-      c.loop-x.invariant.4,
+      c.loop-x.invariant.2,
     )
 
 pub insert-count-requires : goal.insert-count-requires
@@ -66,7 +64,7 @@ insert-count-requires c =
       few-bounds a.table.now p.0.accepted,
       p.3,
       l.invariant.1,
-      l.invariant.2,
+      c.loop-x.auto.x,
     )) l.invariant.0
 
 pub overflow_add-row : goal.overflow_add-row
@@ -83,9 +81,9 @@ overflow_add-row c =
     let l = c.loop-x in
     omega (
       arith,
-      l.invariant.4,
+      l.invariant.2,
       c.row_places-row.ensures,
-      row-goes-on c.args.table.now c.args.index.now c.requires.0 l.x l.invariant.2 below,
+      row-goes-on c.args.table.now c.args.index.now c.requires.0 l.x (omega (arith, c.word-publics.ensures.is)) below,
     ) in
     let l = c.loop-x in
     omega (arith, on, row_small c.args.table.now c.requires.0.accepted (l.x + 1) (omega (arith, below)))
@@ -112,7 +110,7 @@ loop-x-preserved c =
     elim c.if-is_read.branch [
       | then-is_read y ↦ rw (y.list-is, y.count-is) (
         below-with w a.v l.list _ l.count _ y.differs.result l.x (record {
-          low = l.invariant.2;
+          low = (omega (arith, c.word-publics.ensures.is));
           high = below;
           free = read-free w a.v l.x (sym r ∙ y.if-is_read.true);
           reads = read-private w a.v l.x (sym r ∙ y.if-is_read.true);
@@ -122,7 +120,7 @@ loop-x-preserved c =
         y.insert-count.auto.list ∙ l.invariant.1,
       )
       | else-is_read y ↦ rw (y.list-is, y.count-is) (
-        below-without w a.v l.list l.count l.x p.1 l.invariant.2 (sym r ∙ y.if-is_read.false) l.invariant.0,
+        below-without w a.v l.list l.count l.x p.1 (omega (arith, c.word-publics.ensures.is)) (sym r ∙ y.if-is_read.false) l.invariant.0,
         l.invariant.1,
       )
     ] in
@@ -131,14 +129,12 @@ loop-x-preserved c =
     let l = c.loop-x in
     omega (
       arith,
-      l.invariant.4,
+      l.invariant.2,
       c.row_places-row.ensures,
-      row-goes-on c.args.table.now c.args.index.now c.requires.0 l.x l.invariant.2 below,
+      row-goes-on c.args.table.now c.args.index.now c.requires.0 l.x (omega (arith, c.word-publics.ensures.is)) below,
     ) in (
       turn.0,
       turn.1,
-      omega (arith, c.loop-x.invariant.2),
-      omega (arith, c.loop-x-test.true),
       on,
     )
 
@@ -150,7 +146,6 @@ returns c =
     let e = below_all w a.v l.x (omega (
       arith,
       c.loop-x-test.false,
-      l.invariant.3,
       c.word-publics.ensures.is,
       c.word.ensures.is,
     )) in

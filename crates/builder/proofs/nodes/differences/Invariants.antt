@@ -8,7 +8,4 @@ use Rattle.builder.proofs.Making.{differs_below}
 use Rattle.builder.proofs.nodes.differences.Given as goal
 
 abbrev pub invariant-loop-x : goal.invariant-loop-x
-invariant-loop-x l = Filled l.table l.list l.count (differs_below l.table l.v l.x) × (length l.list ≡ length l.initial.list) × (publics l.table ≤ l.x) × (l.x ≤ l.end) × (l.row ≡ row_of l.table l.x)
-
-abbrev pub decreases-loop-x : goal.decreases-loop-x
-decreases-loop-x l = l.end - l.x
+invariant-loop-x l = Filled l.table l.list l.count (differs_below l.table l.v l.x) × (length l.list ≡ length l.initial.list) × (l.row ≡ row_of l.table l.x)

@@ -79,7 +79,6 @@ loop-k-preserved c =
       map_more (of_table w) _ (state l.out l.q) vs l.k (made w a.n) l.invariant.0 v (omega (arith, from-length (publics w) (privates_word w), u)) e _
           c.make-q.ensures,
       state-length w l.out _ l.q _ _ c.make-q.ensures ∙ l.invariant.1,
-      omega (arith, c.loop-k-test.true),
     )
 
 pub returns : goal.returns

@@ -12,7 +12,4 @@ abbrev pub invariant-loop-k : goal.invariant-loop-k
 invariant-loop-k l =
     (put l.table l.initial.out l.initial.q (map (made l.table l.n) (Lists.from (publics l.table) (privates_word l.table)))
     ≡ put l.table l.out l.q (map (made l.table l.n) (drop l.k (Lists.from (publics l.table) (privates_word l.table)))))
-    × (length l.out ≡ length l.initial.out) × (l.k ≤ l.privates)
-
-abbrev pub decreases-loop-k : goal.decreases-loop-k
-decreases-loop-k l = l.privates - l.k
+    × (length l.out ≡ length l.initial.out)

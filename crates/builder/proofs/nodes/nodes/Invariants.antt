@@ -11,6 +11,3 @@ abbrev pub invariant-loop-n : goal.invariant-loop-n
 invariant-loop-n l =
     (put l.table l.initial.out l.initial.q (flat (node_all l.table) (range (Words.nodes l.table))) ≡ put l.table l.out l.q (flat (node_all l.table) (from l.n (l.count - l.n))))
     × (length l.out ≡ length l.initial.out)
-
-abbrev pub decreases-loop-n : goal.decreases-loop-n
-decreases-loop-n l = l.count - l.n

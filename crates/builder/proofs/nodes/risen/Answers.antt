@@ -48,7 +48,6 @@ loop-i-preserved c =
     let f = up-few a.table.now a.v c.requires.1 c.requires.2 c.requires.0 a.first.now a.count c.requires.3 in (
       more a.first.now l.list _ l.i (omega (arith, h, f, c.requires.5, l.invariant.1)) l.invariant.0,
       simp length-set l.invariant.1,
-      omega (arith, h),
     )
 
 pub returns : goal.returns
@@ -57,7 +56,7 @@ returns c =
     let w = a.table.now in
     let l = c.loop-i in
     let f = up-few w a.v c.requires.1 c.requires.2 c.requires.0 a.first.now a.count c.requires.3 in
-    let e : l.i ≡ a.count = omega (arith, l.invariant.2, c.loop-i-test.false) in (
+    let e : l.i ≡ a.count = omega (arith, c.loop-i-test.false) in (
       up_done w a.v c.requires.1 c.requires.2 c.requires.0 a.first.now a.count c.requires.3 l.list (omega (arith, f, c.requires.4))
           (omega (arith, f, c.requires.5, l.invariant.1))
           (λ j k. l.invariant.0 j (omega (arith, e)) ∙ ap (λ (n : ℕ). get_or a.first.now j 0 + (a.v - n)) c.word.ensures.is),

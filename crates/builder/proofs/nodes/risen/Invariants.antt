@@ -4,7 +4,4 @@ use lib.ListN.{length, get_or}
 use Rattle.builder.proofs.nodes.risen.Given as goal
 
 abbrev pub invariant-loop-i : goal.invariant-loop-i
-invariant-loop-i l = ((j : ℕ) → j < l.i → get_or l.list j 0 ≡ get_or l.first j 0 + l.rise) × (length l.list ≡ length l.initial.list) × (l.i ≤ l.count)
-
-abbrev pub decreases-loop-i : goal.decreases-loop-i
-decreases-loop-i l = l.count - l.i
+invariant-loop-i l = ((j : ℕ) → j < l.i → get_or l.list j 0 ≡ get_or l.first j 0 + l.rise) × (length l.list ≡ length l.initial.list)

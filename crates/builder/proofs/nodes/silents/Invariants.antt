@@ -11,9 +11,6 @@ use Rattle.builder.proofs.nodes.silents.Given as goal
 
 abbrev pub invariant-loop-b : goal.invariant-loop-b
 invariant-loop-b l =
-    (put l.table l.initial.out l.initial.q (flat (λ b. silents (scheme l.table) (today l.table) l.n b ((scheme l.table).branch b)) (Lists.from l.initial.b (l.end - l.initial.b)))
+    (put l.table l.initial.out l.initial.q (flat (λ b. silents (scheme l.table) (today l.table) l.n b ((scheme l.table).branch b)) (Lists.from l.first (l.end - l.first)))
     ≡ put l.table l.out l.q (flat (λ b. silents (scheme l.table) (today l.table) l.n b ((scheme l.table).branch b)) (Lists.from l.b (l.end - l.b))))
     × (length l.out ≡ length l.initial.out)
-
-abbrev pub decreases-loop-b : goal.decreases-loop-b
-decreases-loop-b l = l.end - l.b

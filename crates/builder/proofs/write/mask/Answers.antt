@@ -1,22 +1,24 @@
-use Rattle.builder.proofs.Rising.{mask_first, mask-second, mask-third, mask-fourth, mask-fifth, mask-none}
+use mathlib.Core.Path.{◌≡◌, refl, sym, ap, ◌∙◌}
+use mathlib.Core.Bool.{Bool, ◌||◌}
+use mathlib.Core.List.{List, [], ◌∷◌}
+use Prim.Native.Nat.{ℕ}
+use Rattle.std.specs.List.{list_any}
+use lib.Dec.{eqb}
+use Rattle.lists.specs.Lists.{same, member}
+use Rattle.lists.proofs.Tests.{same-sym}
+use Rattle.builder.specs.Inner.Writing.{mask_of}
 use Rattle.builder.proofs.write.mask.Goals as goal
 
-pub returns-then-x-a : goal.returns-then-x-a
-returns-then-x-a c = let a = c.args in mask_first a.x a.a a.b a.c a.d a.e c.if-x-a.true
+-- a number that the search finds is a member
+found : (x : ℕ) (ms : List ℕ) → list_any (λ y. eqb y x) ms ≡ member x ms
+unfolding member same
+found x [] = refl
+found x (m ∷ ms) = ap (λ b. b || list_any (λ y. eqb y x) ms) (same-sym m x) ∙ ap (λ b. same x m || b) (found x ms)
 
-pub returns-then-x-b : goal.returns-then-x-b
-returns-then-x-b c = let a = c.args in mask-second a.x a.a a.b a.c a.d a.e c.if-x-b.true
+pub returns-then-contains : goal.returns-then-contains
+unfolding mask_of
+returns-then-contains c = rw (sym (found c.args.x c.args.rise.now) ∙ sym c.contains.ensures.value ∙ c.if-contains.true)
 
-pub returns-then-x-c : goal.returns-then-x-c
-returns-then-x-c c = let a = c.args in mask-third a.x a.a a.b a.c a.d a.e c.if-x-c.true
-
-pub returns-then-x-d : goal.returns-then-x-d
-returns-then-x-d c = let a = c.args in mask-fourth a.x a.a a.b a.c a.d a.e c.if-x-d.true
-
-pub returns-then-x-e : goal.returns-then-x-e
-returns-then-x-e c = let a = c.args in mask-fifth a.x a.a a.b a.c a.d a.e c.if-x-e.true
-
-pub returns : goal.returns
-returns c =
-    let a = c.args in
-    mask-none a.x a.a a.b a.c a.d a.e c.if-x-a.false c.if-x-b.false c.if-x-c.false c.if-x-d.false c.if-x-e.false
+pub returns-else-contains : goal.returns-else-contains
+unfolding mask_of
+returns-else-contains c = rw (sym (found c.args.x c.args.rise.now) ∙ sym c.contains.ensures.value ∙ c.if-contains.false)

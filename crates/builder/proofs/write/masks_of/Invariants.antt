@@ -6,7 +6,4 @@ use Rattle.builder.specs.Inner.Writing.{mask_of}
 use Rattle.builder.proofs.write.masks_of.Given as goal
 
 abbrev pub invariant-loop-k : goal.invariant-loop-k
-invariant-loop-k l = (l.k ≤ 16) × (length l.masks ≡ 16) × (take l.k l.masks ≡ map (mask_of (l.a ∷ l.b ∷ l.c ∷ l.d ∷ l.e ∷ [])) (take l.k l.list))
-
-abbrev pub decreases-loop-k : goal.decreases-loop-k
-decreases-loop-k l = 16 - l.k
+invariant-loop-k l = (length l.masks ≡ 16) × (take l.k l.masks ≡ map (mask_of l.rise) (take l.k l.list))

@@ -6,7 +6,4 @@ use Rattle.builder.specs.Inner.Writing.{writes, sums}
 use Rattle.builder.proofs.write.rest.Given as goal
 
 abbrev pub invariant-loop-i : goal.invariant-loop-i
-invariant-loop-i l = (writes l.initial.out (l.at + l.initial.i) (slice l.initial.i l.count (sums l.t l.list l.masks)) ≡ writes l.out (l.at + l.i) (slice l.i l.count (sums l.t l.list l.masks))) × (length l.out ≡ length l.initial.out)
-
-abbrev pub decreases-loop-i : goal.decreases-loop-i
-decreases-loop-i l = l.count - l.i
+invariant-loop-i l = (writes l.initial.out (l.at + l.first) (slice l.first l.count (sums l.t l.list l.masks)) ≡ writes l.out (l.at + l.i) (slice l.i l.count (sums l.t l.list l.masks))) × (length l.out ≡ length l.initial.out)

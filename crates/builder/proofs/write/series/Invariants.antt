@@ -9,9 +9,6 @@ use Rattle.builder.proofs.write.series.Given as goal
 
 abbrev pub invariant-loop-t : goal.invariant-loop-t
 invariant-loop-t l =
-    (put_all (risen l.label.kind l.label.a l.label.b l.arcs (l.a ∷ l.b ∷ l.c ∷ l.d ∷ l.e ∷ [])) (heads l.initial.out l.initial.place l.initial.arc) (range l.count)
-    ≡ put_all (risen l.label.kind l.label.a l.label.b l.arcs (l.a ∷ l.b ∷ l.c ∷ l.d ∷ l.e ∷ [])) (heads l.out l.place l.arc) (from l.t (l.count - l.t)))
+    (put_all (risen l.label.kind l.label.a l.label.b l.arcs l.fn.rise) (heads l.initial.out l.initial.place l.initial.arc) (range l.count)
+    ≡ put_all (risen l.label.kind l.label.a l.label.b l.arcs l.fn.rise) (heads l.out l.place l.arc) (from l.t (l.count - l.t)))
     × (length l.out ≡ length l.initial.out)
-
-abbrev pub decreases-loop-t : goal.decreases-loop-t
-decreases-loop-t l = l.count - l.t

@@ -7,6 +7,3 @@ use Rattle.builder.proofs.write.words.Given as goal
 
 abbrev pub invariant-loop-i : goal.invariant-loop-i
 invariant-loop-i l = (writes l.initial.out l.at (take l.count l.list) ≡ writes l.out (l.at + l.i) (slice l.i l.count l.list)) × (length l.out ≡ length l.initial.out)
-
-abbrev pub decreases-loop-i : goal.decreases-loop-i
-decreases-loop-i l = l.count - l.i
