@@ -24,9 +24,9 @@ use Rattle.readback.specs.Reading.{has, configuration, first_value_of, has_one_s
 use Rattle.fidelity.specs.Inner.Marks.{holds, given, used, allows, WellFormed, exists-equals, exists-differs, exists-free}
 use Rattle.fidelity.specs.Inner.Shapes.{EnoughValues}
 use Rattle.fidelity.proofs.Basics.{holds-eq, holds-some}
-use Rattle.fidelity.proofs.Elements.{member-element}
+use Rattle.readback.proofs.Elements.{member-element}
+use Rattle.readback.proofs.Sifted.{flat-none, flat-only}
 use Rattle.fidelity.proofs.Firing.{used-of, used-true}
-use Rattle.fidelity.proofs.Sifted.{flat-none, flat-only}
 use Rattle.fidelity.proofs.Readings.{marked_by, value_list, values-read, spots-read}
 use Rattle.fidelity.proofs.Having.{has-mark}
 
