@@ -24,10 +24,6 @@ or_swap true false = refl
 or_swap false true = refl
 or_swap false false = refl
 
-pub or-neither : (a b : Bool) → (a || b) ≡ false → a ≡ false
-or-neither true b e = e
-or-neither false b e = refl
-
 pub member-snoc : (x y : ℕ) (xs : List ℕ) → member x (xs ++ (y ∷ [])) ≡ (same x y || member x xs)
 member-snoc x y xs = member-append x xs (y ∷ []) ∙ rw (member-one x y) (or_swap (member x xs) (same x y))
 

@@ -60,7 +60,7 @@ module _ (S : Scheme) (U : Values) (A : Accepted S) where
 
   -- ---- rows
 
-  private-member : (x v : ℕ) → member v (private_values_of S U x) ≡ true → (S.publics ≤ v) × (v < S.publics + U.privates) × (allows S U x v ≡ true)
+  pub private-member : (x v : ℕ) → member v (private_values_of S U x) ≡ true → (S.publics ≤ v) × (v < S.publics + U.privates) × (allows S U x v ≡ true)
   unfolding private_values_of allows
   private-member x v m =
       let k : (U.reach x v && member v (private_value_list S U)) ≡ true = sym (member-keep (U.reach x) v (private_value_list S U)) ∙ m in

@@ -13,7 +13,7 @@ use lib.Seq.{ext_get_or}
 use borrow.Author.Tests.{lt-ltb, le-ltb, leb-true, ltb-true}
 use Rattle.std.proofs.lemmas.List.{get_or-map}
 use Rattle.lists.specs.Lists.{pick, bit, same, from, range, every, keep, member}
-use Rattle.lists.proofs.Tests.{both_ways, and_left, and_right, and_intro, not-true-false, same_self, same_true}
+use Rattle.lists.proofs.Tests.{both_ways, and_left, and_right, and_intro, not-true-false, same_self, same_true, bit-small}
 use Rattle.lists.proofs.Ranges.{every-at, every-below, every-member, member-from}
 use Rattle.lists.proofs.Members.{member-keep, member-here, member-cases, member-nil, member-take, member-drop, append-member}
 use Rattle.scheme.specs.Scheme.{Scheme, Node, stop, choice, new, call}
@@ -63,10 +63,6 @@ given-count S U ms [] true h = absurd (let e : 0 ≡ 1 = same_true 0 1 h in omeg
 given-count S U ms [] false h = refl
 given-count S U ms (v ∷ l) true h = refl
 given-count S U ms (v ∷ l) false h = absurd (let e : length (v ∷ l) ≡ 0 = same_true (length (v ∷ l)) 0 h in omega arith)
-
-bit_le : (b : Bool) → bit b ≤ 1
-bit_le true = omega arith
-bit_le false = omega arith
 
 byte-bit : (b : ℕ) → b ≤ 1 → b ≡ bit (same b 1)
 unfolding same
@@ -181,7 +177,7 @@ module _ (S : Scheme) (U : Values) (A : Accepted S) (m : List ℕ) (hm : is_mark
   value-few : (x : ℕ) → S.publics ≤ x → x < S.publics + S.bounds → length (values S U ms x) ≤ 1
   value-few x lo hi =
       let b : Bool = member x (held_here S (read.at (S.thread_of_name x))) in
-      omega (arith, same_true (length (values S U ms x)) (bit b) (value-count x lo hi), bit_le b)
+      omega (arith, same_true (length (values S U ms x)) (bit b) (value-count x lo hi), bit-small b)
 
   value-is : (x : ℕ) → S.publics ≤ x → read.value x ≡ first_value_of S U ms (values S U ms x)
   unfolding configuration
