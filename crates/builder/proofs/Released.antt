@@ -1,4 +1,5 @@
 -- The releases of a name, whose values follow one another in its row: the transitions that the loops write are those of its values.
+use Rattle.std.specs.Prelude.{Option, Some, None}
 use mathlib.Core.Path.{◌≡◌, refl, sym, ap, subst, ◌∙◌}
 use mathlib.Core.Bool.{Bool, true, false, not}
 use mathlib.Core.List.{List, [], ◌∷◌, ◌++◌, map}
@@ -28,7 +29,7 @@ use Rattle.places.proofs.Controls.{few-nodes, few-publics, few-bounds, few-priva
 use Rattle.places.proofs.Plans.{row_small, reach-is, free-is, few-free}
 use Rattle.builder.specs.Inner.Writing.{Heads, put_one_transition, put_all, Inside}
 use Rattle.builder.specs.Inner.Parts.{Chained, of_table, arrow}
-use Rattle.builder.specs.Inner.Released.{on_from, released, returned, Releasing}
+use Rattle.builder.specs.Inner.Released.{on_from, released, returned, given, Releasing}
 use Rattle.builder.specs.declared.chain.Chain.{Chain}
 use Rattle.builder.specs.declared.chain.Held.{Held}
 use Rattle.builder.proofs.Writing.{put-none, put-append, inside-first}
@@ -37,12 +38,13 @@ use Rattle.builder.proofs.Chains.{chain-few, release-public, release-gives}
 -- ---- the transition of a turn, by the place that the chain leads to
 
 module _ (c : Chain) (x : Held) (e : ℕ) (on : e ≡ on_from c x.k) where
-  pub released-as : (row i : ℕ) → arrow 1 c.node x.name ((row + i) ∷ (c.first + x.k) ∷ []) (e ∷ []) ≡ released c x row i
-  released-as row i = rw on
+  pub released-as : (row : ℕ) (back : Option ℕ) (i : ℕ) → back ≡ None
+      → arrow 1 c.node x.name ((row + i) ∷ (c.first + x.k) ∷ []) (e ∷ []) ≡ given c x row back i
+  released-as row back i n = rw (n, on)
 
-  pub returned-as : (row back i : ℕ)
-      → arrow 1 c.node x.name ((row + i) ∷ (c.first + x.k) ∷ []) ((back + i) ∷ e ∷ []) ≡ returned c x row back i
-  returned-as row back i = rw on
+  pub returned-as : (row first : ℕ) (back : Option ℕ) (i : ℕ) → back ≡ Some first
+      → arrow 1 c.node x.name ((row + i) ∷ (c.first + x.k) ∷ []) ((first + i) ∷ e ∷ []) ≡ given c x row back i
+  returned-as row first back i s = rw (s, on)
 
 -- ---- number i of those that pass a test has i of them below
 

@@ -1,5 +1,5 @@
 // The chain of control places of a Stop or a Call: its copies and releases.
-ghost use Rattle.std.specs.Prelude.{false, ◌≡◌, [], ◌∷◌, map, ◌+◌, ◌<◌, ◌≤◌, ltb, length};
+ghost use Rattle.std.specs.Prelude.{false, ◌≡◌, [], ◌∷◌, map, ◌+◌, ◌<◌, ◌≤◌, ltb, length, IfSome};
 ghost use Rattle.lists.specs.Lists.{pick, from, range};
 ghost use Rattle.scheme.specs.Words.{publics, names};
 ghost use Rattle.scheme.specs.Owners.{held};
@@ -7,7 +7,7 @@ ghost use Rattle.scheme.specs.Scheme.{scheme};
 ghost use Rattle.places.specs.Rows.{free_start_of};
 ghost use Rattle.places.specs.Transitions.{releasing, releases, copying, copies};
 ghost use Rattle.builder.specs.Inner.Writing.{put_all, Inside};
-ghost use Rattle.builder.specs.Inner.Released.{released, returned, Releasing};
+ghost use Rattle.builder.specs.Inner.Released.{given, Releasing};
 ghost use Rattle.places.specs.Inner.Plan.{today, privates_word, row_of, values, argument_name};
 ghost use Rattle.builder.specs.Inner.Parts.{put, state};
 ghost use Rattle.places.specs.Plan.{Laid};
@@ -77,42 +77,21 @@ fn given_back(table: &[u16], index: &[u32], row: usize, z: usize, count: usize) 
     row + count + privates(index)
 }
 
-// The releases of `count` public values of a name, the first of which has its place at `row`.
-fn release_publics(out: &mut [u32], h: Heads, c: Chain, x: Held, row: usize, count: usize) -> Heads
-    requires { Releasing c x × (row + count < 4294967296)
-        × Inside (put_all (released c x row) (state out.old h) (range count)) }
-    ensures { state out.new result
-        ≡ put_all (released c x row) (state out.old h) (range count) }
-{
-    let label = Label {
-        kind: 1,
-        a: c.node,
-        b: x.name,
-    };
-    let outs = [on(c, x.k); 1];
-    let mut q = h;
-    for i in 0..count {
-        let ins = [(row + i) as u32, (c.first + x.k) as u32];
-        q = transition(out, q, label, &ins, 2, &outs, 1);
-    }
-    q
-}
-
-// The releases of `count` private values of a name, the first of which has its place at `row` and is given back at
-// `back`.
-fn release_privates(
+// The releases of `count` values of a name, the first of which has its place at `row`; private ones are given back, the
+// first at `back`.
+fn release_values(
     out: &mut [u32],
     h: Heads,
     c: Chain,
     x: Held,
     row: usize,
-    back: usize,
+    back: Option<usize>,
     count: usize,
 ) -> Heads
-    requires { Releasing c x × (row + count < 4294967296) × (back + count < 4294967296)
-        × Inside (put_all (returned c x row back) (state out.old h) (range count)) }
+    requires { Releasing c x × (row + count < 4294967296) × IfSome back (λ b. b + count < 4294967296)
+        × Inside (put_all (given c x row back) (state out.old h) (range count)) }
     ensures { state out.new result
-        ≡ put_all (returned c x row back) (state out.old h) (range count) }
+        ≡ put_all (given c x row back) (state out.old h) (range count) }
 {
     let label = Label {
         kind: 1,
@@ -123,8 +102,10 @@ fn release_privates(
     let mut q = h;
     for i in 0..count {
         let ins = [(row + i) as u32, (c.first + x.k) as u32];
-        let outs = [(back + i) as u32, after];
-        q = transition(out, q, label, &ins, 2, &outs, 2);
+        q = match back {
+            None => transition(out, q, label, &ins, 2, &[after], 1),
+            Some(first) => transition(out, q, label, &ins, 2, &[(first + i) as u32, after], 2),
+        };
     }
     q
 }
@@ -152,13 +133,13 @@ fn release_name(
 {
     let r = reach_of(index, x.name);
     let count = publics_of(table, r);
-    let q = release_publics(out, h, c, x, row, count);
+    let q = release_values(out, h, c, x, row, None, count);
     if !has_privates(r) {
         return q;
     }
     let first = row + count;
     let back = given_back(table, index, row, x.name, count);
-    release_privates(out, q, c, x, first, back, privates(index))
+    release_values(out, q, c, x, first, Some(back), privates(index))
 }
 
 // The releases of the names that the node of a chain holds, the first at place k.

@@ -30,13 +30,14 @@ private_count c = c.privates.ensures.is ∙ privates-are c.args.table.now c.args
 
 -- ---- the answers
 
-pub release_publics-q-requires : goal.release_publics-q-requires
-release_publics-q-requires c =
+pub release_values-q-requires : goal.release_values-q-requires
+release_values-q-requires c =
     let a = c.args in
     let p = c.requires in
-    let q = listed (goal.at.release_publics-q-requires c).After-publics_of-count in (
+    let q = listed (goal.at.release_values-q-requires c).After-publics_of-count in (
       releasable q,
       publics-fit q,
+      tt,
       publics-inside q (state a.out.now a.h) p.6,
     )
 
@@ -44,7 +45,7 @@ pub returns-then-not-has_privates : goal.returns-then-not-has_privates
 returns-then-not-has_privates c =
     let a = c.args in
     let q = listed (goal.at.returns-then-not-has_privates c).After-publics_of-count in
-    publics-only q (state a.out.now a.h) _ c.release_publics-q.ensures
+    publics-only q (state a.out.now a.h) _ c.release_values-q.ensures
     (sym c.has_privates.ensures ∙ c.if-not-has_privates.true)
 
 pub overflow_add-first : goal.overflow_add-first
@@ -56,18 +57,18 @@ overflow_add-first c =
       c.publics_of-count.ensures.1,
     )
 
-pub release_privates-requires : goal.release_privates-requires
-release_privates-requires c =
+pub release_values-requires : goal.release_values-requires
+release_values-requires c =
     let a = c.args in
     let p = c.requires in
-    let q = listed (goal.at.release_privates-requires c).After-publics_of-count in
+    let q = listed (goal.at.release_values-requires c).After-publics_of-count in
     let g = c.given_back-back in
-    let e = private_count (goal.at.release_privates-requires c).After-privates in
+    let e = private_count (goal.at.release_values-requires c).After-privates in
     let f = privates-fit q g.result c.privates.result g.ensures e in (
       releasable q,
       f.0,
       f.1,
-      privates-inside q (state a.out.now a.h) _ c.release_publics-q.ensures
+      privates-inside q (state a.out.now a.h) _ c.release_values-q.ensures
           (sym c.has_privates.ensures ∙ c.if-not-has_privates.false) g.result g.ensures
           c.privates.result e p.6,
     )
@@ -77,6 +78,6 @@ returns c =
     let a = c.args in
     let g = c.given_back-back in
     let n = c.privates in
-    privates-too (listed (goal.at.returns c).After-publics_of-count) (state a.out.now a.h) _ c.release_publics-q.ensures
+    privates-too (listed (goal.at.returns c).After-publics_of-count) (state a.out.now a.h) _ c.release_values-q.ensures
     (sym c.has_privates.ensures ∙ c.if-not-has_privates.false) g.result g.ensures n.result
-    (private_count (goal.at.returns c).After-privates) _ c.release_privates.ensures
+    (private_count (goal.at.returns c).After-privates) _ c.release_values.ensures
