@@ -111,7 +111,7 @@ module _ (net : Net) (few : length (encode net) ≤ 16384) (few-places : net.pla
       omega (arith, length-append t.inputs t.outputs, rw (Encode.inputs-at net k h, Encode.outputs-at net k h) at e)
 
   header-length : length (header_line (encode net)) ≤ 30
-  unfolding encode
+  unfolding encode flat from
   header-length =
       rw (header-parts (encode net))
       (simp length-append

@@ -17,7 +17,7 @@ use Rattle.print.specs.Inner.Parts.{label_text, arcs_text}
 use Rattle.print.proofs.Writing.{write-append, then}
 
 -- a word of the image as text, not at the start of a line
-abbrev word_text : List ℕ → ℕ → List ℕ
+abbrev pub word_text : List ℕ → ℕ → List ℕ
 word_text image i = spaced (decimal (word image i))
 
 abbrev inputs_text : List ℕ → ℕ → List ℕ
@@ -55,9 +55,8 @@ module _ (c : Cursor) (w : List ℕ) (i e : ℕ) where
 
 -- ---- texts as their parts
 
-pub header-parts : (image : List ℕ)
-    → header_line image ≡ decimal (word image 0) ++ (word_text image 1 ++ (word_text image 2 ++ (word_text image 3 ++ (word_text image 4 ++ (10 ∷ [])))))
-unfolding header_line line flat
+pub header-parts : (image : List ℕ) → header_line image ≡ decimal (word image 0) ++ (flat (word_text image) (from 1 4) ++ (10 ∷ []))
+unfolding header_line line flat from
 header-parts image = simp append_assoc
 
 pub arcs-parts : (image : List ℕ) (transition : ℕ)
@@ -83,25 +82,11 @@ refusal-parts number = simp append_assoc
 
 -- ---- what the parts write, one after the other: a is the cursor before them
 
-pub header-written : {b c d e f g : Cursor} (image : List ℕ) (a : Cursor) → b ≡ write a (decimal (word image 0)) → c ≡ write b (word_text image 1)
-    → d ≡ write c (word_text image 2) → e ≡ write d (word_text image 3) → f ≡ write e (word_text image 4) → g ≡ write f (10 ∷ []) → g ≡ write a (header_line image)
-header-written {b} {c} {d} {e} image a p q r s t u =
-    rw (header-parts image) (then
-    a
-    (decimal (word image 0))
-    (word_text image 1 ++ (word_text image 2 ++ (word_text image 3 ++ (word_text image 4 ++ (10 ∷ [])))))
-    p
-    (then
-    b
-    (word_text image 1)
-    (word_text image 2 ++ (word_text image 3 ++ (word_text image 4 ++ (10 ∷ []))))
-    q
-    (then
-    c
-    (word_text image 2)
-    (word_text image 3 ++ (word_text image 4 ++ (10 ∷ [])))
-    r
-    (then d (word_text image 3) (word_text image 4 ++ (10 ∷ [])) s (then e (word_text image 4) (10 ∷ []) t u)))))
+pub header-written : {b c d : Cursor} (image : List ℕ) (a : Cursor) → b ≡ write a (decimal (word image 0)) → c ≡ write b (flat (word_text image) (from 1 4))
+    → d ≡ write c (10 ∷ []) → d ≡ write a (header_line image)
+header-written {b} image a p q r =
+    rw (header-parts image) (then a (decimal (word image 0)) (flat (word_text image) (from 1 4) ++ (10 ∷ [])) p
+    (then b (flat (word_text image) (from 1 4)) (10 ∷ []) q r))
 
 pub label-written : {b c d : Cursor} (image : List ℕ) (transition start : ℕ) → start ≡ record_offset image transition → (a : Cursor)
     → b ≡ write a (word_text image start) → c ≡ write b (word_text image (start + 1)) → d ≡ write c (word_text image (start + 2))
@@ -150,15 +135,28 @@ pub refusal-written : {b c d : Cursor} (number : ℕ) (a : Cursor) → b ≡ wri
 refusal-written {b} number a p q r =
     rw (refusal-parts number) (then a refused (spaced (decimal number) ++ (10 ∷ [])) p (then b (spaced (decimal number)) (10 ∷ []) q r))
 
--- ---- the lines of all transitions
+-- ---- the lines of all transitions, and the words of the header
+
+module _ (c : Cursor) (f : ℕ → List ℕ) (i n : ℕ) where
+  texts_more : i < n → write c (flat f (from i (n - i))) ≡ write (write c (f i)) (flat f (from (i + 1) (n - (i + 1))))
+  texts_more h = rw (flat-more f i n h) (write-append c (f i) (flat f (from (i + 1) (n - (i + 1)))))
+
+  texts-done : n ≤ i → write c (flat f (from i (n - i))) ≡ c
+  unfolding write
+  texts-done h = rw (flat-done f i n h)
 
 module _ (c : Cursor) (image : List ℕ) (i n : ℕ) where
   pub lines_more : i < n
       → write c (flat (transition_line image) (from i (n - i)))
       ≡ write (write c (transition_line image i)) (flat (transition_line image) (from (i + 1) (n - (i + 1))))
-  lines_more h =
-      rw (flat-more (transition_line image) i n h) (write-append c (transition_line image i) (flat (transition_line image) (from (i + 1) (n - (i + 1)))))
+  lines_more = texts_more c (transition_line image) i n
 
   pub lines-done : n ≤ i → write c (flat (transition_line image) (from i (n - i))) ≡ c
-  unfolding write
-  lines-done h = rw (flat-done (transition_line image) i n h)
+  lines-done = texts-done c (transition_line image) i n
+
+  pub words_more : i < n
+      → write c (flat (word_text image) (from i (n - i))) ≡ write (write c (word_text image i)) (flat (word_text image) (from (i + 1) (n - (i + 1))))
+  words_more = texts_more c (word_text image) i n
+
+  pub words-done : n ≤ i → write c (flat (word_text image) (from i (n - i))) ≡ c
+  words-done = texts-done c (word_text image) i n

@@ -1,9 +1,8 @@
 -- What the calls answer and what they leave in the lent output (document 01, Causes of refusal).
 use Rattle.std.proofs.Math.Option.{Option, none, some}
-use Rattle.std.specs.Prelude.{List, ◌++◌, ℕ, ltb, length, drop}
+use Rattle.std.specs.Prelude.{Some, None, List, ◌++◌, ℕ, ltb, length, drop}
+use Rattle.std.specs.Prelude as P
 use Rattle.lists.specs.Lists.{pick}
-use Rattle.print.specs.declared.Printed.{Printed}
-use Rattle.print.specs.declared.Printed.TheVariants.{Done, NoRoom}
 
 -- a cause's number, 0 where nothing is refused; how many bytes or words were written; the lent output as the call leaves it
 pub record Outcome : Type 0 where
@@ -28,6 +27,6 @@ unfoldable pub answered : List ℕ → List ℕ → Outcome
 answered text lent = pick (ltb (length lent) (length text)) (too_short lent) (written text lent)
 
 -- document 01's number, and the value, of each answer, with the lent output as the call left it
-abbrev pub outcome_of : Printed → List ℕ → Outcome
-outcome_of (Done count) left = done count left
-outcome_of NoRoom left = too_short left
+abbrev pub outcome_of : P.Option ℕ → List ℕ → Outcome
+outcome_of (Some count) left = done count left
+outcome_of None left = too_short left

@@ -1,10 +1,11 @@
 // The text of a listing, written into lent bytes, and the words that bytes make.
 //
-// Text is counted before it is written, by the same functions, so that output too short for it is left as it was. A
+// A call answers how many bytes or words it wrote, or nothing where the output is too short for them (10). Text is counted
+// before it is written, by the same functions, so that output too short for it is left as it was. A
 // foreign image may describe a text longer than any buffer: counting stops one byte past the end of the output.
 #![tactic(auto)]
 
-ghost use Rattle.std.specs.Prelude.{[], ◌∷◌, ◌≡◌, ◌+◌, ◌<◌, min, length};
+ghost use Rattle.std.specs.Prelude.{[], ◌∷◌, ◌≡◌, ◌+◌, ◌<◌, length};
 ghost use Rattle.std.proofs.lemmas.List.Edits.{sets};
 ghost use Rattle.std.proofs.Math.Seq.{slice};
 ghost use Rattle.lists.specs.Lists.{word, flat, range};
@@ -21,13 +22,6 @@ use builder::Built;
 use lists::{store, word};
 use rewriting::Answer;
 
-// What a call did: how many bytes or words it wrote, or that the output is too short for them (10).
-#[derive(Clone, Copy)]
-pub enum Printed {
-    Done(usize),
-    NoRoom,
-}
-
 // Where the next byte goes, and where writing stops.
 #[derive(Clone, Copy)]
 struct Pen {
@@ -42,24 +36,22 @@ fn fill_words(bytes: &[u8], out: &mut [u16]) -> usize
     ensures value { result ≡ length (words_of bytes.now) }
 {
     let count = bytes.len() / 2;
-    let mut i: usize = 0;
-    while i < count {
+    for i in 0..count {
         let low = word(bytes, 2 * i);
         let high = word(bytes, 2 * i + 1);
         store(out, i, (low + 256 * high) as u16);
-        i += 1;
     }
     count
 }
 
 // The 16-bit words of the bytes, low byte first.
-pub fn words(bytes: &[u8], out: &mut [u16]) -> Printed
+pub fn words(bytes: &[u8], out: &mut [u16]) -> Option<usize>
     ensures { outcome_of result out.new ≡ answered (words_of bytes.now) out.old }
 {
     if out.len() < bytes.len() / 2 {
-        return Printed::NoRoom;
+        return None;
     }
-    Printed::Done(fill_words(bytes, out))
+    Some(fill_words(bytes, out))
 }
 
 // Writes a byte; past the buffer's end it is only counted, and from the stop on it is not. Every function that writes
@@ -69,11 +61,8 @@ fn put(out: &mut [u8], at: Pen, byte: u8) -> Pen
 {
     if at.place < at.stop {
         store(out, at.place, byte);
-        let next = at.place + 1;
-        return Pen {
-            place: next,
-            stop: at.stop,
-        };
+        let place = at.place + 1;
+        return Pen { place, ..at };
     }
     at
 }
@@ -82,11 +71,9 @@ fn put(out: &mut [u8], at: Pen, byte: u8) -> Pen
 fn copy(out: &mut [u8], at: Pen, text: &[u8]) -> Pen
     ensures { cursor_at out.new result ≡ write (cursor_at out.old at) text.now }
 {
-    let mut i: usize = 0;
     let mut p = at;
-    while i < text.len() {
-        p = put(out, p, text[i]);
-        i += 1;
+    for &byte in text {
+        p = put(out, p, byte);
     }
     p
 }
@@ -135,29 +122,18 @@ fn put_word(image: &[u32], i: usize, out: &mut [u8], at: Pen) -> Pen
     put_next(out, at, n)
 }
 
-fn smaller(a: usize, b: usize) -> usize
-    ensures { result ≡ min a b }
-{
-    if a < b {
-        return a;
-    }
-    b
-}
-
 // Writes the words from `start` to `end`, those that the image has. The work ends where the pen stops.
 fn put_span(image: &[u32], start: usize, end: usize, out: &mut [u8], at: Pen) -> Pen
     ensures { cursor_at out.new result
         ≡ write (cursor_at out.old at) (flat spaced (numbers (slice start end image.now))) }
 {
-    let last = smaller(end, image.len());
-    let mut i = start;
+    let last = end.min(image.len());
     let mut p = at;
-    while i < last {
+    for i in start..last {
         if p.place >= p.stop {
             return p;
         }
         p = put_word(image, i, out, p);
-        i += 1;
     }
     p
 }
@@ -167,13 +143,11 @@ fn put_header(image: &[u32], out: &mut [u8], at: Pen) -> Pen
     ensures { cursor_at out.new result
         ≡ write (cursor_at out.old at) (header_line image.now) }
 {
-    let places = word(image, 0);
-    let a = put_decimal(out, at, places);
-    let b = put_word(image, 1, out, a);
-    let c = put_word(image, 2, out, b);
-    let d = put_word(image, 3, out, c);
-    let e = put_word(image, 4, out, d);
-    put(out, e, b'\n')
+    let mut p = put_decimal(out, at, word(image, 0));
+    for i in 1..5 {
+        p = put_word(image, i, out, p);
+    }
+    put(out, p, b'\n')
 }
 
 // Where the record of a transition starts. The sum is of 32-bit words, so 64 bits hold it.
@@ -232,14 +206,12 @@ fn put_transitions(image: &[u32], out: &mut [u8], at: Pen) -> Pen
         (flat (transition_line image.now) (range (transition_count image.now))) }
 {
     let count = word(image, 1);
-    let mut transition: usize = 0;
     let mut p = at;
-    while transition < count {
+    for transition in 0..count {
         if p.place >= p.stop {
             return p;
         }
         p = put_transition(image, transition, out, p);
-        transition += 1;
     }
     p
 }
@@ -262,44 +234,44 @@ fn put_refusal(number: usize, out: &mut [u8], at: Pen) -> Pen
     put(out, b, b'\n')
 }
 
+// The pen before a text that is to stand in `out`.
+fn begin(out: &[u8]) -> Pen
+    ensures { (result.place ≡ 0) × (result.stop ≡ length out.now + 1) }
+{
+    Pen {
+        place: 0,
+        stop: out.len() + 1,
+    }
+}
+
 // The listing of an image. It is first counted on a byte of its own.
-pub fn listing(image: &[u32], out: &mut [u8]) -> Printed
+pub fn listing(image: &[u32], out: &mut [u8]) -> Option<usize>
     ensures { outcome_of result out.new ≡ answered (listing image.now) out.old }
 {
-    let stop = out.len() + 1;
-    let start = Pen {
-        place: 0,
-        stop: stop,
-    };
-    let mut none = [0u8; 1];
-    let lines = put_listing(image, &mut none, start);
+    let start = begin(out);
+    let lines = put_listing(image, &mut [0u8; 1], start);
     if lines.place > out.len() {
-        return Printed::NoRoom;
+        return None;
     }
     let end = put_listing(image, out, start);
-    Printed::Done(end.place)
+    Some(end.place)
 }
 
 // `refused`, the number and a line feed, first counted on a byte of their own.
-pub fn refusal(number: usize, out: &mut [u8]) -> Printed
+pub fn refusal(number: usize, out: &mut [u8]) -> Option<usize>
     ensures { outcome_of result out.new ≡ answered (refusal number) out.old }
 {
-    let stop = out.len() + 1;
-    let start = Pen {
-        place: 0,
-        stop: stop,
-    };
-    let mut none = [0u8; 1];
-    let line = put_refusal(number, &mut none, start);
+    let start = begin(out);
+    let line = put_refusal(number, &mut [0u8; 1], start);
     if line.place > out.len() {
-        return Printed::NoRoom;
+        return None;
     }
     let end = put_refusal(number, out, start);
-    Printed::Done(end.place)
+    Some(end.place)
 }
 
 // What is printed of a table as it stands: its net, or the table's refusal.
-fn list_net(table: &[u16], out: &mut [u8]) -> Printed
+fn list_net(table: &[u16], out: &mut [u8]) -> Option<usize>
     ensures { outcome_of result out.new ≡ answered (net_text table.now) out.old }
 {
     let mut image = [0u32; 16384];
@@ -325,11 +297,11 @@ fn odd_number(number: usize) -> usize
 
 // What the listing program prints of its input. Input longer than any table is told by its first words; a rewritten
 // table within the bounds has at most 2,229.
-pub fn list(bytes: &[u8], out: &mut [u8]) -> Printed
+pub fn list(bytes: &[u8], out: &mut [u8]) -> Option<usize>
     ensures { outcome_of result out.new ≡ answered (program_text bytes.now) out.old }
 {
     let mut table = [0u16; 4096];
-    let count = smaller(fill_words(bytes, &mut table), 4096);
+    let count = fill_words(bytes, &mut table).min(4096);
     if bytes.len() % 2 == 1 {
         let verdict = table::check_sparing(&table[..count], true);
         return refusal(odd_number(table::number(verdict)), out);
@@ -348,8 +320,5 @@ pub fn list(bytes: &[u8], out: &mut [u8]) -> Printed
 pub fn list_all(bytes: &[u8], out: &mut [u8; 262144]) -> usize
     ensures { done result out.new ≡ written (program_text bytes.now) out.old }
 {
-    let Printed::Done(size) = list(bytes, out) else {
-        return 0;
-    };
-    size
+    list(bytes, out).unwrap()
 }

@@ -29,10 +29,8 @@ pub(crate) fn name_definitions(table: &[u16], index: &[u32], out: &mut [u32])
 {
     let publics = word(table, 0);
     let end = publics + word(table, 1);
-    let mut x = publics;
-    while x < end {
+    for x in publics..end {
         let d = name_definition(table, index, x);
         store(out, x, d as u32);
-        x += 1;
     }
 }

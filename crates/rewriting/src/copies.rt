@@ -8,7 +8,7 @@ ghost use Rattle.lists.specs.Lists.{pick, same, word, from, flat};
 ghost use Rattle.scheme.specs.Spans.{span_of};
 ghost use Rattle.scheme.specs.Index.{definitions_in, index_end};
 ghost use Rattle.process.specs.Inner.Listed.{Listed, far, near};
-ghost use Rattle.rewriting.specs.Inner.Copying.{self_call, Marked, grouped, Listable, Rows};
+ghost use Rattle.rewriting.specs.Inner.Copying.{self_call, Marked, grouped, Listable, Rows, originals_in};
 ghost use Rattle.rewriting.specs.Inner.Counting.{Few, Summed, counts_within};
 ghost use Rattle.rewriting.specs.Inner.Preparing.{PreparedRight};
 
@@ -19,6 +19,16 @@ use scheme::index::{BINDERS, DEFINITIONS, fill};
 use scheme::lookup::definition;
 use scheme::spans::{Source, span_count, span_first};
 
+// A section that has copies.
+#[derive(Clone, Copy)]
+pub enum Part {
+    Names,
+    Definitions,
+    Nodes,
+    Branches,
+    Arguments,
+}
+
 // How many there are of each.
 #[derive(Clone, Copy)]
 pub struct Counts {
@@ -27,6 +37,20 @@ pub struct Counts {
     pub nodes: usize,
     pub branches: usize,
     pub arguments: usize,
+}
+
+// The originals of a section's copies.
+pub(crate) fn originals(list: &[u32], copies: Counts, part: Part) -> &[u32]
+    requires { (length list.now ≡ 1280) × Few copies }
+    ensures { result.now ≡ originals_in list.now copies part }
+{
+    match part {
+        Part::Definitions => &list[..copies.definitions],
+        Part::Names => &list[256..256 + copies.names],
+        Part::Nodes => &list[512..512 + copies.nodes],
+        Part::Branches => &list[768..768 + copies.branches],
+        Part::Arguments => &list[1024..1024 + copies.arguments],
+    }
 }
 
 // The copies of a table that can be rewritten, or what refuses it.
@@ -40,10 +64,7 @@ pub enum Prepared {
 pub(crate) fn calls_itself(table: &[u16], index: &[u32], node: usize) -> bool
     ensures { result ≡ self_call table.now (definitions_in index.now) node }
 {
-    if field3(table, 10, node, 0) != 3 {
-        return false;
-    }
-    field3(table, 10, node, 1) == definition(index, node)
+    field3(table, 10, node, 0) == 3 && field3(table, 10, node, 1) == definition(index, node)
 }
 
 // Writes 1 at a node's definition if the node calls it.
@@ -63,10 +84,8 @@ fn mark_callers(table: &[u16], index: &[u32], marks: &mut [u32])
         marks.new }
 {
     let nodes = word(table, 4);
-    let mut n = 0;
-    while n < nodes {
+    for n in 0..nodes {
         mark_caller(table, index, n, marks);
-        n += 1;
     }
 }
 
@@ -96,11 +115,9 @@ fn list_group(
     ensures { Listed 131072 (grouped of.now (from first (end - first)) group) out.old at
         out.new result }
 {
-    let mut i = first;
     let mut next = at;
-    while i < end {
+    for i in first..end {
         next = list_member(of, group, i, next, out);
-        i += 1;
     }
     next
 }
@@ -119,12 +136,10 @@ fn list_groups(
         (flat (grouped of.now (from first (end - first))) (slice 0 groups out.old))
         out.old at out.new result }
 {
-    let mut k = 0;
     let mut next = at;
-    while k < groups {
+    for k in 0..groups {
         let group = word(out, k);
         next = list_group(of, group, first, end, next, out);
-        k += 1;
     }
     next
 }
@@ -134,10 +149,8 @@ fn list_span(first: usize, count: usize, at: usize, out: &mut [u32]) -> usize
     requires { (first < 65536) × (count < 65536) × (at < near) }
     ensures { Listed 65536 (from first count) out.old at out.new result }
 {
-    let mut i = 0;
-    while i < count {
+    for i in 0..count {
         store(out, at + i, (first + i) as u32);
-        i += 1;
     }
     at + count
 }
@@ -149,14 +162,12 @@ fn list_spans(table: &[u16], source: Source, nodes: usize, at: usize, out: &mut 
         (flat (span_of table.now source) (slice 512 (512 + nodes) out.old)) out.old at
         out.new result }
 {
-    let mut k = 0;
     let mut next = at;
-    while k < nodes {
+    for k in 0..nodes {
         let node = word(out, 512 + k);
         let first = span_first(table, source, node);
         let count = span_count(table, source, node);
         next = list_span(first, count, next, out);
-        k += 1;
     }
     next
 }
@@ -205,19 +216,11 @@ pub(crate) fn with_copies(table: &[u16], copies: Counts) -> Counts
 pub(crate) fn within(counts: Counts) -> bool
     ensures { result ≡ counts_within counts }
 {
-    if counts.names > 32 {
-        return false;
-    }
-    if counts.definitions > 32 {
-        return false;
-    }
-    if counts.nodes > 256 {
-        return false;
-    }
-    if counts.branches > 256 {
-        return false;
-    }
-    counts.arguments <= 256
+    counts.names <= 32
+        && counts.definitions <= 32
+        && counts.nodes <= 256
+        && counts.branches <= 256
+        && counts.arguments <= 256
 }
 
 // Checks a table, fills in its index, and lists what is copied.

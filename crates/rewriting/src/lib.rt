@@ -10,13 +10,13 @@ mod copies;
 mod numbering;
 mod words;
 
-ghost use Rattle.std.specs.Prelude.{◌≡◌, [], ◌++◌, ◌+◌, ◌≤◌, length};
-ghost use Rattle.std.proofs.Math.Seq.{slice};
-ghost use Rattle.lists.specs.Lists.{range};
+ghost use Rattle.std.specs.Prelude.{◌≡◌, []};
 ghost use Rattle.rewriting.specs.Answers.{outcome_of};
-ghost use Rattle.rewriting.specs.Outcomes.{rewrite_outcome, origin_at, node_origin, branch_origin, name_origin};
+ghost use Rattle.rewriting.specs.Outcomes.{rewrite_outcome, origin_outcome, node_origin, branch_origin, name_origin};
+ghost use Rattle.rewriting.specs.Inner.Placing.{origins_of};
 
-use crate::copies::{Prepared, prepare, with_copies};
+use crate::copies::{Part, Prepared, originals, prepare, with_copies};
+use crate::numbering::entries;
 use crate::words::{size, write_table};
 use lists::word;
 use scheme::index::SIZE;
@@ -50,68 +50,49 @@ pub fn rewrite(table: &[u16], out: &mut [u16]) -> Answer
     }
 }
 
-// The number that a number of the rewritten table reads back as: itself below `old`, else the original of a copy.
-fn original(list: &[u32], first: usize, count: usize, old: usize, number: usize) -> Answer
-    requires { first + count ≤ length list.now }
-    ensures { outcome_of result []
-        ≡ origin_at (range old ++ slice first (first + count) list.now) number }
-{
-    if number < old {
-        return Answer::Done(number);
-    }
-    if number - old < count {
-        return Answer::Done(word(list, first + (number - old)));
-    }
-    Answer::Missing
-}
-
-// The node of the table that a node of the rewritten table is, or is a copy of.
-pub fn original_node(table: &[u16], number: u32) -> Answer
-    ensures { outcome_of result [] ≡ node_origin table.now number }
-{
-    let mut index = [0u32; SIZE];
-    let mut list = [0u32; 1280];
-    match prepare(table, &mut index, &mut list) {
-        Prepared::Refused(verdict) => Answer::Refused(verdict),
-        Prepared::Ready(copies) => original(
-            &list,
-            512,
-            copies.nodes,
-            word(table, 4),
-            number as usize,
-        ),
-    }
-}
-
-// The branch of the table that a branch of the rewritten table is, or is a copy of.
-pub fn original_branch(table: &[u16], number: u32) -> Answer
-    ensures { outcome_of result [] ≡ branch_origin table.now number }
-{
-    let mut index = [0u32; SIZE];
-    let mut list = [0u32; 1280];
-    match prepare(table, &mut index, &mut list) {
-        Prepared::Refused(verdict) => Answer::Refused(verdict),
-        Prepared::Ready(copies) => original(
-            &list,
-            768,
-            copies.branches,
-            word(table, 5),
-            number as usize,
-        ),
-    }
-}
-
-// The name of the table that a name of the rewritten table is, or is a copy of.
-pub fn original_name(table: &[u16], number: u32) -> Answer
-    ensures { outcome_of result [] ≡ name_origin table.now number }
+// The entry of a section that a number of the rewritten table's is, or is a copy of.
+fn original(table: &[u16], part: Part, number: u32) -> Answer
+    ensures { outcome_of result [] ≡ origin_outcome table.now (origins_of table.now part) number }
 {
     let mut index = [0u32; SIZE];
     let mut list = [0u32; 1280];
     match prepare(table, &mut index, &mut list) {
         Prepared::Refused(verdict) => Answer::Refused(verdict),
         Prepared::Ready(copies) => {
-            let names = word(table, 0) + word(table, 1);
-            original(&list, 256, copies.names, names, number as usize)
+            let number = number as usize;
+            let old = entries(table, part);
+            let originals = originals(&list, copies, part);
+            if number < old {
+                Answer::Done(number)
+            } else if number - old < originals.len() {
+                Answer::Done(word(originals, number - old))
+            } else {
+                Answer::Missing
+            }
         }
     }
+}
+
+// The node of the table that a node of the rewritten table is, or is a copy of.
+#[tactic(auto, unfolding(crate::specs::Rewriting::node_origins))]
+pub fn original_node(table: &[u16], number: u32) -> Answer
+    ensures { outcome_of result [] ≡ node_origin table.now number }
+{
+    original(table, Part::Nodes, number)
+}
+
+// The branch of the table that a branch of the rewritten table is, or is a copy of.
+#[tactic(auto, unfolding(crate::specs::Rewriting::branch_origins))]
+pub fn original_branch(table: &[u16], number: u32) -> Answer
+    ensures { outcome_of result [] ≡ branch_origin table.now number }
+{
+    original(table, Part::Branches, number)
+}
+
+// The name of the table that a name of the rewritten table is, or is a copy of.
+#[tactic(auto, unfolding(crate::specs::Rewriting::name_origins))]
+pub fn original_name(table: &[u16], number: u32) -> Answer
+    ensures { outcome_of result [] ≡ name_origin table.now number }
+{
+    original(table, Part::Names, number)
 }

@@ -2,42 +2,49 @@
 //
 // One array has the places, 257 words each: definitions from 0 on, names from 257, nodes from 514, branches from 771,
 // arguments from 1028. The last word of each is the place of every number that is not there.
-ghost use Rattle.std.specs.Prelude.{◌≡◌, ◌+◌, ◌<◌, length, replicate};
-ghost use Rattle.std.proofs.lemmas.List.Edits.{sets};
-ghost use Rattle.std.proofs.Math.Seq.{slice};
+ghost use Rattle.std.specs.Prelude.{◌≡◌, ◌<◌, length};
 ghost use Rattle.scheme.specs.Words.{Number};
-ghost use Rattle.process.specs.Inner.Listed.{near};
-ghost use Rattle.rewriting.specs.Rewriting.{copy_name_of, copy_definition_of, copy_node_of, copy_branch_of, copy_argument_of};
-ghost use Rattle.rewriting.specs.Inner.Placing.{place_found_at, Numberable, Numbered, Listing, Places, Placing};
+ghost use Rattle.rewriting.specs.Rewriting.{copy_name_of};
+ghost use Rattle.rewriting.specs.Inner.Copying.{originals_in};
+ghost use Rattle.rewriting.specs.Inner.Placing.{place_found_at, start_of, entries_of, copy_of};
+ghost use Rattle.rewriting.specs.Inner.Placing.{Numberable, Numbered, Listing, Places, Placing};
 
-use crate::copies::Counts;
+use crate::copies::{Counts, Part, originals};
 use lists::{store, word};
 
-// Writes v at `count` places from `at` on.
-fn fill(at: usize, count: usize, v: u32, out: &mut [u32])
-    requires { (at < near) × (count < near) }
-    ensures { out.new ≡ sets out.old at (replicate count v) }
+// Where the places of a section start.
+fn start(part: Part) -> usize
+    ensures { result ≡ start_of part }
 {
-    let mut i = 0;
-    while i < count {
-        store(out, at + i, v);
-        i += 1;
+    match part {
+        Part::Definitions => 0,
+        Part::Names => 257,
+        Part::Nodes => 514,
+        Part::Branches => 771,
+        Part::Arguments => 1028,
     }
 }
 
-// Writes where each number below 257 stands among the `count` words of `list` from `first` on, `count` where it does
-// not. The last word goes first, so that the first place stays.
-fn number(list: &[u32], first: usize, count: usize, at: usize, out: &mut [u32])
-    requires { Numberable list.now first count at out.old }
-    ensures { Numbered (slice first (first + count) list.now) at out.old
+// Writes, from `at` on, where each number below 257 stands among the originals, their count where it does not. The last
+// of them goes first, so that the first place stays.
+fn number(originals: &[u32], at: usize, out: &mut [u32])
+    requires { Numberable originals.now at out.old }
+    ensures { Numbered originals.now at out.old out.new }
+{
+    let count = originals.len();
+    out[at..at + 257].fill(count as u32);
+    for i in (0..count).rev() {
+        store(out, at + word(originals, i), i as u32);
+    }
+}
+
+// Writes the places of a section's copies.
+fn number_part(list: &[u32], copies: Counts, part: Part, out: &mut [u32])
+    requires { Listing list.now copies × (length out.old ≡ 1285) }
+    ensures { Numbered (originals_in list.now copies part) (start_of part) out.old
         out.new }
 {
-    fill(at, 257, count as u32, out);
-    let mut i = count;
-    while 0 < i {
-        i -= 1;
-        store(out, at + word(list, first + i), i as u32);
-    }
+    number(originals(list, copies, part), start(part), out);
 }
 
 // The places of all that is copied.
@@ -45,59 +52,52 @@ pub(crate) fn number_copies(list: &[u32], copies: Counts, out: &mut [u32])
     requires { Listing list.now copies × (length out.old ≡ 1285) }
     ensures { Places list.now copies out.new }
 {
-    number(list, 0, copies.definitions, 0, out);
-    number(list, 256, copies.names, 257, out);
-    number(list, 512, copies.nodes, 514, out);
-    number(list, 768, copies.branches, 771, out);
-    number(list, 1024, copies.arguments, 1028, out);
+    number_part(list, copies, Part::Definitions, out);
+    number_part(list, copies, Part::Names, out);
+    number_part(list, copies, Part::Nodes, out);
+    number_part(list, copies, Part::Branches, out);
+    number_part(list, copies, Part::Arguments, out);
 }
 
-// The place of i by the words from `at` on.
-fn place(places: &[u32], at: usize, i: usize) -> usize
-    requires { at < near }
-    ensures { (result ≡ place_found_at places.now at i) × (result < 4294967296) }
+// The place of i among the originals of a section's copies.
+fn place(places: &[u32], part: Part, i: usize) -> usize
+    ensures { (result ≡ place_found_at places.now (start_of part) i) × (result < 4294967296) }
 {
+    let at = start(part);
     if i < 256 {
         return word(places, at + i);
     }
     word(places, at + 256)
 }
 
+// How many entries the table has in a section.
+pub(crate) fn entries(table: &[u16], part: Part) -> usize
+    ensures { (result ≡ entries_of table.now part) × (result < 131072) }
+{
+    match part {
+        Part::Definitions => word(table, 2),
+        Part::Names => word(table, 0) + word(table, 1),
+        Part::Nodes => word(table, 4),
+        Part::Branches => word(table, 5),
+        Part::Arguments => word(table, 6),
+    }
+}
+
+// The number of the copy of entry i of a section.
+pub(crate) fn copied(table: &[u16], places: &[u32], part: Part, i: usize) -> usize
+    requires { Placing table.now places.now }
+    ensures { Number (copy_of table.now part i) result }
+{
+    entries(table, part) + place(places, part, i)
+}
+
+// The number of a name's copy; a public name has none.
 pub(crate) fn copy_name(table: &[u16], places: &[u32], name: usize) -> usize
     requires { Placing table.now places.now }
     ensures { Number (copy_name_of table.now name) result }
 {
-    let publics = word(table, 0);
-    if name < publics {
+    if name < word(table, 0) {
         return name;
     }
-    publics + word(table, 1) + place(places, 257, name)
-}
-
-pub(crate) fn copy_definition(table: &[u16], places: &[u32], definition: usize) -> usize
-    requires { Placing table.now places.now }
-    ensures { Number (copy_definition_of table.now definition) result }
-{
-    word(table, 2) + place(places, 0, definition)
-}
-
-pub(crate) fn copy_node(table: &[u16], places: &[u32], node: usize) -> usize
-    requires { Placing table.now places.now }
-    ensures { Number (copy_node_of table.now node) result }
-{
-    word(table, 4) + place(places, 514, node)
-}
-
-pub(crate) fn copy_branch(table: &[u16], places: &[u32], branch: usize) -> usize
-    requires { Placing table.now places.now }
-    ensures { Number (copy_branch_of table.now branch) result }
-{
-    word(table, 5) + place(places, 771, branch)
-}
-
-pub(crate) fn copy_argument(table: &[u16], places: &[u32], argument: usize) -> usize
-    requires { Placing table.now places.now }
-    ensures { Number (copy_argument_of table.now argument) result }
-{
-    word(table, 6) + place(places, 1028, argument)
+    copied(table, places, Part::Names, name)
 }

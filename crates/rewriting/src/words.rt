@@ -1,73 +1,37 @@
 // The words of the rewritten table: a node, the copies of each section, the words that stay, and the header.
 ghost use Rattle.std.specs.Prelude.{◌≡◌, [], ◌∷◌, map, ◌+◌, ◌≤◌, ◌<◌, length};
+ghost use Rattle.std.specs.List.{AllByRecursion};
 ghost use Rattle.std.proofs.lemmas.List.Edits.{sets};
-ghost use Rattle.std.proofs.Math.Seq.{slice};
 ghost use Rattle.lists.specs.Lists.{word, from, range, flat};
 ghost use Rattle.scheme.specs.Words.{Number, nodes};
 ghost use Rattle.scheme.specs.Index.{IsIndex, definitions_in};
 ghost use Rattle.process.specs.Inner.Listed.{Listed, far, near};
 ghost use Rattle.rewriting.specs.Rewriting.{node_words, definition_copy, node_copy, branch_copy, node_part};
 ghost use Rattle.rewriting.specs.Rewriting.{rewritten};
+ghost use Rattle.rewriting.specs.Inner.Copying.{Rows, originals_in};
 ghost use Rattle.rewriting.specs.Inner.Counting.{Small, header_with, size_with};
 ghost use Rattle.rewriting.specs.Inner.Placing.{Placing};
 ghost use Rattle.rewriting.specs.Inner.Writing.{target_in, copied_formal_of, copied_first_of, copied_second_of, copied_use_of};
 ghost use Rattle.rewriting.specs.Inner.Writing.{copy_words, Writable, Counted, Front, Back};
 ghost use Rattle.rewriting.specs.Inner.Writing.{front_words, back_words};
 
-use crate::copies::{Counts, calls_itself};
-use crate::numbering::{
-    copy_argument, copy_branch, copy_definition, copy_name, copy_node, number_copies,
-};
+use crate::copies::{Counts, Part, calls_itself, originals};
+use crate::numbering::{copied, copy_name, number_copies};
 use lists::{store, word};
 use scheme::fields::{field1, field3, field4, name_kind};
 use scheme::spans::{Source, span_count};
 
-// A section that has copies.
-#[derive(Clone, Copy)]
-pub enum Part {
-    Names,
-    Definitions,
-    Nodes,
-    Branches,
-    Arguments,
-}
-
-// A section, and where the originals of its copies stand in the list of all.
-#[derive(Clone, Copy)]
-pub struct Row {
-    pub part: Part,
-    pub first: usize,
-    pub count: usize,
-}
-
-// Writes a word; where the next one goes.
-fn write1(out: &mut [u16], at: usize, a: usize) -> usize
-    requires { (at < far) × (a < 65536) }
-    ensures { Listed 4 (a ∷ []) out.old at out.new result }
+// Writes a few words; where the next one goes.
+fn write_all<const N: usize>(out: &mut [u16], at: usize, words: [usize; N]) -> usize
+    requires { (at < far) × (N ≤ 4) × AllByRecursion (λ w. w < 65536) words }
+    ensures { Listed 4 words.entry out.old at out.new result }
 {
-    store(out, at, a as u16);
-    at + 1
-}
-
-fn write3(out: &mut [u16], at: usize, a: usize, b: usize, c: usize) -> usize
-    requires { (at < far) × (a < 65536) × (b < 65536) × (c < 65536) }
-    ensures { Listed 4 (a ∷ b ∷ c ∷ []) out.old at out.new result }
-{
-    store(out, at, a as u16);
-    store(out, at + 1, b as u16);
-    store(out, at + 2, c as u16);
-    at + 3
-}
-
-fn write4(out: &mut [u16], at: usize, a: usize, b: usize, c: usize, d: usize) -> usize
-    requires { (at < far) × (a < 65536) × (b < 65536) × (c < 65536) × (d < 65536) }
-    ensures { Listed 4 (a ∷ b ∷ c ∷ d ∷ []) out.old at out.new result }
-{
-    store(out, at, a as u16);
-    store(out, at + 1, b as u16);
-    store(out, at + 2, c as u16);
-    store(out, at + 3, d as u16);
-    at + 4
+    let mut next = at;
+    for word in words {
+        store(out, next, word as u16);
+        next += 1;
+    }
+    next
 }
 
 // The second word of a node, or of its copy: a self-call of the original goes to the copy, one of the copy to the
@@ -81,7 +45,7 @@ fn target_of(table: &[u16], index: &[u32], places: &[u32], node: usize, copy: bo
         return first;
     }
     if calls_itself(table, index, node) {
-        return copy_definition(table, places, first);
+        return copied(table, places, Part::Definitions, first);
     }
     first
 }
@@ -99,7 +63,7 @@ fn write_node(
 {
     let kind = field3(table, 10, node, 0);
     let first = target_of(table, index, places, node, false);
-    write3(out, at, kind, first, field3(table, 10, node, 2))
+    write_all(out, at, [kind, first, field3(table, 10, node, 2)])
 }
 
 // Writes the nodes that were there.
@@ -109,11 +73,9 @@ fn write_nodes(table: &[u16], index: &[u32], places: &[u32], at: usize, out: &mu
         out.old at out.new result }
 {
     let nodes = word(table, 4);
-    let mut n = 0;
     let mut next = at;
-    while n < nodes {
+    for n in 0..nodes {
         next = write_node(table, index, places, n, next, out);
-        n += 1;
     }
     next
 }
@@ -136,7 +98,7 @@ fn copied_first(table: &[u16], index: &[u32], places: &[u32], node: usize) -> us
 {
     let kind = field3(table, 10, node, 0);
     if kind == 1 {
-        return copy_branch(table, places, field3(table, 10, node, 1));
+        return copied(table, places, Part::Branches, field3(table, 10, node, 1));
     }
     if kind == 2 {
         return copy_name(table, places, field3(table, 10, node, 1));
@@ -151,12 +113,12 @@ fn copied_second(table: &[u16], places: &[u32], node: usize) -> usize
 {
     let second = field3(table, 10, node, 2);
     if field3(table, 10, node, 0) == 2 {
-        return copy_node(table, places, second);
+        return copied(table, places, Part::Nodes, second);
     }
     if span_count(table, Source::Arguments, node) == 0 {
         return second;
     }
-    copy_argument(table, places, second)
+    copied(table, places, Part::Arguments, second)
 }
 
 // A name that a branch's copy uses; a silent one uses none.
@@ -176,9 +138,9 @@ fn write_definition(table: &[u16], places: &[u32], i: usize, at: usize, out: &mu
     ensures { Listed 4 (definition_copy table.now i) out.old at out.new result }
 {
     let thread = field4(table, 8, i, 0);
-    let root = copy_node(table, places, field4(table, 8, i, 1));
+    let root = copied(table, places, Part::Nodes, field4(table, 8, i, 1));
     let formal = copied_formal(table, places, i);
-    write4(out, at, thread, root, formal, field4(table, 8, i, 3))
+    write_all(out, at, [thread, root, formal, field4(table, 8, i, 3)])
 }
 
 fn write_copied_node(
@@ -194,7 +156,7 @@ fn write_copied_node(
 {
     let first = copied_first(table, index, places, i);
     let second = copied_second(table, places, i);
-    write3(out, at, field3(table, 10, i, 0), first, second)
+    write_all(out, at, [field3(table, 10, i, 0), first, second])
 }
 
 fn write_branch(table: &[u16], places: &[u32], i: usize, at: usize, out: &mut [u16]) -> usize
@@ -203,8 +165,8 @@ fn write_branch(table: &[u16], places: &[u32], i: usize, at: usize, out: &mut [u
 {
     let channel = copied_use(table, places, i, field4(table, 11, i, 1));
     let name = copied_use(table, places, i, field4(table, 11, i, 2));
-    let next = copy_node(table, places, field4(table, 11, i, 3));
-    write4(out, at, field4(table, 11, i, 0), channel, name, next)
+    let next = copied(table, places, Part::Nodes, field4(table, 11, i, 3));
+    write_all(out, at, [field4(table, 11, i, 0), channel, name, next])
 }
 
 // Writes the copy of entry i of a section.
@@ -221,40 +183,33 @@ fn write_copy(
     ensures { Listed 4 (copy_words table.now part i) out.old at out.new result }
 {
     match part {
-        Part::Names => write1(out, at, name_kind(table, i)),
+        Part::Names => write_all(out, at, [name_kind(table, i)]),
         Part::Definitions => write_definition(table, places, i, at, out),
         Part::Nodes => write_copied_node(table, index, places, i, at, out),
         Part::Branches => write_branch(table, places, i, at, out),
-        Part::Arguments => write1(out, at, copy_name(table, places, field1(table, 12, i))),
+        Part::Arguments => write_all(out, at, [copy_name(table, places, field1(table, 12, i))]),
     }
 }
 
-// Writes the copies of a section, whose originals stand in `list`.
+// Writes the copies of a section.
 fn write_copies(
     table: &[u16],
-    row: Row,
+    part: Part,
     list: &[u32],
+    copies: Counts,
     index: &[u32],
     places: &[u32],
     at: usize,
     out: &mut [u16],
 ) -> usize
-    requires { Placing table.now places.now × (row.first + row.count ≤ length list.now) × (row.count ≤ 256)
-        × (row.first ≤ 1280) × (at < near) }
-    ensures { Listed 1024
-        (flat (copy_words table.now row.part)
-        (slice row.first (row.first + row.count) list.now))
+    requires { Placing table.now places.now × Rows table.now list.now copies × (at < near) }
+    ensures { Listed 1024 (flat (copy_words table.now part) (originals_in list.now copies part))
         out.old at out.new result }
 {
-    let part = row.part;
-    let first = row.first;
-    let count = row.count;
-    let mut k = 0;
+    let originals = originals(list, copies, part);
     let mut next = at;
-    while k < count {
-        let i = word(list, first + k);
-        next = write_copy(table, part, index, places, i, next, out);
-        k += 1;
+    for &i in originals {
+        next = write_copy(table, part, index, places, i as usize, next, out);
     }
     next
 }
@@ -265,10 +220,8 @@ fn write_words(table: &[u16], first: usize, count: usize, at: usize, out: &mut [
     ensures { Listed 262144 (map (word table.now) (from first count)) out.old at
         out.new result }
 {
-    let mut i = 0;
-    while i < count {
+    for i in 0..count {
         store(out, at + i, word(table, first + i) as u16);
-        i += 1;
     }
     at + count
 }
@@ -284,17 +237,11 @@ fn write_header(table: &[u16], counts: Counts, out: &mut [u16]) -> usize
     let nodes_at = threads_at + threads;
     let branches_at = nodes_at + 3 * counts.nodes;
     let arguments_at = branches_at + 4 * counts.branches;
-    let mut at = write4(
-        out,
-        0,
-        word(table, 0),
-        counts.names,
-        counts.definitions,
-        threads,
-    );
-    at = write3(out, at, counts.nodes, counts.branches, counts.arguments);
-    at = write3(out, at, 13, definitions_at, threads_at);
-    write3(out, at, nodes_at, branches_at, arguments_at)
+    let publics = word(table, 0);
+    let mut at = write_all(out, 0, [publics, counts.names, counts.definitions, threads]);
+    at = write_all(out, at, [counts.nodes, counts.branches, counts.arguments]);
+    at = write_all(out, at, [13, definitions_at, threads_at]);
+    write_all(out, at, [nodes_at, branches_at, arguments_at])
 }
 
 // How many words the header's counts give.
@@ -322,19 +269,18 @@ fn write_front(
 {
     let mut at = write_header(table, counts, out);
     at = write_words(table, word(table, 7), word(table, 1), at, out);
-    let names = Row {
-        part: Part::Names,
-        first: 256,
-        count: copies.names,
-    };
-    at = write_copies(table, names, list, index, places, at, out);
+    at = write_copies(table, Part::Names, list, copies, index, places, at, out);
     at = write_words(table, word(table, 8), 4 * word(table, 2), at, out);
-    let definitions = Row {
-        part: Part::Definitions,
-        first: 0,
-        count: copies.definitions,
-    };
-    at = write_copies(table, definitions, list, index, places, at, out);
+    at = write_copies(
+        table,
+        Part::Definitions,
+        list,
+        copies,
+        index,
+        places,
+        at,
+        out,
+    );
     write_words(table, word(table, 9), word(table, 3), at, out)
 }
 
@@ -352,12 +298,7 @@ fn write_bodies(
     ensures { Listed 263168 (node_part table.now) out.old start out.new result }
 {
     let at = write_nodes(table, index, places, start, out);
-    let nodes = Row {
-        part: Part::Nodes,
-        first: 512,
-        count: copies.nodes,
-    };
-    write_copies(table, nodes, list, index, places, at, out)
+    write_copies(table, Part::Nodes, list, copies, index, places, at, out)
 }
 
 // Writes the branches and the arguments.
@@ -374,19 +315,9 @@ fn write_back(
     ensures { Listed 1048576 (back_words table.now) out.old start out.new result }
 {
     let mut at = write_words(table, word(table, 11), 4 * word(table, 5), start, out);
-    let branches = Row {
-        part: Part::Branches,
-        first: 768,
-        count: copies.branches,
-    };
-    at = write_copies(table, branches, list, index, places, at, out);
+    at = write_copies(table, Part::Branches, list, copies, index, places, at, out);
     at = write_words(table, word(table, 12), word(table, 6), at, out);
-    let arguments = Row {
-        part: Part::Arguments,
-        first: 1024,
-        count: copies.arguments,
-    };
-    write_copies(table, arguments, list, index, places, at, out)
+    write_copies(table, Part::Arguments, list, copies, index, places, at, out)
 }
 
 // Writes the rewritten table.

@@ -33,42 +33,42 @@ module _ (bytes table : List ℕ) (count taken : ℕ) (filled : table ≡ sets (
 pub returns-then-bytes-eq1 : goal.returns-then-bytes-eq1
 returns-then-bytes-eq1 c =
     let f = c.fill_words in
-    let first = first-words c.args.bytes.now _ _ _ f.ensures.out_after f.ensures.value c.smaller-count.ensures in
+    let first = first-words c.args.bytes.now _ _ _ f.ensures.out_after f.ensures.value c.min-count.ensures in
     let own = c.number.ensures.0 ∙ c.check_sparing-verdict.ensures in
     rw (odd-text _ _ first c.if-bytes-eq1.true _ _ own c.odd_number.ensures) at c.refusal.ensures
 
 pub slice_bounds-rewritten-end : goal.slice_bounds-rewritten-end
 slice_bounds-rewritten-end c =
     let f = c.fill_words in
-    (text-rewritten _ _ _ _ f.ensures.out_after f.ensures.value c.smaller-count.ensures c.if-bytes-eq1.false _ _ c.rewrite.ensures _ c.in-Done.is).0
+    (text-rewritten _ _ _ _ f.ensures.out_after f.ensures.value c.min-count.ensures c.if-bytes-eq1.false _ _ c.rewrite.ensures _ c.in-Done.is).0
 
 pub slice_bounds-list_net-end : goal.slice_bounds-list_net-end
 slice_bounds-list_net-end c =
     let f = c.fill_words in
-    let t = text-rewritten _ _ _ _ f.ensures.out_after f.ensures.value c.smaller-count.ensures c.if-bytes-eq1.false _ _ c.rewrite.ensures _ c.in-Done.is in
+    let t = text-rewritten _ _ _ _ f.ensures.out_after f.ensures.value c.min-count.ensures c.if-bytes-eq1.false _ _ c.rewrite.ensures _ c.in-Done.is in
     sym (length-take-le _ c.rewrite.new.out t.0)
 
 pub returns-in-Done : goal.returns-in-Done
 returns-in-Done c =
     let f = c.fill_words in
-    let t = text-rewritten _ _ _ _ f.ensures.out_after f.ensures.value c.smaller-count.ensures c.if-bytes-eq1.false _ _ c.rewrite.ensures _ c.in-Done.is in
+    let t = text-rewritten _ _ _ _ f.ensures.out_after f.ensures.value c.min-count.ensures c.if-bytes-eq1.false _ _ c.rewrite.ensures _ c.in-Done.is in
     rw t.1 at c.list_net.ensures
 
 pub returns-in-Refused : goal.returns-in-Refused
 returns-in-Refused c =
     let f = c.fill_words in
     let a = ap (λ (x : Answer). outcome_of x c.rewrite.new.out) c.in-Refused.is in
-    rw (text-refused _ _ _ _ f.ensures.out_after f.ensures.value c.smaller-count.ensures c.if-bytes-eq1.false _ _ c.rewrite.ensures _ _ a
+    rw (text-refused _ _ _ _ f.ensures.out_after f.ensures.value c.min-count.ensures c.if-bytes-eq1.false _ _ c.rewrite.ensures _ _ a
     c.number-in-Refused.ensures.0) at c.refusal-in-Refused.ensures
 
 pub returns-in-NoRoom : goal.returns-in-NoRoom
 returns-in-NoRoom c =
     let f = c.fill_words in
     let a = ap (λ (x : Answer). outcome_of x c.rewrite.new.out) c.in-NoRoom.is in
-    rw (text-refused _ _ _ _ f.ensures.out_after f.ensures.value c.smaller-count.ensures c.if-bytes-eq1.false _ _ c.rewrite.ensures _ _ a refl) at c.refusal-in-NoRoom.ensures
+    rw (text-refused _ _ _ _ f.ensures.out_after f.ensures.value c.min-count.ensures c.if-bytes-eq1.false _ _ c.rewrite.ensures _ _ a refl) at c.refusal-in-NoRoom.ensures
 
 pub returns-in-Missing : goal.returns-in-Missing
 returns-in-Missing c =
     let f = c.fill_words in
     let a = ap (λ (x : Answer). outcome_of x c.rewrite.new.out) c.in-Missing.is in
-    rw (text-refused _ _ _ _ f.ensures.out_after f.ensures.value c.smaller-count.ensures c.if-bytes-eq1.false _ _ c.rewrite.ensures _ _ a refl) at c.refusal-in-Missing.ensures
+    rw (text-refused _ _ _ _ f.ensures.out_after f.ensures.value c.min-count.ensures c.if-bytes-eq1.false _ _ c.rewrite.ensures _ _ a refl) at c.refusal-in-Missing.ensures

@@ -1,24 +1,25 @@
-use mathlib.Core.Path.{◌≡◌, sym, ap, ◌∙◌}
+use mathlib.Core.Path.{◌≡◌, ap}
+use mathlib.Core.List.{List}
 use Prim.Native.Nat.{ℕ}
 use native.Mathlib.Omega.{arith}
 use lib.ListN.{length}
-use Rattle.print.specs.Answers.{Outcome, outcome_of}
-use Rattle.print.specs.declared.Printed.{Printed}
+use Rattle.std.proofs.Common.{rules}
+use Rattle.std.specs.Option.{IsSome}
+use Rattle.std.specs.Prelude.{Option, Some, None}
+use Rattle.print.specs.Answers.{Outcome, done, outcome_of}
 use Rattle.print.proofs.Fits.{whole-text}
 use Rattle.print.proofs.list_all.Goals as goal
 
-pub returns-in_default : goal.returns-in_default
-returns-in_default c =
-    let lent = c.args.out.now in
-    let n : length lent ≡ 262144 = omega arith in
-    let w = whole-text c.args.bytes.now lent n c.list.ensures in
-    let r = ap (λ (r : Printed). outcome_of r c.list.new.out) c.in_default.is in
-    let e : ◌≡◌ {A = ℕ} 10 0 = ap (λ (o : Outcome). o.number) (sym r ∙ w) in
-    absurd (omega arith)
+is_some : (answer : Option ℕ) (left after : List ℕ) (size : ℕ) → outcome_of answer left ≡ done size after → IsSome answer
+is_some (Some n) left after size e = search rules
+is_some None left after size e = let z : ◌≡◌ {A = ℕ} 10 0 = ap (λ (o : Outcome). o.number) e in absurd (omega arith)
+
+pub unwrap-requires : goal.unwrap-requires
+unwrap-requires c =
+    let n : length c.args.out.now ≡ 262144 = omega arith in
+    is_some _ c.list.new.out _ _ (whole-text c.args.bytes.now c.args.out.now n c.list.ensures)
 
 pub returns : goal.returns
 returns c =
-    let lent = c.args.out.now in
-    let n : length lent ≡ 262144 = omega arith in
-    let w = whole-text c.args.bytes.now lent n c.list.ensures in
-    sym (ap (λ (r : Printed). outcome_of r c.list.new.out) c.in-Done.is) ∙ w
+    let n : length c.args.out.now ≡ 262144 = omega arith in
+    rw c.unwrap.ensures at (whole-text c.args.bytes.now c.args.out.now n c.list.ensures)

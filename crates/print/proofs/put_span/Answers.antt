@@ -16,7 +16,7 @@ pub loop-i-preserved : goal.loop-i-preserved
 loop-i-preserved c =
     let l = c.loop-i in
     let image = c.args.image.now in
-    let last = c.smaller-last.result in
+    let last = c.min-last.result in
     let put = c.put_word-p in (
       l.invariant.0
           ∙ span_more _ image l.i last (omega arith) (omega arith)

@@ -11,6 +11,3 @@ invariant-loop-transition l =
     (write (cursor_at l.initial.out l.initial.p) (flat (transition_line l.image) (range l.count))
     ≡ write (cursor_at l.out l.p) (flat (transition_line l.image) (from l.transition (l.count - l.transition))))
     × (length l.out ≡ length l.initial.out)
-
-abbrev pub decreases-loop-transition : goal.decreases-loop-transition
-decreases-loop-transition l = l.count - l.transition

@@ -7,24 +7,23 @@ use mathlib.Core.List.{List, [], ◌++◌}
 use Prim.Native.Nat.{ℕ, ◌+◌, ◌-◌, ◌≤◌, ◌<◌}
 use native.Mathlib.Omega.{arith}
 use lib.ListN.{length, length-append, get_or-append}
-use lib.Seq.{sets, slice, length-slice, get_or-append-add}
+use lib.Seq.{sets, get_or-append-add}
 use borrow.Author.Tests.{lt-ltb, le-ltb, le-leb, not-true}
 use Rattle.lists.specs.Lists.{same, word, range}
 use Rattle.lists.proofs.Tests.{false-true, true-or-false, same-yes, same-no, same_true}
 use Rattle.lists.proofs.Ranges.{from-length, from-get_or}
-use Rattle.lists.proofs.Slices.{slice-word}
-use Rattle.scheme.specs.Words.{publics, bounds, definitions, threads, nodes, branches, arguments, names}
+use Rattle.scheme.specs.Words.{publics, bounds, definitions, threads, nodes, branches, arguments}
 use Rattle.table.specs.Answer.{cause_of}
 use Rattle.table.specs.Causes.{cause_sparing, are_counts_right}
 use Rattle.table.specs.declared.Verdict.{Verdict}
 use Rattle.table.proofs.Inside.{Counted, counted}
 use Rattle.process.specs.Outcomes.{Outcome, refusal, answered}
 use Rattle.process.proofs.Sets.{sets-whole}
-use Rattle.rewriting.specs.Rewriting.{rewritten, node_origins, branch_origins, name_origins}
+use Rattle.rewriting.specs.Rewriting.{rewritten}
 use Rattle.rewriting.specs.Outcomes.{rewrite_cause, rewrite_outcome, origin_at, origin_outcome}
 use Rattle.scheme.specs.Index.{IsIndex}
 use Rattle.rewriting.specs.Inner.Copying.{Rows}
-use Rattle.rewriting.specs.Inner.Counting.{Few, Summed, Small, counts_within, size_with}
+use Rattle.rewriting.specs.Inner.Counting.{Summed, Small, counts_within, size_with}
 use Rattle.rewriting.specs.Inner.Preparing.{PreparedRight}
 use Rattle.rewriting.specs.declared.copies.Counts.{Counts}
 use Rattle.rewriting.specs.declared.copies.Prepared.{Prepared}
@@ -118,15 +117,6 @@ module _ (w list : List ℕ) (copies counts : Counts) (R : Rows w list copies) (
       rw (S.all-names, S.all-definitions, S.all-nodes, S.all-branches, S.all-arguments, R.name-row.count-is, R.definition-row.count-is)
       (rw (R.node_row.count-is, R.branch_row.count-is, R.argument-row.count-is) (sym (Reading.whole_length w)))
 
-pub few-copies : (w list : List ℕ) (copies : Counts) → Rows w list copies → Few copies
-few-copies w list copies R = record {
-  few-definitions = R.definition-row.few;
-  few-names = R.name-row.few;
-  few-nodes = R.node_row.few;
-  few-branches = R.branch_row.few;
-  few-arguments = R.argument-row.few;
-}
-
 -- ---- what was prepared, by its case
 
 module _ (w index list : List ℕ) (x : Prepared) (right : PreparedRight w index list x) where
@@ -163,44 +153,26 @@ all-written w lent after n e f l s =
 
 -- ---- originals
 
-module _ (list : List ℕ) (old first count number : ℕ) (reach : first + count ≤ length list) where
-  origins-length : length (range old ++ slice first (first + count) list) ≡ old + count
-  origins-length =
-      length-append (range old) (slice first (first + count) list) ∙ rw (from-length 0 old, length-slice first (first + count) list reach) (omega arith)
+module _ (old number : ℕ) (originals : List ℕ) where
+  origins-length : length (range old ++ originals) ≡ old + length originals
+  origins-length = length-append (range old) originals ∙ rw (from-length 0 old)
 
-  pub itself : number < old
-      → ◌≡◌ {A = Outcome} (record { number = 0; value = some number; left = [] }) (origin_at (range old ++ slice first (first + count) list) number)
+  pub itself : number < old → ◌≡◌ {A = Outcome} (record { number = 0; value = some number; left = [] }) (origin_at (range old ++ originals) number)
   unfolding origin_at
   itself l =
-      let e : word (range old ++ slice first (first + count) list) number ≡ number =
-      get_or-append (range old) (slice first (first + count) list) 0 number (rw (from-length 0 old) l) ∙ from-get_or 0 old number l ∙ omega arith in
-      rw (origins-length, lt-ltb number (old + count) (omega arith), e)
+      let e : word (range old ++ originals) number ≡ number =
+      get_or-append (range old) originals 0 number (rw (from-length 0 old) l) ∙ from-get_or 0 old number l ∙ omega arith in
+      rw (origins-length, lt-ltb number (old + length originals) (omega arith), e)
 
-  pub of-copy : (r : ℕ) → old ≤ number → number - old < count → r ≡ word list (first + (number - old))
-      → ◌≡◌ {A = Outcome} (record { number = 0; value = some r; left = [] }) (origin_at (range old ++ slice first (first + count) list) number)
+  pub of-copy : (r : ℕ) → old ≤ number → number - old < length originals → r ≡ word originals (number - old)
+      → ◌≡◌ {A = Outcome} (record { number = 0; value = some r; left = [] }) (origin_at (range old ++ originals) number)
   unfolding origin_at
   of-copy r h l s =
       let k : number ≡ length (range old) + (number - old) = rw (from-length 0 old) (omega arith) in
-      let q : number - old < first + count - first = omega arith in
-      let e : word (range old ++ slice first (first + count) list) number ≡ r =
-      ap (word (range old ++ slice first (first + count) list)) k ∙ get_or-append-add (range old) (slice first (first + count) list) (number - old) 0
-      ∙ slice-word list first (first + count) (number - old) q ∙ sym s in
-      rw (origins-length, lt-ltb number (old + count) (omega arith), e)
+      let e : word (range old ++ originals) number ≡ r =
+      ap (word (range old ++ originals)) k ∙ get_or-append-add (range old) originals (number - old) 0 ∙ sym s in
+      rw (origins-length, lt-ltb number (old + length originals) (omega arith), e)
 
-  pub missing : old ≤ number → count ≤ number - old → refusal 5 [] ≡ origin_at (range old ++ slice first (first + count) list) number
+  pub missing : old ≤ number → length originals ≤ number - old → refusal 5 [] ≡ origin_at (range old ++ originals) number
   unfolding origin_at
-  missing h l = rw (origins-length, le-ltb number (old + count) (omega arith))
-
--- the origins that a row gives
-module _ (w list : List ℕ) (copies : Counts) (R : Rows w list copies) (old : ℕ) where
-  pub node-origins : old ≡ nodes w → range old ++ slice 512 (512 + copies.nodes) list ≡ node_origins w
-  unfolding node_origins
-  node-origins e = rw (e, R.node_row.listed)
-
-  pub branch-origins : old ≡ branches w → range old ++ slice 768 (768 + copies.branches) list ≡ branch_origins w
-  unfolding branch_origins
-  branch-origins e = rw (e, R.branch_row.listed)
-
-  pub name-origins : old ≡ names w → range old ++ slice 256 (256 + copies.names) list ≡ name_origins w
-  unfolding name_origins
-  name-origins e = rw (e, R.name-row.listed)
+  missing h l = rw (origins-length, le-ltb number (old + length originals) (omega arith))

@@ -18,7 +18,7 @@ use Rattle.rewriting.specs.Inner.Copying.{Row, Rows}
 use Rattle.rewriting.specs.Inner.Counting.{Summed, header_with}
 use Rattle.rewriting.specs.Inner.Writing.{copy_words, front_words, back_words}
 use Rattle.rewriting.specs.declared.copies.Counts.{Counts}
-use Rattle.rewriting.specs.declared.words.Part.TheVariants.{Names, Definitions, Nodes, Branches, Arguments}
+use Rattle.rewriting.specs.declared.copies.Part.TheVariants.{Names, Definitions, Nodes, Branches, Arguments}
 
 -- four runs of words are a header
 pub header-listed : (w : List ℕ) (k : Counts) (p t : ℕ) → p ≡ publics w → t ≡ threads w
@@ -132,14 +132,15 @@ module _ (w list : List ℕ) (copies : Counts) (R : Rows w list copies) where
       → Listed 262144 (map (word w) (from s1 n1)) o1 r1 o2 r2
       → Listed 1024 (flat (copy_words w Names) (slice 256 (256 + copies.names) list)) o2 r2 o3 r3
       → Listed 262144 (map (word w) (from s2 (4 * n2))) o3 r3 o4 r4
-      → Listed 1024 (flat (copy_words w Definitions) (slice 0 (0 + copies.definitions) list)) o4 r4 o5 r5
+      → Listed 1024 (flat (copy_words w Definitions) (slice 0 copies.definitions list)) o4 r4 o5 r5
       → Listed 262144 (map (word w) (from s3 n3)) o5 r5 after r → Listed 1048576 (front_words w) out 0 after r
   unfolding front_words
   front-listed counts S s1 n1 s2 n2 s3 n3 e1 f1 e2 f2 e3 f3 out o1 o2 o3 o4 o5 after r1 r2 r3 r4 r5 r H A B C D E =
       let h : Listed 13 (rewritten_header w) out 0 o1 r1 = rw (header_is w list copies counts R S) at H in
       let n = section w list (name_copies w) _ (name_part w) (copy_words w Names) 256 copies.names R.name-row (names-stay w s1 n1 e1 f1) _ _ _ _ _ _ A B in
+      let z : 0 + copies.definitions ≡ copies.definitions = omega arith in
       let d = section w list (copied w) _ (definition_part w) (copy_words w Definitions) 0 copies.definitions R.definition-row
-      (definitions-stay w s2 n2 e2 f2) _ _ _ _ _ _ C D in
+      (definitions-stay w s2 n2 e2 f2) _ _ _ _ _ _ C (rw z D) in
       let t : Listed 262144 (thread_part w) o5 r5 after r = rw (threads-stay w s3 n3 e3 f3) at E in
       let x = listed-append 263168 262144 (definition_part w) (thread_part w) _ _ _ _ _ _ d t in
       let y = listed-append 263168 525312 (name_part w) _ _ _ _ _ _ _ n x in

@@ -2,18 +2,20 @@
 use mathlib.Core.Path.{◌≡◌, refl, sym, ap, ◌∙◌}
 use mathlib.Core.Bool.{Bool, true, false}
 use mathlib.Core.List.{List, [], ◌∷◌, ◌++◌, map, append_assoc}
-use Prim.Native.Nat.{ℕ, suc, ◌+◌, ◌-◌, ◌≤◌, ◌<◌}
+use Prim.Native.Nat.{ℕ, ◌+◌, ◌-◌, ◌≤◌, ◌<◌}
 use native.Mathlib.Omega.{arith}
-use lib.ListN.{length, set, take, drop, replicate, length-set}
-use lib.Seq.{sets, sets-eq, slice, ext_get_or, length-slice, length-take-le}
+use native.Mathlib.Numerals.{add-one}
+use lib.ListN.{length, set, take, drop, length-set, get_or}
+use Rattle.std.specs.List.{AllByRecursion}
+use Rattle.std.proofs.lemmas.List.Elements.{All-from_recursion}
+use lib.Seq.{sets, sets-eq, slice, drop-cons, ext_get_or, length-slice, length-take-le}
 use Rattle.lists.specs.Lists.{pick, same, word, from, range, keep, flat}
 use Rattle.lists.proofs.Ranges.{from_more, from-done}
-use Rattle.lists.proofs.Slices.{slice-between, slice-word}
+use Rattle.lists.proofs.Slices.{drop-step, drop-none, slice-between, slice-word}
 use Rattle.lists.proofs.Stores.{word_low}
 use Rattle.rewriting.proofs.Runs.{map-from}
 use Rattle.process.specs.Inner.Listed.{Listed}
-use Rattle.process.proofs.Sets.{sets-fill-more, sets-fill-done}
-use Rattle.process.proofs.Listed.{Left, left-more, one-listed, three-listed, listed_more, slice-more, slice-done}
+use Rattle.process.proofs.Listed.{Left, left-more, one-listed, slice-more, slice-done}
 use Rattle.rewriting.specs.Inner.Copying.{grouped}
 
 -- ---- words after a run of stores
@@ -83,32 +85,6 @@ numbers-from first n = map-from (λ k. first + k) 0 first n (λ i h. omega arith
 pub words-from : (w : List ℕ) (first n : ℕ) → map (λ k. word w (first + k)) (range n) ≡ map (word w) (from first n)
 words-from w first n = sym (map-comp (word w) (λ k. first + k) (range n)) ∙ ap (map (word w)) (numbers-from first n)
 
--- ---- one value, stored from place `at` on
-
-pub fill_more : (out after : List ℕ) (v at i e : ℕ) → i < e → after ≡ set out (at + i) v
-    → sets out (at + i) (replicate (e - i) v) ≡ sets after (at + (i + 1)) (replicate (e - (i + 1)) v)
-fill_more out after v at i e h s =
-    let q : at + i + 1 ≡ at + (i + 1) = omega arith in
-    sets-fill-more out v (at + i) i e h ∙ rw (q, s)
-
-pub fill_done : (out : List ℕ) (v at i e : ℕ) → e ≤ i → sets out (at + i) (replicate (e - i) v) ≡ out
-fill_done out v at i e h = sets-fill-done out v (at + i) i e h
-
--- ---- a few words, one after another
-
-pub three-stored : (out one two after : List ℕ) (i a b c : ℕ) → one ≡ set out i a → two ≡ set one (i + 1) b → after ≡ set two (i + 2) c
-    → Listed 4 (a ∷ b ∷ c ∷ []) out i after (i + 3)
-three-stored out one two after i a b c p q r =
-    listed_more (a ∷ b ∷ c ∷ []) out i after (i + 3) 3 4 (omega arith) (three-listed out one two after i a b c p q r)
-
-pub four-stored : (out one two three after : List ℕ) (i a b c d : ℕ) → one ≡ set out i a → two ≡ set one (i + 1) b → three ≡ set two (i + 2) c
-    → after ≡ set three (i + 3) d → Listed 4 (a ∷ b ∷ c ∷ d ∷ []) out i after (i + 4)
-four-stored out one two three after i a b c d p q r s =
-    let e : i + 1 ≡ suc i = omega arith in
-    let f : i + 2 ≡ suc (suc i) = omega arith in
-    let g : i + 3 ≡ suc (suc (suc i)) = omega arith in
-    record { written = s ∙ rw (r, q, p, e, f, g); next = refl; few = omega arith }
-
 -- ---- a run over `count` words from place `first` on
 
 module _ (f : ℕ → List ℕ) (l : List ℕ) (first count : ℕ) where
@@ -120,3 +96,19 @@ module _ (f : ℕ → List ℕ) (l : List ℕ) (first count : ℕ) where
 
   pub row_done : (k : ℕ) → count ≤ k → flat f (slice (first + k) (first + count) l) ≡ []
   row_done k h = slice-done f l (first + k) (first + count) (omega arith)
+
+-- ---- items one by one
+
+pub drop-more : (l : List ℕ) (i : ℕ) → i < length l → drop i l ≡ (get_or l i 0 ∷ []) ++ drop (i + 1) l
+drop-more l i h = rw add-one (drop-cons l i 0 h)
+
+pub below : (n : ℕ) (l : List ℕ) (i : ℕ) → i < length l → AllByRecursion (λ x. x < n) l → get_or l i 0 < n
+below n l i h a = All-from_recursion (λ x. x < n) l a i 0 h
+
+pub flat-drop : (f : ℕ → List ℕ) (l : List ℕ) (i : ℕ) → i < length l → flat f (drop i l) ≡ f (get_or l i 0) ++ flat f (drop (i + 1) l)
+unfolding flat
+flat-drop f l i h = rw (drop-step l i h)
+
+pub flat_end : (f : ℕ → List ℕ) (l : List ℕ) (i : ℕ) → length l ≤ i → flat f (drop i l) ≡ []
+unfolding flat
+flat_end f l i h = rw (drop-none l i h)

@@ -7,6 +7,8 @@ use Rattle.table.specs.Causes.{cause_sparing}
 use Rattle.rewriting.specs.Rewriting.{copied, name_copies, node_copies, branch_copies, argument_copies}
 use Rattle.rewriting.specs.Inner.Belonging.{Spared}
 use Rattle.rewriting.specs.declared.copies.Counts.{Counts}
+use Rattle.rewriting.specs.declared.copies.Part.{Part}
+use Rattle.rewriting.specs.declared.copies.Part.TheVariants.{Names, Definitions, Nodes, Branches, Arguments}
 
 -- a Call of the definition that it stands in, by lent definitions
 unfoldable pub self_call : List ℕ → List ℕ → ℕ → Bool
@@ -31,6 +33,14 @@ pub record Row (list : List ℕ) (i : ℕ) (words : List ℕ) (count : ℕ) : Ty
   pub listed : slice i (i + count) words ≡ list
   pub few : count ≤ 256
   pub small : (x : ℕ) → member x list ≡ true → x < 256
+
+-- the originals of a section's copies, as a list of all has them
+abbrev pub originals_in : List ℕ → Counts → Part → List ℕ
+originals_in list c Definitions = slice 0 c.definitions list
+originals_in list c Names = slice 256 (256 + c.names) list
+originals_in list c Nodes = slice 512 (512 + c.nodes) list
+originals_in list c Branches = slice 768 (768 + c.branches) list
+originals_in list c Arguments = slice 1024 (1024 + c.arguments) list
 
 -- the table is accepted with self-calls spared, and the words have what is copied
 pub record Rows (w list : List ℕ) (c : Counts) : Type 0 where

@@ -10,8 +10,8 @@ use Rattle.rewriting.specs.Inner.Copying.{self_call, Rows}
 use Rattle.rewriting.specs.Inner.Counting.{Summed, Small}
 use Rattle.rewriting.specs.Inner.Placing.{Placing}
 use Rattle.rewriting.specs.declared.copies.Counts.{Counts}
-use Rattle.rewriting.specs.declared.words.Part.{Part}
-use Rattle.rewriting.specs.declared.words.Part.TheVariants.{Names, Definitions, Nodes, Branches, Arguments}
+use Rattle.rewriting.specs.declared.copies.Part.{Part}
+use Rattle.rewriting.specs.declared.copies.Part.TheVariants.{Names, Definitions, Nodes, Branches, Arguments}
 
 module _ (w : List ℕ) where
   -- the second word of a node, or of its copy, by lent definitions

@@ -14,7 +14,7 @@ overflow_cast-d c =
     let p = c.requires in
     omega (
       arith,
-      name-definition-small _ _ p.0 l.x l.invariant.2 (omega (arith, l.invariant.1, c.loop-x-test.true)) _ c.name_definition-d.ensures,
+      name-definition-small _ _ p.0 l.x (omega (arith, l.auto.x, c.word-publics.ensures.is)) (omega (arith, l.invariant.1, c.loop-x-test.true)) _ c.name_definition-d.ensures,
     )
 
 pub loop-x-preserved : goal.loop-x-preserved
@@ -28,7 +28,6 @@ loop-x-preserved c =
     let s = c.store.ensures in (
       set_long l.out _ l.x c.name_definition-d.result s ∙ v.0,
       v.1,
-      omega (arith, v.2),
       named-next w l.out _ l.x c.name_definition-d.result (omega (arith, v.0, u, few.few-publics, few.few-bounds))
-          (c.name_definition-d.ensures ∙ name-definition-is _ _ p.0 l.x v.2 u) s v.3,
+          (c.name_definition-d.ensures ∙ name-definition-is _ _ p.0 l.x (omega (arith, l.auto.x, c.word-publics.ensures.is)) u) s v.2,
     )

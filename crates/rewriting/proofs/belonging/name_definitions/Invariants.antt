@@ -1,5 +1,5 @@
 use mathlib.Core.Path.{◌≡◌}
-use Prim.Native.Nat.{ℕ, ◌-◌, ◌≤◌, ◌<◌}
+use Prim.Native.Nat.{ℕ, ◌≤◌, ◌<◌}
 use lib.ListN.{length}
 use Rattle.lists.specs.Lists.{word}
 use Rattle.scheme.specs.Words.{publics as public_count, names}
@@ -8,8 +8,5 @@ use Rattle.rewriting.proofs.belonging.name_definitions.Given as goal
 
 abbrev pub invariant-loop-x : goal.invariant-loop-x
 invariant-loop-x l =
-    (length l.out ≡ 64) × (l.end ≡ names l.table) × (public_count l.table ≤ l.x) ×
+    (length l.out ≡ 64) × (l.end ≡ names l.table) ×
     ((y : ℕ) → public_count l.table ≤ y → y < l.x → word l.out y ≡ name_definition_of l.table y)
-
-abbrev pub decreases-loop-x : goal.decreases-loop-x
-decreases-loop-x l = l.end - l.x

@@ -10,7 +10,6 @@ loop-i-preserved c =
     let r = c.list_member-next in (
       left-more _ _ _ _ _ _ l.invariant.0 _ _ _ _ _ (grouped-more a.of.now a.group l.i a.end c.loop-i-test.true) r.ensures,
       omega (arith, l.invariant.1, r.ensures.few),
-      omega (arith, l.invariant.2),
       omega (arith, c.loop-i-test.true),
     )
 
@@ -19,4 +18,4 @@ returns c =
     let a = c.args in
     let l = c.loop-i in
     left_end _ _ _ _ _ _ l.invariant.0 _ (grouped-done a.of.now a.group l.i a.end c.loop-i-test.false)
-    (omega (arith, l.invariant.1, l.invariant.3, c.requires.0))
+    (omega (arith, l.invariant.1, l.invariant.2, l.auto.i-end, c.requires.0))

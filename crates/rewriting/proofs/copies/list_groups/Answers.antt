@@ -17,11 +17,10 @@ loop-k-preserved c =
     let t = c.loop-k-test.true in (
       left-more _ _ _ _ _ _ v.0 _ _ _ _ _
           (slice-more (grouped a.of.now (from a.first (a.end - a.first))) a.out.now l.k a.groups
-          c.word-group.result (c.word-group.ensures.is ∙ v.4 l.k (omega (arith, t, p.1))) t p.2) r.ensures,
+          c.word-group.result (c.word-group.ensures.is ∙ v.3 l.k (omega (arith, t, p.1))) t p.2) r.ensures,
       omega (arith, v.1, r.ensures.few),
-      omega (arith, t),
-      omega (arith, v.3, r.ensures.next),
-      λ j h. listed-low _ _ _ _ _ _ r.ensures j (omega (arith, h, v.3)) ∙ v.4 j h,
+      omega (arith, v.2, r.ensures.next),
+      λ j h. listed-low _ _ _ _ _ _ r.ensures j (omega (arith, h, v.2)) ∙ v.3 j h,
     )
 
 pub returns : goal.returns
@@ -30,4 +29,4 @@ returns c =
     let l = c.loop-k in
     left_end _ _ _ _ _ _ l.invariant.0 _
     (slice-done (grouped a.of.now (from a.first (a.end - a.first))) a.out.now l.k a.groups c.loop-k-test.false)
-    (omega (arith, l.invariant.1, l.invariant.2, c.requires.1, c.requires.3))
+    (omega (arith, l.invariant.1, l.auto.k-end, c.requires.1, c.requires.3))

@@ -9,7 +9,4 @@ use Rattle.rewriting.proofs.copies.list_groups.Given as goal
 abbrev pub invariant-loop-k : goal.invariant-loop-k
 invariant-loop-k l =
     Left (flat (grouped l.of (from l.first (l.end - l.first))) (slice 0 l.groups l.initial.out)) l.initial.out l.at (flat (grouped l.of (from l.first (l.end - l.first))) (slice l.k l.groups l.initial.out))
-    l.out l.next × (l.next ≤ l.at + 131072 * l.k) × (l.k ≤ l.groups) × (l.at ≤ l.next) × ((j : ℕ) → j < l.at → word l.out j ≡ word l.initial.out j)
-
-abbrev pub decreases-loop-k : goal.decreases-loop-k
-decreases-loop-k l = l.groups - l.k
+    l.out l.next × (l.next ≤ l.at + 131072 * l.k) × (l.at ≤ l.next) × ((j : ℕ) → j < l.at → word l.out j ≡ word l.initial.out j)

@@ -9,21 +9,19 @@ use Rattle.rewriting.proofs.copies.list_span.Goals as goal
 pub loop-i-init : goal.loop-i-init
 loop-i-init c =
     let a = c.args in
-    (rw (sub-zero a.count, numbers-from a.first a.count, add-zero a.at) (left-start _ _ _ _ refl), omega arith)
+    rw (sub-zero a.count, numbers-from a.first a.count, add-zero a.at) (left-start _ _ _ _ refl)
 
 pub loop-i-preserved : goal.loop-i-preserved
 loop-i-preserved c =
     let a = c.args in
-    let l = c.loop-i in (
-      left-image (λ k. a.first + k) _ _ _ a.at a.count _ _ l.i c.loop-i-test.true l.invariant.0 c.store.ensures,
-      omega (arith, c.loop-i-test.true),
-    )
+    let l = c.loop-i in
+    left-image (λ k. a.first + k) _ _ _ a.at a.count _ _ l.i c.loop-i-test.true l.invariant c.store.ensures
 
 pub returns : goal.returns
 returns c =
     let a = c.args in
     let l = c.loop-i in
-    let e : a.at + l.i ≡ a.at + a.count = omega (arith, l.invariant.1, c.loop-i-test.false) in
+    let e : a.at + l.i ≡ a.at + a.count = omega (arith, l.auto.i-end, c.loop-i-test.false) in
     rw e at
-    (left_end _ _ _ _ _ _ l.invariant.0 65536 (images-none (λ k. a.first + k) l.i a.count c.loop-i-test.false)
-    (omega (arith, l.invariant.1, c.requires.1)))
+    (left_end _ _ _ _ _ _ l.invariant 65536 (images-none (λ k. a.first + k) l.i a.count c.loop-i-test.false)
+    (omega (arith, l.auto.i-end, c.requires.1)))

@@ -18,11 +18,10 @@ loop-k-preserved c =
     let n = c.span_count-count.ensures.is in (
       left-more _ _ _ _ _ _ v.0 _ _ _ _ _
           (row_more (span_of a.table.now a.source) a.out.now 512 a.nodes l.k
-          c.word-node.result (c.word-node.ensures.is ∙ v.4 (512 + l.k) (omega (arith, t, p.0))) t p.1) (rw (s, n) at r.ensures),
+          c.word-node.result (c.word-node.ensures.is ∙ v.3 (512 + l.k) (omega (arith, t, p.0))) t p.1) (rw (s, n) at r.ensures),
       omega (arith, v.1, r.ensures.few),
-      omega (arith, t),
-      omega (arith, v.3, r.ensures.next),
-      λ j h. listed-low _ _ _ _ _ _ r.ensures j (omega (arith, h, v.3)) ∙ v.4 j h,
+      omega (arith, v.2, r.ensures.next),
+      λ j h. listed-low _ _ _ _ _ _ r.ensures j (omega (arith, h, v.2)) ∙ v.3 j h,
     )
 
 pub returns : goal.returns
@@ -30,4 +29,4 @@ returns c =
     let a = c.args in
     let l = c.loop-k in
     left_end _ _ _ _ _ _ l.invariant.0 _ (row_done (span_of a.table.now a.source) a.out.now 512 a.nodes l.k c.loop-k-test.false)
-    (omega (arith, l.invariant.1, l.invariant.2, c.requires.0, c.requires.2))
+    (omega (arith, l.invariant.1, l.auto.k-end, c.requires.0, c.requires.2))

@@ -1,5 +1,4 @@
 use mathlib.Core.Path.{refl, ◌∙◌}
-use native.Mathlib.Omega.{arith}
 use Rattle.lists.specs.Lists.{from, some}
 use Rattle.scheme.specs.Index.{definitions_in}
 use Rattle.rewriting.specs.Inner.Copying.{called_by_itself}
@@ -8,7 +7,7 @@ use Rattle.rewriting.proofs.copies.mark_callers.Goals as goal
 
 pub loop-n-init : goal.loop-n-init
 unfolding called_by_itself some from
-loop-n-init c = (c.word-nodes.ensures.is, refl, omega arith, λ d l. refl)
+loop-n-init c = (c.word-nodes.ensures.is, refl, λ d l. refl)
 
 pub loop-n-preserved : goal.loop-n-preserved
 loop-n-preserved c =
@@ -17,6 +16,5 @@ loop-n-preserved c =
     let e = c.mark_caller.ensures in (
       l.invariant.0,
       mark-length a.table.now (definitions_in a.index.now) l.n 0 l.marks _ e ∙ l.invariant.1,
-      omega (arith, c.loop-n-test.true),
-      λ d u. mark-next a.table.now (definitions_in a.index.now) l.n d l.marks _ _ (rw l.invariant.1 u) e (l.invariant.3 d u),
+      λ d u. mark-next a.table.now (definitions_in a.index.now) l.n d l.marks _ _ (rw l.invariant.1 u) e (l.invariant.2 d u),
     )

@@ -6,7 +6,7 @@ use Rattle.rewriting.proofs.words.copied_first.Goals as goal
 pub returns-then-kind-eq1 : goal.returns-then-kind-eq1
 unfolding copied_first_of same
 returns-then-kind-eq1 c =
-    rw (← c.field3-kind.ensures.is, eq-eqb _ _ c.if-kind-eq1.true, ← c.field3.ensures.is) c.copy_branch.ensures
+    rw (← c.field3-kind.ensures.is, eq-eqb _ _ c.if-kind-eq1.true, ← c.field3.ensures.is) c.copied.ensures
 
 pub returns-then-kind-eq2 : goal.returns-then-kind-eq2
 unfolding copied_first_of same

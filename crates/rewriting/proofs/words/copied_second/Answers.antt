@@ -6,7 +6,7 @@ use Rattle.rewriting.proofs.words.copied_second.Goals as goal
 pub returns-then-field3-eq2 : goal.returns-then-field3-eq2
 unfolding copied_second_of same
 returns-then-field3-eq2 c =
-    rw (← c.field3.ensures.is, eq-eqb _ _ c.if-field3-eq2.true, ← c.field3-second.ensures.is) c.copy_node.ensures
+    rw (← c.field3.ensures.is, eq-eqb _ _ c.if-field3-eq2.true, ← c.field3-second.ensures.is) c.copied.ensures
 
 pub returns-then-span_count-eq0 : goal.returns-then-span_count-eq0
 unfolding copied_second_of same
@@ -24,4 +24,4 @@ returns c =
       ne_eqb _ _ c.if-field3-eq2.false,
       ne_eqb _ _ c.if-span_count-eq0.false,
       ← c.field3-second.ensures.is,
-    ) c.copy_argument.ensures
+    ) c.copied-2.ensures

@@ -10,7 +10,7 @@ pub returns-then-calls_itself : goal.returns-then-calls_itself
 unfolding target_in
 returns-then-calls_itself c =
     rw (c.if-copy.false, sym c.calls_itself.ensures ∙ c.if-calls_itself.true, ← c.field3-first.ensures.is)
-    c.copy_definition.ensures
+    c.copied.ensures
 
 pub returns : goal.returns
 unfolding target_in

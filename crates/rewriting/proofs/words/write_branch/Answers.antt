@@ -11,6 +11,6 @@ returns c =
       ← c.field4-2.ensures.is,
       ← c.copied_use-name.ensures.is,
       ← c.field4-3.ensures.is,
-      ← c.copy_node-next.ensures.is,
+      ← c.copied-next.ensures.is,
       ← c.field4-4.ensures.is,
-    ) c.write4.ensures
+    ) c.write_all.ensures

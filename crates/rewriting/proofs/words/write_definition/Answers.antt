@@ -8,7 +8,7 @@ returns c =
     rw (
       ← c.copied_formal-formal.ensures.is,
       ← c.field4.ensures.is,
-      ← c.copy_node-root.ensures.is,
+      ← c.copied-root.ensures.is,
       ← c.field4-thread.ensures.is,
       ← c.field4-2.ensures.is,
-    ) c.write4.ensures
+    ) c.write_all.ensures

@@ -13,4 +13,4 @@ returns c =
       ← c.target_of-first.ensures.is,
       ← c.field3-kind.ensures.is,
       ← c.field3.ensures.is,
-    ) c.write3.ensures
+    ) c.write_all.ensures

@@ -11,7 +11,6 @@ loop-n-preserved c =
     let r = c.write_node-next in (
       left-more _ _ _ _ _ _ l.invariant.0 _ _ _ _ _ (flat-more (node_words a.table.now) l.n _ c.loop-n-test.true) r.ensures,
       omega (arith, l.invariant.1, r.ensures.few),
-      omega (arith, c.loop-n-test.true),
     )
 
 pub returns : goal.returns
@@ -19,4 +18,4 @@ returns c =
     let a = c.args in
     let l = c.loop-n in
     left_end _ _ _ _ _ _ l.invariant.0 _ (flat-done (node_words a.table.now) l.n _ c.loop-n-test.false)
-    (omega (arith, l.invariant.1, l.invariant.2, c.word-nodes.ensures.small))
+    (omega (arith, l.invariant.1, l.auto.n-end, c.word-nodes.ensures.small))

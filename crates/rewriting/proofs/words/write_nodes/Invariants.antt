@@ -7,8 +7,4 @@ use Rattle.rewriting.proofs.words.write_nodes.Given as goal
 
 abbrev pub invariant-loop-n : goal.invariant-loop-n
 invariant-loop-n l =
-    Left (flat (node_words l.table) (range (node_count l.table))) l.initial.out l.at (flat (node_words l.table) (from l.n (l.nodes - l.n))) l.out l.next ×
-    (l.next ≤ l.at + 4 * l.n) × (l.n ≤ l.nodes)
-
-abbrev pub decreases-loop-n : goal.decreases-loop-n
-decreases-loop-n l = l.nodes - l.n
+    Left (flat (node_words l.table) (range (node_count l.table))) l.initial.out l.at (flat (node_words l.table) (from l.n (l.nodes - l.n))) l.out l.next × (l.next ≤ l.at + 4 * l.n)
