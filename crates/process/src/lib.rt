@@ -19,7 +19,7 @@ ghost use Rattle.process.specs.Answers.{outcome_of};
 ghost use Rattle.process.specs.Outcomes.{start_outcome, open_outcome, step_outcome};
 
 use crate::formed::well_formed;
-use crate::labels::{Open, open_step};
+use crate::labels::open_step;
 use crate::listing::list_open;
 use crate::next::write_state;
 use lists::{store, word};
@@ -43,10 +43,8 @@ fn write_roots(table: &[u16], out: &mut [u16])
         (map (λ t. root table.now (entry table.now t)) (range (threads table.now))) }
 {
     let threads = word(table, 3);
-    let mut t = 0;
-    while t < threads {
+    for t in 0..threads {
         store(out, t, field4(table, 8, field1(table, 9, t), 1) as u16);
-        t += 1;
     }
 }
 
@@ -57,10 +55,8 @@ fn write_unheld(table: &[u16], out: &mut [u16])
 {
     let threads = word(table, 3);
     let bounds = word(table, 1);
-    let mut i = 0;
-    while i < bounds {
+    for i in 0..bounds {
         store(out, threads + i, 65535);
-        i += 1;
     }
 }
 
@@ -116,7 +112,7 @@ pub fn step(table: &[u16], state: &[u16], kind: u32, a: u32, b: u32, next: &mut 
     if !well_formed(table, &index, state) {
         return Answer::Malformed;
     }
-    let Open::Taken(taken) = open_step(table, &index, state, kind, a, b) else {
+    let Some(taken) = open_step(table, &index, state, kind, a, b) else {
         return Answer::NotOpen;
     };
     let size = word(table, 3) + word(table, 1);

@@ -30,20 +30,20 @@ pub returns-then-next-size : goal.returns-then-next-size
 returns-then-next-size c =
     step-short _ _ _ _ _ _ _ (sym c.is_accepted.ensures ∙ c.if-not-is_accepted.false) c.check-verdict.ensures
     (sym c.well_formed-2.ensures ∙ c.if-not-well_formed.false)
-    c.in-Taken.taken (sym (ap opened c.in-Taken.is) ∙ c.open_step.ensures)
+    c.in-Some.taken (sym (ap opened c.in-Some.is) ∙ c.open_step.ensures)
     (omega (arith, c.word.ensures.is, c.word-2.ensures.is, c.if-next-size.true))
 
 pub write_state-requires : goal.write_state-requires
 write_state-requires c =
     step-going _ _ _ _ _ c.args.next.now _ (sym c.is_accepted.ensures ∙ c.if-not-is_accepted.false) c.check-verdict.ensures
     (sym c.well_formed-2.ensures ∙ c.if-not-well_formed.false)
-    c.in-Taken.taken (sym (ap opened c.in-Taken.is) ∙ c.open_step.ensures)
+    c.in-Some.taken (sym (ap opened c.in-Some.is) ∙ c.open_step.ensures)
     _ (known-here _ _ (sym c.is_accepted.ensures ∙ c.if-not-is_accepted.false) c.check-verdict.ensures _ _ _ c.fill.ensures (omega arith))
 
 pub returns : goal.returns
 returns c =
     step-written _ _ _ _ _ _ _ (sym c.is_accepted.ensures ∙ c.if-not-is_accepted.false) c.check-verdict.ensures
     (sym c.well_formed-2.ensures ∙ c.if-not-well_formed.false)
-    c.in-Taken.taken (sym (ap opened c.in-Taken.is) ∙ c.open_step.ensures)
+    c.in-Some.taken (sym (ap opened c.in-Some.is) ∙ c.open_step.ensures)
     _ _ (omega (arith, c.word.ensures.is, c.word-2.ensures.is, c.if-next-size.false))
     (rw (c.word.ensures.is, c.word-2.ensures.is)) c.write_state.ensures
