@@ -126,7 +126,7 @@ module _ (w : List ℕ) (A : Accepted (scheme w)) where
       same-refused a b e = cc
 
       apart : (a : ℕ) (m : List ℕ) → refused a ≡ made m → ⊥
-      apart a m e = let z : ◌≡◌ {A = ℕ} 0 1 = cc in omega arith
+      apart a m e = cc
 
       same-made : (a b : List ℕ) → made a ≡ made b → a ≡ b
       same-made a b e = cc
