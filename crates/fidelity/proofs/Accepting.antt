@@ -1,10 +1,8 @@
 -- Numbers that fire in turn at a marking of a built net are accepted one by one as calls: the header of its image is right, and each firing leaves a marking.
 use Prim.Native.Nat.{ℕ}
 use mathlib.Core.Path.{◌≡◌, refl, sym, ap, ◌∙◌, subst}
-use mathlib.Core.Logic.{◌⊎◌, inl, inr}
 use mathlib.Core.Bool.{true}
 use mathlib.Core.List.{List, [], ◌∷◌, ◌++◌, map}
-use native.Mathlib.Omega.{arith}
 use Rattle.lists.specs.Lists.{same, every}
 use Rattle.scheme.specs.Scheme.{scheme}
 use Rattle.table.specs.Accepted.{Accepted}
@@ -19,7 +17,7 @@ use Rattle.fidelity.specs.Calls.{fire, Answer, Plain, of_outcome, hears, advance
 use Rattle.fidelity.specs.Demand.{is_answer_accepted}
 use Rattle.fidelity.specs.Inner.Standing.{marking_of}
 use Rattle.fidelity.proofs.Built as Built
-use Rattle.fidelity.proofs.Turns.{image, S, U, E, image-is, Acts, goes, stops}
+use Rattle.fidelity.proofs.Turns.{image, S, U, E, image-is, Acts, goes, stops, has-cause}
 use Rattle.fidelity.proofs.Worlds.{net, Standing, act, every-snoc}
 
 module _ (w : List ℕ) (A : Accepted (scheme w)) where
@@ -54,11 +52,7 @@ module _ (w : List ℕ) (A : Accepted (scheme w)) where
   all-accepted (k ∷ ns) c s R m h p xs q = go (act w A c s k R) (all-accepted ns)
     where
       go : Acts w A c s 0 k → AllAccepted ns → every is_answer_accepted (answers_of (fired_by p xs k (Firing.fire (image w) (marks c) k)) ns) ≡ true
-      go (stops cause o e) ih = absurd (off o (sym (ap (λ (o : Outcome). o.cause) (turn-refused (image w) (marks c) k ns cause e)) ∙ h))
-        where
-          off : (cause ≡ 14) ⊎ (cause ≡ 15) → cause ≡ 0 → ⊥
-          off (inl x) y = omega arith
-          off (inr x) y = omega arith
+      go (stops cause o e) ih = absurd (has-cause o (sym (ap (λ (o : Outcome). o.cause) (turn-refused (image w) (marks c) k ns cause e)) ∙ h))
       go (goes d N e o b) ih =
           subst (λ (o : Outcome). every is_answer_accepted (answers_of (fired_by p xs k o) ns) ≡ true) (sym (fire-is c k m ∙ last))
           (ih d (advance w (image w) s k) N next rest (hears w (image w) p (fire k) answer) (xs ++ (answer ∷ [])) (every-snoc is_answer_accepted xs answer q refl))

@@ -6,7 +6,6 @@ use mathlib.Core.Logic.{◌≢◌, ◌⊎◌, inl, inr}
 use mathlib.Core.Bool.{Bool, true, false, ◌&&◌, ◌||◌, true≢false, false≢true}
 use mathlib.Core.Option.{Option, none, some}
 use mathlib.Core.List.{List, [], ◌∷◌, ◌++◌}
-use native.Mathlib.Omega.{arith}
 use Rattle.lists.specs.Lists as Lists
 use Rattle.lists.specs.Lists.{pick, same, member}
 use Rattle.lists.proofs.Tests.{not-true-false, and_left, and_right, or_cases, or_right, same_self, same_true, same-no}
@@ -24,17 +23,13 @@ or_swap true false = refl
 or_swap false true = refl
 or_swap false false = refl
 
-pub or-neither : (a b : Bool) → (a || b) ≡ false → a ≡ false
-or-neither true b e = e
-or-neither false b e = refl
-
 pub member-snoc : (x y : ℕ) (xs : List ℕ) → member x (xs ++ (y ∷ [])) ≡ (same x y || member x xs)
 member-snoc x y xs = member-append x xs (y ∷ []) ∙ rw (member-one x y) (or_swap (member x xs) (same x y))
 
 -- ---- values that may be missing
 
 pub none-some : {v : ℕ} {o : Option ℕ} → o ≡ none → o ≡ some v → ⊥
-none-some p q = let z : ◌≡◌ {A = ℕ} 0 1 = cc in omega arith
+none-some p q = cc
 
 pub holds-eq : (o : Option ℕ) (v : ℕ) → holds o v ≡ true → o ≡ some v
 holds-eq none v e = absurd (false≢true e)
@@ -87,7 +82,7 @@ pub pass-to : (a b c d : Spot) → pass a b ≡ pass c d → b ≡ d
 pass-to a b c d h = cc
 
 pub stay-pass : (a b : Spot) → stay ≡ pass a b → ⊥
-stay-pass a b h = let z : ◌≡◌ {A = ℕ} 0 1 = cc in omega arith
+stay-pass a b h = cc
 
 -- ---- tests of values
 

@@ -7,8 +7,10 @@ use mathlib.Core.List.{List, [], ◌∷◌, map}
 use native.Mathlib.Omega.{arith}
 use native.Mathlib.Decide.{dec_le}
 use lib.ListN.{length, get_or, length-map}
+use Rattle.std.proofs.lemmas.List.{get_or-map}
 use Rattle.lists.specs.Lists.{positions, every, ascends}
 use Rattle.lists.proofs.Tests.{and_intro}
+use Rattle.lists.proofs.Positions.{positions-rise}
 use Rattle.scheme.specs.Scheme.{Scheme}
 use Rattle.table.specs.Accepted.{Accepted}
 use Rattle.process.specs.States.{State, start}
@@ -30,13 +32,12 @@ use Rattle.fidelity.specs.Inner.Shapes.{Described, EnoughValues}
 use Rattle.fidelity.specs.Inner.Standing.{advanced, Shows, marking_of, Stands}
 use Rattle.fidelity.specs.Inner.Runs.{quiet, step_named}
 use Rattle.fidelity.specs.Inner.Starting.{start_configuration}
-use Rattle.fidelity.proofs.Elements.{element-at}
+use Rattle.readback.proofs.Elements.{element-at}
 use Rattle.fidelity.proofs.Firing as One
 use Rattle.fidelity.proofs.Shapes.{shaped}
 use Rattle.fidelity.proofs.Following as Following
 use Rattle.fidelity.proofs.Fireable.{opened}
 use Rattle.fidelity.proofs.Described.{listed-described}
-use Rattle.fidelity.proofs.Positions.{positions-ascend, get_or-mapped}
 use Rattle.fidelity.proofs.Numbers.{numbers-enabled, enabled-numbers, safe-numbers, moved-numbers, initial-numbers}
 use Rattle.fidelity.proofs.Starting.{start-shows}
 
@@ -60,12 +61,12 @@ module _ (S : Scheme) (U : Values) (A : Accepted S) (E : EnoughValues S U) where
   net-ascending =
       and_intro (ascends (length (places S U)) 0 (positions (is_initial S U) (places S U)))
       (every (ascending (length (places S U))) (map (transition_of S U) (descriptions S U)))
-      (positions-ascend (is_initial S U) (length (places S U)) 0 (places S U) (omega arith) 0 (omega arith))
+      (positions-rise (is_initial S U) (places S U))
       (every-mapped (ascending (length (places S U))) (transition_of S U) (descriptions S U)
       (λ d. and_intro (ascends (length (places S U)) 0 (positions (is_input S d) (places S U)))
       (ascends (length (places S U)) 0 (positions (is_output S d) (places S U)))
-      (positions-ascend (is_input S d) (length (places S U)) 0 (places S U) (omega arith) 0 (omega arith))
-      (positions-ascend (is_output S d) (length (places S U)) 0 (places S U) (omega arith) 0 (omega arith))))
+      (positions-rise (is_input S d) (places S U))
+      (positions-rise (is_output S d) (places S U))))
 
   -- the description of a number
   abbrev pub description_at : ℕ → Description
@@ -87,7 +88,7 @@ module _ (S : Scheme) (U : Values) (A : Accepted S) (E : EnoughValues S U) where
 
     transition-is : transition_at net k ≡ transition_of S U (description_at k)
     unfolding net_with
-    transition-is = get_or-mapped (transition_of S U) blank nothing (descriptions S U) k l
+    transition-is = get_or-map (transition_of S U) (descriptions S U) k nothing blank l
 
     pub label_is : label_at image k ≡ (description_at k).label
     label_is = label-at net k inside ∙ ap (λ (t : Transition). t.label) transition-is

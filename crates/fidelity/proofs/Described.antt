@@ -17,12 +17,11 @@ use Rattle.places.specs.Transitions.{Description, releases, copies, making, goin
 use Rattle.places.specs.Places.{common}
 use Rattle.places.specs.Transitions.{sent_on, of_pair}
 use Rattle.places.specs.Transitions.{descriptions}
-use Rattle.fidelity.specs.Inner.Elements.{Element, here, there}
+use Rattle.readback.proofs.Elements.{Element, here, there, no-element, element-cases, element-left, element-right, append-element, element-map, map-element}
+use Rattle.readback.proofs.Elements.{element-flat, flat-element, element-member, member-element}
 use Rattle.fidelity.specs.Inner.Marks.{allows, Takes}
 use Rattle.fidelity.specs.Inner.Shapes.{entering, copying_at, releasing_at, ending, going_by}
 use Rattle.fidelity.specs.Inner.Shapes.{Described, is-new, is-call, is-copy, is-release, is-ending, is-silent, is-communication, EnoughValues}
-use Rattle.fidelity.proofs.Elements.{no-element, element-cases, element-left, element-right, append-element, element-map, map-element, element-flat}
-use Rattle.fidelity.proofs.Elements.{flat-element, element-member, member-element}
 use Rattle.fidelity.proofs.Tables.{chosen, silent-present, send-present, receive-present}
 use Rattle.fidelity.proofs.Listed.{common-takes}
 use Rattle.fidelity.proofs.Listed.{below-range, range-below, takes-member, bound-values, member-takes, Releases, releases-element, element-releases}

@@ -8,7 +8,7 @@ use mathlib.Core.Option.{Option, none, some}
 use native.Mathlib.Decide.{ℕ_discrete, dec_le}
 use native.Mathlib.Omega.{arith}
 use Rattle.lists.specs.Lists.{same}
-use Rattle.lists.proofs.Tests.{not-true-false, and_left, and_right, and-false, and-true, or_cases, or-false, or-true, same_self, same_true, same-no}
+use Rattle.lists.proofs.Tests.{not-true-false, and_left, and_right, and-false, and-true, or_cases, or-false, or-true, or-none, same_self, same_true, same-no}
 use Rattle.scheme.specs.Scheme.{Scheme}
 use Rattle.process.specs.States.{put}
 use Rattle.places.specs.Values.{Values}
@@ -20,7 +20,7 @@ use Rattle.fidelity.specs.Inner.Marks.{is_held, motion, after, used, mark}
 use Rattle.fidelity.specs.Inner.Marks.{Suits, Fits, held_after, Untouched, Holding, allows, Exists, exists-equals, exists-differs, exists-free}
 use Rattle.fidelity.specs.Inner.Marks.{exists-control, Enabled, Safe}
 use Rattle.fidelity.specs.Inner.Marks.{WellFormed, Commands, Shaped}
-use Rattle.fidelity.proofs.Basics.{none-some, holds-eq, holds-some, holds_not, not-given, put_self, put_other, same_spot-self, same_spot-true, or-neither}
+use Rattle.fidelity.proofs.Basics.{none-some, holds-eq, holds-some, holds_not, not-given, put_self, put_other, same_spot-self, same_spot-true}
 
 -- ---- tests
 
@@ -219,9 +219,9 @@ module _ (S : Scheme) (U : Values) where
         → (asks t.tests x w || command_takes S κ (equals x w)) ≡ false → holds (c.value x) w ≡ false
     equals-safe skip k x w o i = absurd (true≢false (sym o ∙ i))
     equals-safe (take y v) k x w o i =
-        let q : (same x y && same w v) ≡ true = rw (or-neither (asks t.tests x w) false i) at o in
+        let q : (same x y && same w v) ≡ true = rw (or-none (asks t.tests x w) false i).0 at o in
         rw (same_true x y (and_left (same x y) (same w v) q), k.0)
-    equals-safe (release z v) k x w o i = absurd (true≢false (sym o ∙ rw (or-neither (asks t.tests x w) (same x z && same w v) i)))
+    equals-safe (release z v) k x w o i = absurd (true≢false (sym o ∙ rw (or-none (asks t.tests x w) (same x z && same w v) i).0))
 
     differs-safe : (κ : Command) → Suits S κ c.value → (x w : ℕ) → command_gives S κ (differs x w) ≡ true → command_takes S κ (differs x w) ≡ false
         → not (holds (c.value x) w) ≡ false

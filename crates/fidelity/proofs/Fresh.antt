@@ -4,7 +4,6 @@ use Prim.Native.Nat.{ℕ}
 use mathlib.Core.Path.{◌≡◌, refl, ap, ◌∙◌}
 use mathlib.Core.Bool.{Bool, true, false, not}
 use mathlib.Core.List.{List, [], ◌∷◌}
-use native.Mathlib.Omega.{arith}
 use lib.ListN.{length}
 use Rattle.lists.specs.Lists.{pick}
 use Rattle.lists.proofs.Tests.{same-yes}
@@ -36,8 +35,8 @@ use Rattle.fidelity.proofs.Standing.{read, read-formed, marking-is, spot-chosen}
 -- a marking for which reading back has words passes both tests
 passed-both : (a b : Bool) (ws state : List ℕ) → pick (not a) (refused 13) (pick (not b) (refused 17) (words ws)) ≡ words state → (a ≡ true) × (b ≡ true)
 passed-both true true ws state e = (refl, refl)
-passed-both true false ws state e = let z : ◌≡◌ {A = ℕ} 0 1 = cc in absurd (omega arith)
-passed-both false b ws state e = let z : ◌≡◌ {A = ℕ} 0 1 = cc in absurd (omega arith)
+passed-both true false ws state e = absurd cc
+passed-both false b ws state e = absurd cc
 
 module _ (w : List ℕ) (A : Accepted (scheme w)) (m : List ℕ) (hm : is_marking (length (places (S w A) (U w A))) m ≡ true)
     (st : stands_for_state (S w A) (U w A) (marked (places (S w A) (U w A)) m) ≡ true) where

@@ -12,9 +12,8 @@ use Rattle.places.specs.Values.{Values}
 use Rattle.places.specs.Places.{Place, equals, differs, free, control, places}
 use Rattle.readback.specs.Configurations.{Configuration}
 use Rattle.readback.specs.Reading.{is_same_place, has}
-use Rattle.fidelity.specs.Inner.Elements.{Element, here, there}
+use Rattle.readback.proofs.Elements.{Element, here, there, no-element, element-cases, some-element, element-some}
 use Rattle.fidelity.specs.Inner.Marks.{mark, Exists}
-use Rattle.fidelity.proofs.Elements.{no-element, element-cases, some-element, element-some}
 use Rattle.fidelity.proofs.Places.{exists-listed}
 
 pub same_place : (p : Place) → is_same_place p p ≡ true

@@ -1,7 +1,6 @@
 pub mod Computing
 pub mod Cases
 pub mod Basics
-pub mod Elements
 pub mod Tables
 pub mod Firing
 pub mod Shapes
@@ -31,7 +30,6 @@ pub mod Worlds
 pub mod Histories
 pub mod Accepting
 pub mod Clauses
-pub mod Sifted
 pub mod Readings
 pub mod Having
 pub mod StandsFor

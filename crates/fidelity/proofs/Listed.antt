@@ -19,11 +19,10 @@ use Rattle.places.specs.Values.{Values, values_of, shares}
 use Rattle.places.specs.Places.{controls, common, is_common}
 use Rattle.places.specs.Transitions.{move, Description, on, releasing, releases, copying, copies, calling}
 use Rattle.readback.specs.Configurations.{spot}
-use Rattle.fidelity.specs.Inner.Elements.{Element}
+use Rattle.readback.proofs.Elements.{Element, no-element, element-left, element-right, append-element, element-map, map-element, element-member}
+use Rattle.readback.proofs.Elements.{member-element}
 use Rattle.fidelity.specs.Inner.Marks.{allows, Takes, Meets}
 use Rattle.fidelity.specs.Inner.Shapes.{chain, onward, entering, copying_at, releasing_at, ending}
-use Rattle.fidelity.proofs.Elements.{no-element, element-left, element-right, append-element, element-map, map-element}
-use Rattle.fidelity.proofs.Elements.{element-member, member-element}
 
 suc-test : (a b : ℕ) → ltb (suc a) (suc b) ≡ ltb a b
 suc-test a b = go (ltb a b) refl

@@ -6,10 +6,12 @@ use mathlib.Core.List.{List}
 use native.Mathlib.Omega.{arith}
 use lib.ListN.{length, get_or, replicate, length-map, length-replicate, get_or-replicate}
 use lib.Seq.{ext_get_or}
+use Rattle.std.proofs.lemmas.List.{get_or-map}
 use Rattle.lists.specs.Lists as Lists
 use Rattle.lists.specs.Lists.{bit, same, member, positions, every}
 use Rattle.lists.proofs.Tests.{not-true-false, and_left, and_right, and-true, and-false, same_true, same-yes}
 use Rattle.lists.proofs.Ranges.{every-member, member-every}
+use Rattle.lists.proofs.Positions.{member-position, position-below}
 use Rattle.scheme.specs.Scheme.{Scheme}
 use Rattle.table.specs.Accepted.{Accepted}
 use Rattle.net.specs.Firing.{is_place_marked, is_enabled, has_contact, put, moved}
@@ -18,13 +20,12 @@ use Rattle.places.specs.Values.{Values}
 use Rattle.places.specs.Places.{Place, free, places, is_initial}
 use Rattle.places.specs.Transitions.{Description, is_input, is_output}
 use Rattle.readback.specs.Configurations.{Configuration}
-use Rattle.fidelity.specs.Inner.Elements.{Element}
+use Rattle.readback.proofs.Elements.{Element, element-at, element-position, some-element, element-member}
 use Rattle.fidelity.specs.Inner.Marks.{fired, after, mark, Fits, Exists, Enabled, Safe, WellFormed, Shaped}
 use Rattle.fidelity.specs.Inner.Standing.{marking_of}
 use Rattle.fidelity.specs.Inner.Starting.{start_configuration}
-use Rattle.fidelity.proofs.Elements.{element-at, element-position, some-element, element-member}
 use Rattle.fidelity.proofs.Firing.{fires}
-use Rattle.fidelity.proofs.Positions.{position_at, positions-below, put_in, put-out, get_or-mapped}
+use Rattle.fidelity.proofs.Positions.{put_in, put-out}
 use Rattle.fidelity.proofs.Places.{listed-exists, exists-listed}
 use Rattle.fidelity.proofs.Starting.{initial-marks}
 
@@ -53,7 +54,7 @@ module _ (S : Scheme) (U : Values) (A : Accepted S) where
 
   byte_at : (c : Configuration) (k : ℕ) → k < length ps → get_or (marking_of S U c) k 0 ≡ bit (mark S c (place_found_at k))
   unfolding marking_of
-  byte_at c k l = get_or-mapped (λ p. bit (mark S c p)) 0 (free 0) ps k l
+  byte_at c k l = get_or-map (λ p. bit (mark S c p)) ps k (free 0) 0 l
 
   marked-at : (c : Configuration) (k : ℕ) → k < length ps → is_place_marked (marking_of S U c) k ≡ true → mark S c (place_found_at k) ≡ true
   marked-at c k l h = bit-one (mark S c (place_found_at k)) (sym (byte_at c k l) ∙ same_true (get_or (marking_of S U c) k 0) 1 h)
@@ -73,7 +74,7 @@ module _ (S : Scheme) (U : Values) (A : Accepted S) where
     numbers-enabled h p e i = go (element-position (free 0) ps (exists-listed S U A e))
       where
         go : (k : ℕ) × (k < length ps) × (place_found_at k ≡ p) → mark S c p ≡ true
-        go (k, l, q) = rw q at (marked-at c k l (every-member (is_place_marked (marking_of S U c)) ins h k (position_at (is_input S t) (free 0) k ps l ∙ rw q i)))
+        go (k, l, q) = rw q at (marked-at c k l (every-member (is_place_marked (marking_of S U c)) ins h k (member-position (is_input S t) (free 0) ps k l ∙ rw q i)))
 
     pub enabled-numbers : Enabled S U t (mark S c) → is_enabled (marking_of S U c) ins ≡ true
     unfolding is_enabled
@@ -81,8 +82,8 @@ module _ (S : Scheme) (U : Values) (A : Accepted S) where
       where
         marked : (k : ℕ) → member k ins ≡ true → is_place_marked (marking_of S U c) k ≡ true
         marked k m =
-            let l : k < length ps = positions-below (is_input S t) k ps m in
-            at-marked c k l (h (place_found_at k) (place-exists k l) (sym (position_at (is_input S t) (free 0) k ps l) ∙ m))
+            let l : k < length ps = position-below (is_input S t) ps k m in
+            at-marked c k l (h (place_found_at k) (place-exists k l) (sym (member-position (is_input S t) (free 0) ps k l) ∙ m))
 
     -- no output number is marked that is no input
     pub safe-numbers : Safe S U t (mark S c) → has_contact (marking_of S U c) ins outs ≡ false
@@ -95,11 +96,11 @@ module _ (S : Scheme) (U : Values) (A : Accepted S) where
         contact : (k : ℕ) × Element k outs × (touches k ≡ true) → ⊥
         contact (k, i, q) =
             let m : member k outs ≡ true = element-member outs i in
-            let l : k < length ps = positions-below (is_output S t) k ps m in
+            let l : k < length ps = position-below (is_output S t) ps k m in
             let a : mark S c (place_found_at k) ≡ true = marked-at c k l (and_left (is_place_marked (marking_of S U c) k) (not (member k ins)) q) in
             let b : member k ins ≡ false = not-true (member k ins) (and_right (is_place_marked (marking_of S U c) k) (not (member k ins)) q) in
-            true≢false (sym a ∙ h (place_found_at k) (place-exists k l) (sym (position_at (is_output S t) (free 0) k ps l) ∙ m)
-            (sym (position_at (is_input S t) (free 0) k ps l) ∙ b))
+            true≢false (sym a ∙ h (place_found_at k) (place-exists k l) (sym (member-position (is_output S t) (free 0) ps k l) ∙ m)
+            (sym (member-position (is_input S t) (free 0) ps k l) ∙ b))
 
     -- the bytes after a firing
     moved_at : (k : ℕ) (i o μ : Bool) → k < length ps → member k ins ≡ i → member k outs ≡ o → get_or (marking_of S U c) k 0 ≡ bit μ
@@ -118,8 +119,8 @@ module _ (S : Scheme) (U : Values) (A : Accepted S) where
         at : (k : ℕ) → k < length (moved (marking_of S U c) ins outs) → get_or (moved (marking_of S U c) ins outs) k 0 ≡ get_or (marking_of S U (after S t c)) k 0
         at k h =
             let l : k < length ps = rw moved_length at h in
-            moved_at k (is_input S t (place_found_at k)) (is_output S t (place_found_at k)) (mark S c (place_found_at k)) l (position_at (is_input S t) (free 0) k ps l)
-            (position_at (is_output S t) (free 0) k ps l) (byte_at c k l)
+            moved_at k (is_input S t (place_found_at k)) (is_output S t (place_found_at k)) (mark S c (place_found_at k)) l (member-position (is_input S t) (free 0) ps k l)
+            (member-position (is_output S t) (free 0) ps k l) (byte_at c k l)
             ∙ rw (fires S U c t f W g (place_found_at k) (place-exists k l)) (sym (byte_at (after S t c) k l))
 
   -- ---- the initial marking
@@ -140,5 +141,5 @@ module _ (S : Scheme) (U : Values) (A : Accepted S) where
       at : (k : ℕ) → k < length m → get_or m k 0 ≡ get_or (marking_of S U (start_configuration S)) k 0
       at k h =
           let l : k < length ps = rw size at h in
-          byte k (is_initial S U (place_found_at k)) l (position_at (is_initial S U) (free 0) k ps l)
+          byte k (is_initial S U (place_found_at k)) l (member-position (is_initial S U) (free 0) ps k l)
           ∙ rw (initial-marks S U A (place_found_at k) (place-exists k l)) (sym (byte_at (start_configuration S) k l))

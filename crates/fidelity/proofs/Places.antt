@@ -17,10 +17,9 @@ use Rattle.table.specs.Accepted.{Accepted}
 use Rattle.places.specs.Values.{Values, values_of, private_value_list, private_values_of}
 use Rattle.places.specs.Places.{Place, equals, differs, free, control, controls_at, controls, control_places, row, rows, places}
 use Rattle.readback.specs.Configurations.{spot, is_spot}
-use Rattle.fidelity.specs.Inner.Elements.{Element}
+use Rattle.readback.proofs.Elements.{Element, no-element, element-left, element-right, append-element, element-map, map-element, element-flat, flat-element}
+use Rattle.readback.proofs.Elements.{element-member, member-element}
 use Rattle.fidelity.specs.Inner.Marks.{is_place, allows, Exists, exists-equals, exists-differs, exists-free, exists-control}
-use Rattle.fidelity.proofs.Elements.{no-element, element-left, element-right, append-element, element-map, map-element, element-flat, flat-element}
-use Rattle.fidelity.proofs.Elements.{element-member, member-element}
 use Rattle.fidelity.proofs.Listed.{below-range, range-below, takes-member, bound-values}
 
 module _ (S : Scheme) (U : Values) (A : Accepted S) where
@@ -61,14 +60,14 @@ module _ (S : Scheme) (U : Values) (A : Accepted S) where
 
   -- ---- rows
 
-  private-member : (x v : ℕ) → member v (private_values_of S U x) ≡ true → (S.publics ≤ v) × (v < S.publics + U.privates) × (allows S U x v ≡ true)
+  pub private-member : (x v : ℕ) → member v (private_values_of S U x) ≡ true → (S.publics ≤ v) × (v < S.publics + U.privates) × (allows S U x v ≡ true)
   unfolding private_values_of allows
   private-member x v m =
       let k : (U.reach x v && member v (private_value_list S U)) ≡ true = sym (member-keep (U.reach x) v (private_value_list S U)) ∙ m in
       let (lo, hi) = from_member v S.publics U.privates (and_right (U.reach x v) (member v (private_value_list S U)) k) in
       (lo, hi, rw (lt-ltb v (S.publics + U.privates) hi) (and_left (U.reach x v) (member v (private_value_list S U)) k))
 
-  member-private : (x v : ℕ) → S.publics ≤ v → allows S U x v ≡ true → member v (private_values_of S U x) ≡ true
+  pub member-private : (x v : ℕ) → S.publics ≤ v → allows S U x v ≡ true → member v (private_values_of S U x) ≡ true
   unfolding private_values_of allows
   member-private x v lo al =
       member-keep (U.reach x) v (private_value_list S U)

@@ -21,11 +21,10 @@ use Rattle.places.specs.Reach.{values_for}
 use Rattle.places.specs.Places.{places}
 use Rattle.readback.specs.Configurations.{Configuration, shown_node_of, state_shown}
 use Rattle.readback.specs.Reading.{configuration, reading_back, words}
-use Rattle.fidelity.specs.Inner.Elements.{Element, here, there}
+use Rattle.readback.proofs.Elements.{Element, here, there, element-member}
 use Rattle.fidelity.specs.Inner.Marks.{WellFormed}
 use Rattle.fidelity.specs.Inner.Shapes.{EnoughValues}
 use Rattle.fidelity.specs.Inner.Standing.{source, shown, marking_of}
-use Rattle.fidelity.proofs.Elements.{element-member}
 use Rattle.fidelity.proofs.Tables.{no-thread}
 use Rattle.fidelity.proofs.Shown.{source-own}
 use Rattle.fidelity.proofs.Listed.{range-below}

@@ -8,7 +8,7 @@ use mathlib.Core.List.{List, [], ◌∷◌, map, append-nil}
 use native.Mathlib.Decide.{ℕ_discrete}
 use lib.Dec.{ltb}
 use borrow.Author.Tests.{ltb-true}
-use Rattle.lists.specs.Lists.{pick, from, range, keep, flat, Distinct}
+use Rattle.lists.specs.Lists.{pick, bit, same, from, range, keep, flat, Distinct}
 use Rattle.lists.proofs.Tests.{and_left, and_right, same_self, same-no, not-true-false}
 use Rattle.lists.proofs.Ranges.{member-from}
 use Rattle.lists.proofs.Members.{distinct_from, distinct-keep, distinct-one}
@@ -18,14 +18,24 @@ use Rattle.places.specs.Values.{Values, values_of, private_value_list, private_v
 use Rattle.places.specs.Places.{Place, equals, differs, free, control, controls, control_places, row, rows, places}
 use Rattle.readback.specs.Configurations.{Spot, spot, Configuration, is_spot}
 use Rattle.readback.specs.Reading.{marked, spot_list, values_in, spots, values}
-use Rattle.fidelity.specs.Inner.Elements.{Element}
+use Rattle.readback.proofs.Elements.{Element, no-element, append-element, map-element, flat-element, member-element}
+use Rattle.readback.proofs.Sifted.{sift-append, sift-map, sift-flat, sift-none, flat-none, flat-only}
 use Rattle.fidelity.specs.Inner.Marks.{holds, mark, WellFormed}
 use Rattle.fidelity.specs.Inner.Standing.{marking_of}
 use Rattle.fidelity.proofs.Basics.{same_spot-true}
-use Rattle.fidelity.proofs.Elements.{no-element, append-element, map-element, flat-element, member-element}
 use Rattle.fidelity.proofs.Listed.{below-range, takes-member}
 use Rattle.fidelity.proofs.Places.{spot-test}
-use Rattle.fidelity.proofs.Sifted.{marked-keep, sift-append, sift-map, sift-flat, sift-none, flat-none, flat-only}
+
+bit_test : (b : Bool) → same (bit b) 1 ≡ b
+unfolding same
+bit_test true = refl
+bit_test false = refl
+
+-- the places with a token are those that the test picks
+marked-keep : (f : Place → Bool) (ps : List Place) → marked ps (map (λ p. bit (f p)) ps) ≡ keep f ps
+unfolding marked keep
+marked-keep f [] = refl
+marked-keep f (p ∷ ps) = rw (bit_test (f p), marked-keep f ps)
 
 module _ (S : Scheme) (U : Values) (A : Accepted S) where
   -- the marked places of a configuration

@@ -20,19 +20,19 @@ use Rattle.net.proofs.Runs.{lowest-met}
 use Rattle.net.proofs.Steps.{step-as, step-contact, step-made}
 
 lowest-nothing : (t : ℕ) → lowest t ≡ nothing → ⊥
-lowest-nothing t e = let z : ◌≡◌ {A = ℕ} 0 1 = cc in omega arith
+lowest-nothing t e = cc
 
 malformed-nothing : malformed ≡ nothing → ⊥
-malformed-nothing e = let z : ◌≡◌ {A = ℕ} 0 1 = cc in omega arith
+malformed-nothing e = cc
 
 malformed-lowest : (t : ℕ) → malformed ≡ lowest t → ⊥
-malformed-lowest t e = let z : ◌≡◌ {A = ℕ} 0 1 = cc in omega arith
+malformed-lowest t e = cc
 
 lowest-malformed : (t : ℕ) → lowest t ≡ malformed → ⊥
-lowest-malformed t e = let z : ◌≡◌ {A = ℕ} 0 1 = cc in omega arith
+lowest-malformed t e = cc
 
 nothing-malformed : nothing ≡ malformed → ⊥
-nothing-malformed e = let z : ◌≡◌ {A = ℕ} 0 1 = cc in omega arith
+nothing-malformed e = cc
 
 same-lowest : (t u : ℕ) → lowest t ≡ lowest u → t ≡ u
 same-lowest t u e = cc
@@ -113,7 +113,7 @@ enabled-refused w m t k h r on q =
     go (has_contact m (inputs_at w t) (outputs_at w t)) refl (sym q ∙ step-as w m t h r (inputs_at w t) (outputs_at w t) refl refl)
   where
     apart : (n : List ℕ) → refused k ≡ made n → ⊥
-    apart n e = let z : ◌≡◌ {A = ℕ} 0 1 = cc in omega arith
+    apart n e = cc
 
     go : (b : Bool) → has_contact m (inputs_at w t) (outputs_at w t) ≡ b → refused k ≡ step_of m (inputs_at w t) (outputs_at w t) → k ≡ 16
     go true c e = let z : refused k ≡ refused 16 = e ∙ step-contact m (inputs_at w t) (outputs_at w t) on c in cc

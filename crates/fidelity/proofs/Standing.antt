@@ -3,7 +3,7 @@ use Prim.Native.Nat.{ℕ, zero, suc, ◌+◌, ◌-◌, ◌≤◌, ◌<◌}
 use mathlib.Core.Path.{◌≡◌, refl, sym, ap, ◌∙◌, subst}
 use mathlib.Core.Logic.{◌⊎◌, inl, inr}
 use mathlib.Core.Bool.{Bool, true, false, not, ◌&&◌, ◌||◌, true≢false, false≢true}
-use mathlib.Core.Option.{Option, none, some}
+use mathlib.Core.Option.{some}
 use mathlib.Core.List.{List, [], ◌∷◌}
 use native.Mathlib.Decide.{dec_lt}
 use native.Mathlib.Omega.{arith}
@@ -11,8 +11,9 @@ use lib.Dec.{ltb, leb}
 use lib.ListN.{length, get_or, take, drop}
 use lib.Seq.{ext_get_or}
 use borrow.Author.Tests.{lt-ltb, le-ltb, leb-true, ltb-true}
+use Rattle.std.proofs.lemmas.List.{get_or-map}
 use Rattle.lists.specs.Lists.{pick, bit, same, from, range, every, keep, member}
-use Rattle.lists.proofs.Tests.{both_ways, and_left, and_right, and_intro, not-true-false, same_self, same_true}
+use Rattle.lists.proofs.Tests.{both_ways, and_left, and_right, and_intro, not-true-false, same_self, same_true, bit-small}
 use Rattle.lists.proofs.Ranges.{every-at, every-below, every-member, member-from}
 use Rattle.lists.proofs.Members.{member-keep, member-here, member-cases, member-nil, member-take, member-drop, append-member}
 use Rattle.scheme.specs.Scheme.{Scheme, Node, stop, choice, new, call}
@@ -26,17 +27,15 @@ use Rattle.places.proofs.Rows as Rows
 use Rattle.readback.specs.Configurations.{Spot, spot, Configuration, held_here}
 use Rattle.readback.specs.Reading.{is_same_place, marked, has, spot_list, values_in, spots, values, first_spot, first_value_of, configuration}
 use Rattle.readback.specs.Reading.{has_one_spot, is_one_value, opposite, free_right, stands_for_state}
-use Rattle.fidelity.specs.Inner.Elements.{Element, here, there}
+use Rattle.readback.proofs.Elements.{Element, here, there, no-element, element-cases, element-at, element-member, member-element, some-element, element-some}
+use Rattle.readback.proofs.Elements.{flat-element, element-flat}
 use Rattle.fidelity.specs.Inner.Marks.{same_spot, holds, given, used, mark, is_place, is_held, allows, WellFormed}
 use Rattle.fidelity.specs.Inner.Marks.{Exists, exists-equals, exists-differs, exists-free, exists-control}
 use Rattle.fidelity.specs.Inner.Shapes.{EnoughValues}
 use Rattle.fidelity.specs.Inner.Standing.{marking_of}
-use Rattle.fidelity.proofs.Basics.{holds-eq, holds-some, none-some, same_spot-self, same_spot-true}
-use Rattle.fidelity.proofs.Elements.{no-element, element-cases, element-at, element-member, member-element}
-use Rattle.fidelity.proofs.Elements.{some-element, element-some, flat-element, element-flat}
+use Rattle.fidelity.proofs.Basics.{given_is, holds-eq, holds-some, none-some, same_spot-self, same_spot-true}
 use Rattle.fidelity.proofs.Firing.{used-of, used-true}
-use Rattle.fidelity.proofs.Places.{listed-exists, exists-listed}
-use Rattle.fidelity.proofs.Positions.{get_or-mapped}
+use Rattle.fidelity.proofs.Places.{listed-exists, exists-listed, member-private}
 use Rattle.fidelity.proofs.Having.{same_place, place_same, element-keep, keep-element}
 use Rattle.fidelity.proofs.Numbers.{marking-length}
 
@@ -64,10 +63,6 @@ given-count S U ms [] true h = absurd (let e : 0 ≡ 1 = same_true 0 1 h in omeg
 given-count S U ms [] false h = refl
 given-count S U ms (v ∷ l) true h = refl
 given-count S U ms (v ∷ l) false h = absurd (let e : length (v ∷ l) ≡ 0 = same_true (length (v ∷ l)) 0 h in omega arith)
-
-bit_le : (b : Bool) → bit b ≤ 1
-bit_le true = omega arith
-bit_le false = omega arith
 
 byte-bit : (b : ℕ) → b ≤ 1 → b ≡ bit (same b 1)
 unfolding same
@@ -182,7 +177,7 @@ module _ (S : Scheme) (U : Values) (A : Accepted S) (m : List ℕ) (hm : is_mark
   value-few : (x : ℕ) → S.publics ≤ x → x < S.publics + S.bounds → length (values S U ms x) ≤ 1
   value-few x lo hi =
       let b : Bool = member x (held_here S (read.at (S.thread_of_name x))) in
-      omega (arith, same_true (length (values S U ms x)) (bit b) (value-count x lo hi), bit_le b)
+      omega (arith, same_true (length (values S U ms x)) (bit b) (value-count x lo hi), bit-small b)
 
   value-is : (x : ℕ) → S.publics ≤ x → read.value x ≡ first_value_of S U ms (values S U ms x)
   unfolding configuration
@@ -267,19 +262,12 @@ module _ (S : Scheme) (U : Values) (A : Accepted S) (m : List ℕ) (hm : is_mark
   turned false true h = refl
   turned false false h = absurd (false≢true h)
 
-  in-private : (x v : ℕ) → S.publics ≤ v → allows S U x v ≡ true → member v (private_values_of S U x) ≡ true
-  unfolding private_values_of allows
-  in-private x v lo al =
-      member-keep (U.reach x) v (private_value_list S U)
-      ∙ and_intro (U.reach x v) (member v (private_value_list S U)) (and_right (ltb v (S.publics + U.privates)) (U.reach x v) al)
-      (member-from v S.publics U.privates lo (ltb-true v (S.publics + U.privates) (and_left (ltb v (S.publics + U.privates)) (U.reach x v) al)))
-
   differs-chosen : (x v : ℕ) → S.publics ≤ x → x < S.publics + S.bounds → S.restricted x ≡ false → S.publics ≤ v → allows S U x v ≡ true
       → not (holds (read.value x) v) ≡ chosen (differs x v)
   differs-chosen x v lo hi r pv al =
       let o : every (opposite S U ms x) (private_values_of S U x) ≡ true
       = rw r at (every-at (λ x. S.restricted x || every (opposite S U ms x) (private_values_of S U x)) S.publics S.bounds tests.2 x lo hi) in
-      let q : opposite S U ms x v ≡ true = every-member (opposite S U ms x) (private_values_of S U x) o v (in-private x v pv al) in
+      let q : opposite S U ms x v ≡ true = every-member (opposite S U ms x) (private_values_of S U x) o v (member-private S U A x v pv al) in
       let e : has ms (differs x v) ≡ not (has ms (equals x v)) = turned (has ms (differs x v)) (has ms (equals x v)) q in
       rw (
         holds-chosen x v lo hi (exists-equals lo hi al),
@@ -372,7 +360,7 @@ module _ (S : Scheme) (U : Values) (A : Accepted S) (m : List ℕ) (hm : is_mark
           byte-bit (get_or m k 0) (byte_small k l)
           ∙ ap bit (ap (λ (j : ℕ). same (get_or m j 0) 1) (sym (Rows.number_at S U (free 0) k b))
           ∙ sym (mark-chosen E (get_or (places S U) k (free 0)) (listed-exists S U A (element-at (free 0) (places S U) k b))))
-          ∙ sym (get_or-mapped (λ p. bit (mark S read p)) 0 (free 0) (places S U) k b)
+          ∙ sym (get_or-map (λ p. bit (mark S read p)) (places S U) k (free 0) 0 b)
 
   -- ---- well-formed
 
@@ -395,10 +383,6 @@ module _ (S : Scheme) (U : Values) (A : Accepted S) (m : List ℕ) (hm : is_mark
               → x < S.publics + S.bounds
           side (inl q) = (A.formal-name d x (member-take x (p.index - 1) (S.formals d) q)).high
           side (inr q) = (A.held-name p.node x (member-drop x (p.index - suc (length (S.formals d))) (S.held p.node) q)).high
-
-  given-some : (o : Option ℕ) → given o ≡ true → (v : ℕ) × (o ≡ some v)
-  given-some none h = absurd (false≢true h)
-  given-some (some v) h = (v, refl)
 
   pub read-formed : EnoughValues S U → WellFormed S U read
   unfolding configuration allows
@@ -423,7 +407,7 @@ module _ (S : Scheme) (U : Values) (A : Accepted S) (m : List ℕ) (hm : is_mark
       go x lo (yes hi) = value-held x lo hi
       go x lo (no n) =
           let a : given (read.value x) ≡ false
-          = not-true-false (given (read.value x)) (λ h. let (v, q) = given-some (read.value x) h in absurd (n (value-allowed x v lo q).0)) in
+          = not-true-false (given (read.value x)) (λ h. let (v, q) = given_is (read.value x) h in absurd (n (value-allowed x v lo q).0)) in
           let b : is_held S (read.at (S.thread_of_name x)) x ≡ false
           = not-true-false (is_held S (read.at (S.thread_of_name x)) x) (λ h. absurd (n (held-bound (read.at (S.thread_of_name x)) x h))) in
           a ∙ sym b

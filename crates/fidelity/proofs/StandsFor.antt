@@ -8,25 +8,25 @@ use mathlib.Core.List.{List, [], ◌∷◌}
 use native.Mathlib.Decide.{dec_le}
 use native.Mathlib.Omega.{arith}
 use borrow.Author.Tests.{lt-ltb, le-ltb}
-use lib.Dec.{ltb}
 use lib.ListN.{length}
-use Rattle.lists.specs.Lists.{pick, bit, same, from, every, flat, member}
-use Rattle.lists.proofs.Tests.{and_intro, and_left, and_right, not-true-false, same_self}
-use Rattle.lists.proofs.Ranges.{every-all, below-every, member-from, from_member}
-use Rattle.lists.proofs.Members.{distinct_from, member-here, member-there, member-keep}
+use Rattle.lists.specs.Lists.{pick, bit, same, from, every, flat}
+use Rattle.lists.proofs.Tests.{and_left, and_right, not-true-false, same_self}
+use Rattle.lists.proofs.Ranges.{member-every, every-all, below-every, member-from}
+use Rattle.lists.proofs.Members.{distinct_from}
 use Rattle.lists.proofs.Counts.{flat-keep-length}
 use Rattle.scheme.specs.Scheme.{Scheme}
 use Rattle.table.specs.Accepted.{Accepted}
-use Rattle.places.specs.Values.{Values, private_value_list, private_values_of}
+use Rattle.places.specs.Values.{Values, private_values_of}
 use Rattle.places.specs.Places.{Place, equals, differs, free}
 use Rattle.readback.specs.Configurations.{Configuration}
 use Rattle.readback.specs.Reading.{has, configuration, first_value_of, has_one_spot, is_one_value, opposite, free_right, stands_for_state}
 use Rattle.fidelity.specs.Inner.Marks.{holds, given, used, allows, WellFormed, exists-equals, exists-differs, exists-free}
 use Rattle.fidelity.specs.Inner.Shapes.{EnoughValues}
 use Rattle.fidelity.proofs.Basics.{holds-eq, holds-some}
-use Rattle.fidelity.proofs.Elements.{member-element}
+use Rattle.readback.proofs.Elements.{member-element}
+use Rattle.readback.proofs.Sifted.{flat-none, flat-only}
 use Rattle.fidelity.proofs.Firing.{used-of, used-true}
-use Rattle.fidelity.proofs.Sifted.{flat-none, flat-only}
+use Rattle.fidelity.proofs.Places.{private-member}
 use Rattle.fidelity.proofs.Readings.{marked_by, value_list, values-read, spots-read}
 use Rattle.fidelity.proofs.Having.{has-mark}
 
@@ -115,25 +115,12 @@ module _ (S : Scheme) (U : Values) (A : Accepted S) (E : EnoughValues S U) (c : 
 
   -- ---- the whole test
 
-  every_of : (p : ℕ → Bool) (xs : List ℕ) → ((v : ℕ) → member v xs ≡ true → p v ≡ true) → every p xs ≡ true
-  unfolding every
-  every_of p [] h = refl
-  every_of p (x ∷ xs) h = rw (h x (member-here x xs)) (every_of p xs (λ v m. h v (member-there v x xs m)))
-
-  kept-allows : (x v : ℕ) → member v (private_values_of S U x) ≡ true → (S.publics ≤ v) × (allows S U x v ≡ true)
-  unfolding private_values_of allows
-  kept-allows x v m =
-      let q : (U.reach x v && member v (private_value_list S U)) ≡ true = sym (member-keep (U.reach x) v (private_value_list S U)) ∙ m in
-      let (lo, hi) = from_member v S.publics U.privates (and_right (U.reach x v) (member v (private_value_list S U)) q) in
-      let r : U.reach x v ≡ true = and_left (U.reach x v) (member v (private_value_list S U)) q in
-      (lo, and_intro (ltb v (S.publics + U.privates)) (U.reach x v) (lt-ltb v (S.publics + U.privates) hi) r)
-
   all-opposite : (x : ℕ) → S.publics ≤ x → x < S.publics + S.bounds → (S.restricted x || every (opposite S U ms x) (private_values_of S U x)) ≡ true
   all-opposite x lo hi = go (S.restricted x) refl
     where
       go : (b : Bool) → S.restricted x ≡ b → (b || every (opposite S U ms x) (private_values_of S U x)) ≡ true
       go true r = refl
-      go false r = every_of (opposite S U ms x) (private_values_of S U x) (λ v m. let (pv, al) = kept-allows x v m in opposites x v lo hi r pv al)
+      go false r = member-every (opposite S U ms x) (private_values_of S U x) (λ v m. let (pv, _, al) = private-member S U A x v m in opposites x v lo hi r pv al)
 
   pub stands-for : stands_for_state S U ms ≡ true
   unfolding stands_for_state

@@ -23,7 +23,7 @@ use Rattle.fidelity.specs.Inner.Marks.{is_held, mark, Exists, exists-equals, exi
 use Rattle.fidelity.specs.Inner.Standing.{source, shown, Shows}
 use Rattle.fidelity.specs.Inner.Starting.{start_configuration}
 use Rattle.fidelity.proofs.Basics.{none-some}
-use Rattle.fidelity.proofs.Elements.{some-element, element-some, element-member, member-element}
+use Rattle.readback.proofs.Elements.{some-element, element-some, element-member, member-element}
 use Rattle.fidelity.proofs.Tables.{no-thread}
 use Rattle.fidelity.proofs.Firing.{used-none}
 use Rattle.fidelity.proofs.Shapes.{held_first, place-first}

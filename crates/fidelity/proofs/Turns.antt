@@ -37,6 +37,11 @@ use Rattle.fidelity.proofs.Built.{description_at, described-at, label_is, Does, 
 abbrev pub image : List ℕ → List ℕ
 image w = image_of w
 
+-- a firing that stops a turn has a cause
+pub has-cause : {cause : ℕ} → (cause ≡ 14) ⊎ (cause ≡ 15) → cause ≡ 0 → ⊥
+has-cause (inl a) b = omega arith
+has-cause (inr a) b = omega arith
+
 module _ (w : List ℕ) (A : Accepted (scheme w)) where
   abbrev pub S : Scheme
   S = scheme w
@@ -106,11 +111,7 @@ module _ (w : List ℕ) (A : Accepted (scheme w)) where
           → ((row : ℕ) (c : Configuration) (s : State) → Shows S U c s → row + left c ≤ 2 * S.bounds
           → (in_turn (image w) (marking_of S U c) ns).cause ≡ 0 → Kept row c s ns)
           → Kept row c s (k ∷ ns)
-      go (stops cause h14 q) ih = absurd (off h14 (sym (ap (λ (o : Outcome). o.cause) (turn-refused (image w) (marking_of S U c) k ns cause q)) ∙ e))
-        where
-          off : (cause ≡ 14) ⊎ (cause ≡ 15) → cause ≡ 0 → ⊥
-          off (inl a) b = omega arith
-          off (inr a) b = omega arith
+      go (stops cause h14 q) ih = absurd (has-cause h14 (sym (ap (λ (o : Outcome). o.cause) (turn-refused (image w) (marking_of S U c) k ns cause q)) ∙ e))
       go (goes d N q o b) ih =
           build (ih (pick (is_quiet w (image w) k) (suc row) 0) d (advance w (image w) s k) N b (sym (ap (λ (o : Outcome). o.cause) p) ∙ e))
         where

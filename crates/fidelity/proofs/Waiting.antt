@@ -24,7 +24,7 @@ use Rattle.fidelity.specs.Inner.Marks.{after, Fits, WellFormed}
 use Rattle.fidelity.specs.Inner.Shapes.{Described}
 use Rattle.fidelity.specs.Inner.Standing.{Shows, marking_of}
 use Rattle.fidelity.specs.Inner.Runs.{quiet, AllQuiet, Run, done, more}
-use Rattle.fidelity.proofs.Elements.{element-position}
+use Rattle.readback.proofs.Elements.{element-position}
 use Rattle.fidelity.proofs.Firing.{well-formed-after}
 use Rattle.fidelity.proofs.Shapes.{shaped}
 use Rattle.fidelity.proofs.Opening.{test-open}

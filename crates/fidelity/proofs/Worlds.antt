@@ -21,7 +21,7 @@ use Rattle.fidelity.specs.Inner.Standing.{Shows, marking_of}
 use Rattle.fidelity.proofs.Searching.{Sound}
 use Rattle.fidelity.proofs.Rows.{left-bound}
 use Rattle.fidelity.proofs.Built as Built
-use Rattle.fidelity.proofs.Turns.{image, S, U, E, Acts, goes, stops, acts}
+use Rattle.fidelity.proofs.Turns.{image, S, U, E, Acts, goes, stops, has-cause, acts}
 
 -- a cause that a number on a built net has
 abbrev pub Calm : ℕ → Type 0
@@ -92,11 +92,7 @@ module _ (w : List ℕ) (A : Accepted (scheme w)) where
     where
       go : Acts w A c s 0 k → ((c : Configuration) (s : State) → Standing c s → (in_turn (image w) (marks c) a).cause ≡ 0 → Joined (marks c) a b)
           → Joined (marks c) (k ∷ a) b
-      go (stops cause o e) ih = absurd (off o (sym (ap (λ (o : Outcome). o.cause) (turn-refused (image w) (marks c) k a cause e)) ∙ h))
-        where
-          off : (cause ≡ 14) ⊎ (cause ≡ 15) → cause ≡ 0 → ⊥
-          off (inl x) y = omega arith
-          off (inr x) y = omega arith
+      go (stops cause o e) ih = absurd (has-cause o (sym (ap (λ (o : Outcome). o.cause) (turn-refused (image w) (marks c) k a cause e)) ∙ h))
       go (goes d N e o l) ih = build (ih d (advance w (image w) s k) N (sym (ap (λ (o : Outcome). o.cause) p) ∙ h))
         where
           p : in_turn (image w) (marks c) (k ∷ a) ≡ Firing.after 1 (in_turn (image w) (marks d) a)
@@ -130,7 +126,7 @@ module _ (w : List ℕ) (A : Accepted (scheme w)) where
       same-refused a b e = cc
 
       apart : (a : ℕ) (m : List ℕ) → refused a ≡ made m → ⊥
-      apart a m e = let z : ◌≡◌ {A = ℕ} 0 1 = cc in omega arith
+      apart a m e = cc
 
       same-made : (a b : List ℕ) → made a ≡ made b → a ≡ b
       same-made a b e = cc

@@ -4,7 +4,6 @@ use Prim.Native.Nat.{ℕ, suc}
 use mathlib.Core.Path.{◌≡◌, refl}
 use mathlib.Core.Bool.{true, false, false≢true}
 use mathlib.Core.List.{List, [], ◌∷◌, ◌++◌, map}
-use native.Mathlib.Omega.{arith}
 use lib.ListN.{length, set}
 use Rattle.lists.specs.Lists.{from, range, every, flat}
 use Rattle.lists.proofs.Tests.{not-true-false}
@@ -70,7 +69,7 @@ replays-not-heard claim = apart (claim one_step refl (fire 0 ∷ replay [] ∷ [
   where
     -- it reads 0, and the process stands at 1
     apart : words (0 ∷ []) ≡ words (1 ∷ []) → ⊥
-    apart e = let z : ◌≡◌ {A = ℕ} 0 1 = cc in omega arith
+    apart e = cc
 
 -- ---- releases before copies
 

@@ -1,5 +1,4 @@
 -- What only the proof of demand 3 cites.
-pub mod Elements
 pub mod Marks
 pub mod Shapes
 pub mod Standing

@@ -55,109 +55,67 @@
 mod causes;
 mod changes;
 mod digest;
+mod items;
 mod line;
 mod nets;
-mod sizes;
 mod states;
 mod summaries;
 mod tables;
 mod text;
 
-use crate::sizes::Sizes;
+use crate::items::Store;
+use crate::line::Request;
 use std::io;
 use std::io::Write;
 
-// Answers the request of a line's fields, and tells the lengths of what is kept after it.
-fn answer(
-    out: &mut impl Write,
-    fields: &[usize],
-    count: usize,
-    sizes: Sizes,
-    table: &mut [u16; 4096],
-    image: &mut [u32; 131072],
-    marking: &mut [u8; 32768],
-    counts: &mut [u32; 32768],
-    enabled: &mut [u64; 512],
-    history: &mut [u32; 4096],
-    state: &mut [u16; 64],
-) -> io::Result<Sizes> {
-    let request = line::request_of(fields, count);
-    let letter = request.letter;
-    text::byte(out, letter)?;
-    match letter {
-        b't' => changes::table(out, request, fields, sizes, table),
-        b'w' | b'j' | b'i' => changes::image(out, request, fields, sizes, image),
-        b'p' | b'l' | b'm' => changes::marking(out, request, fields, sizes, marking),
-        b'x' | b'y' => changes::state(out, request, fields, sizes, state),
-        b'b' => nets::build(out, request, sizes, table, image),
-        b'z' => nets::size(out, sizes, table),
-        b'f' | b'r' | b'h' => nets::play(out, request, fields, sizes, image, marking, history),
-        b'e' => nets::look(out, request, sizes, image, marking),
-        b'c' => summaries::make(out, request, sizes, image, marking, counts, enabled),
-        b'd' => changes::counts(out, request, fields, sizes, counts),
-        b'n' => changes::enabled(out, request, fields, sizes, enabled),
-        b'F' => summaries::fire(out, request, sizes, image, marking, counts, enabled),
-        b'K' => summaries::check(out, sizes, image, marking, counts, enabled),
-        b'L' => summaries::find(out, sizes, enabled),
-        b'u' | b'U' => nets::run(out, request, sizes, image, marking, history),
-        b'g' | b's' | b'k' => states::next(out, request, sizes, table, marking, state),
-        b'o' => states::open_steps(out, request, sizes, table, state),
-        b'v' => tables::rewrite(out, request, sizes, table),
-        b'a' => tables::original(out, request, sizes, table),
-        _ => Ok(sizes),
+// Answers a request.
+fn answer(out: &mut impl Write, request: Request, store: &mut Store) -> io::Result<()> {
+    match request.letter {
+        b't' => changes::table(out, request, &mut store.table),
+        b'w' | b'j' | b'i' => changes::list(out, request, &mut store.image),
+        b'p' | b'l' | b'm' => changes::list(out, request, &mut store.marking),
+        b'x' | b'y' => changes::list(out, request, &mut store.state),
+        b'd' => changes::list(out, request, &mut store.counts),
+        b'n' => changes::list(out, request, &mut store.enabled),
+        b'b' => nets::build(out, request, store),
+        b'z' => nets::size(out, store.table.items()),
+        b'f' | b'r' | b'h' => nets::play(out, request, store),
+        b'e' => nets::look(out, request, store),
+        b'u' | b'U' => nets::run(out, request, store),
+        b'c' => summaries::make(out, request, store),
+        b'F' => summaries::fire(out, request, store),
+        b'K' => summaries::check(out, store),
+        b'L' => summaries::find(out, store.enabled.items()),
+        b'g' | b's' | b'k' => states::next(out, request, store),
+        b'o' => states::open_steps(out, request, store),
+        b'v' => tables::rewrite(out, request, store.table.items()),
+        b'a' => tables::original(out, request, store.table.items()),
+        _ => Ok(()),
     }
 }
 
-// Answers the request of each whole line.
-fn answer_lines(
-    out: &mut impl Write,
-    input: &[u8],
-    table: &mut [u16; 4096],
-    image: &mut [u32; 131072],
-    marking: &mut [u8; 32768],
-    counts: &mut [u32; 32768],
-    enabled: &mut [u64; 512],
-    history: &mut [u32; 4096],
-    state: &mut [u16; 64],
-) -> io::Result<()> {
-    let count = input.len();
-    let mut sizes = sizes::none();
-    let mut at: usize = 0;
-    while at < count {
-        let end = line::end_from(input, at, count);
-        if end == count {
-            return Ok(());
-        }
-        let mut fields = [0usize; 4096];
-        let numbers = line::fields_of(input, at, end, &mut fields);
-        sizes = answer(
-            out, &fields, numbers, sizes, table, image, marking, counts, enabled, history, state,
-        )?;
-        text::byte(out, b'\n')?;
-        at = end + 1;
+// Answers a line.
+fn answer_line(out: &mut impl Write, line: &[u8], store: &mut Store) -> io::Result<()> {
+    let mut fields = [0usize; 4096];
+    let request = line::request_of(line, &mut fields);
+    out.write_all(&[request.letter])?;
+    answer(out, request, store)?;
+    writeln!(out)
+}
+
+// Answers each whole line.
+fn answer_lines(out: &mut impl Write, input: &[u8], store: &mut Store) -> io::Result<()> {
+    let mut rest = input;
+    while let Some(end) = rest.iter().position(|byte| *byte == b'\n') {
+        answer_line(out, &rest[..end], store)?;
+        rest = &rest[end + 1..];
     }
     Ok(())
 }
 
 fn main(rt: HostRuntime) -> io::Result<()> {
-    let mut table = [0u16; 4096];
-    let mut image = [0u32; 131072];
-    let mut marking = [0u8; 32768];
-    let mut counts = [0u32; 32768];
-    let mut enabled = [0u64; 512];
-    let mut history = [0u32; 4096];
-    let mut state = [0u16; 64];
+    let mut store = items::nothing();
     let mut input = [0u8; 1048576];
     let count = line::read(&mut rt.stdin(), &mut input)?;
-    answer_lines(
-        &mut rt.stdout(),
-        &input[..count],
-        &mut table,
-        &mut image,
-        &mut marking,
-        &mut counts,
-        &mut enabled,
-        &mut history,
-        &mut state,
-    )
+    answer_lines(&mut rt.stdout(), &input[..count], &mut store)
 }

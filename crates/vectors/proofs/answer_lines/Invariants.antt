@@ -1,8 +1,6 @@
-use Rattle.std.proofs.Common.{◌-◌, ◌≤◌}
+-- Measure: what is left of the input.
+use Rattle.std.proofs.Common.{length}
 use Rattle.vectors.proofs.answer_lines.Given as goal
 
-abbrev pub invariant-loop-at : goal.invariant-loop-at
-invariant-loop-at t l = l.at ≤ l.count
-
-abbrev pub decreases-loop-at : goal.decreases-loop-at
-decreases-loop-at t l = l.count - l.at
+abbrev pub decreases-loop-end : goal.decreases-loop-end
+decreases-loop-end t l = length l.rest
