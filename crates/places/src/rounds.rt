@@ -208,10 +208,7 @@ fn settle(table: &[u16], index: &[u32], words: &mut [u64], ears: &mut [u64])
         × (ears.old ≡ replicate 72 0) }
     ensures { Found (scheme table.now) words.new }
 {
-    let mut grew = true;
-    while grew {
-        grew = round(table, index, words, ears);
-    }
+    while round(table, index, words, ears) {}
 }
 
 // Writes `size` digits of each set, from digit `first` on, as 64 words from `at` on; the sets from n on are empty.
