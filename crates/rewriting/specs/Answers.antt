@@ -1,23 +1,24 @@
 -- The documents' number, and the value, of each case of an answer.
 use Rattle.std.proofs.Math.Option.{Option, none, some}
-use Rattle.std.specs.Prelude.{List, ℕ}
-use Rattle.table.specs.Answer.{cause_of}
+use Rattle.std.specs.Prelude.{List, ℕ, Result, Ok, Err}
+use Rattle.table.specs.Answer.{cause_number}
 use Rattle.process.specs.Outcomes.{Outcome}
-use Rattle.rewriting.specs.declared.Answer.{Answer}
-use Rattle.rewriting.specs.declared.Answer.TheVariants.{Done, Refused, NoRoom, Missing}
+use Rattle.rewriting.specs.declared.Refusal.{Refusal}
+use Rattle.rewriting.specs.declared.Refusal.TheVariants.{Table, NoRoom, Missing}
 
-abbrev pub answer_number : Answer → ℕ
-answer_number (Done n) = 0
-answer_number (Refused v) = cause_of v
-answer_number NoRoom = 10
-answer_number Missing = 5
+abbrev pub refusal_number : Refusal → ℕ
+refusal_number (Table cause) = cause_number cause
+refusal_number NoRoom = 10
+refusal_number Missing = 5
 
-abbrev pub answer_value : Answer → Option ℕ
-answer_value (Done n) = some n
-answer_value (Refused v) = none
-answer_value NoRoom = none
-answer_value Missing = none
+abbrev pub answer_number : Result ℕ Refusal → ℕ
+answer_number (Ok n) = 0
+answer_number (Err refusal) = refusal_number refusal
+
+abbrev pub answer_value : Result ℕ Refusal → Option ℕ
+answer_value (Ok n) = some n
+answer_value (Err refusal) = none
 
 -- an answer with the lent words as the call left them
-abbrev pub outcome_of : Answer → List ℕ → Outcome
+abbrev pub outcome_of : Result ℕ Refusal → List ℕ → Outcome
 outcome_of answer words = record { number = answer_number answer; value = answer_value answer; left = words }

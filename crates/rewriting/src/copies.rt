@@ -53,13 +53,6 @@ pub(crate) fn originals(list: &[u32], copies: Counts, part: Part) -> &[u32]
     }
 }
 
-// The copies of a table that can be rewritten, or what refuses it.
-#[derive(Clone, Copy)]
-pub enum Prepared {
-    Ready(Counts),
-    Refused(table::Verdict),
-}
-
 // Whether a node is a Call of the definition that it stands in.
 pub(crate) fn calls_itself(table: &[u16], index: &[u32], node: usize) -> bool
     ensures { result ≡ self_call table.now (definitions_in index.now) node }
@@ -223,20 +216,20 @@ pub(crate) fn within(counts: Counts) -> bool
         && counts.arguments <= 256
 }
 
-// Checks a table, fills in its index, and lists what is copied.
-pub(crate) fn prepare(table: &[u16], index: &mut [u32], list: &mut [u32]) -> Prepared
+// Checks a table, fills in its index, and lists what is copied; how many there are of each, or what refuses the table.
+pub(crate) fn prepare(
+    table: &[u16],
+    index: &mut [u32],
+    list: &mut [u32],
+) -> Result<Counts, table::Cause>
     requires { (length index.old ≡ index_end) × (length list.old ≡ 1280) }
     ensures { PreparedRight table.now index.new list.new result }
 {
-    let verdict = table::check_sparing(table, true);
-    if !table::is_accepted(verdict) {
-        return Prepared::Refused(verdict);
-    }
+    table::check_sparing(table, true)?;
     fill(table, index);
     let copies = list_copies(table, index, list);
-    let counts = with_copies(table, copies);
-    if within(counts) {
-        return Prepared::Ready(copies);
+    if !within(with_copies(table, copies)) {
+        return Err(table::Cause::Counts);
     }
-    Prepared::Refused(table::Verdict::Counts)
+    Ok(copies)
 }

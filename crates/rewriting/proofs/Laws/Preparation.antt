@@ -1,6 +1,6 @@
 -- Whether a table can be rewritten, by its cause and its counts, and what the calls answer then.
 use mathlib.Core.Path.{◌≡◌, sym, ap, ◌∙◌}
-use mathlib.Core.Bool.{Bool, true, false, not}
+use mathlib.Core.Bool.{true, false}
 use mathlib.Core.Logic.{◌⊎◌, inl, inr}
 use mathlib.Core.Option.{some}
 use mathlib.Core.List.{List, [], ◌++◌}
@@ -8,14 +8,15 @@ use Prim.Native.Nat.{ℕ, ◌+◌, ◌-◌, ◌≤◌, ◌<◌}
 use native.Mathlib.Omega.{arith}
 use lib.ListN.{length, length-append, get_or-append}
 use lib.Seq.{sets, get_or-append-add}
-use borrow.Author.Tests.{lt-ltb, le-ltb, le-leb, not-true}
-use Rattle.lists.specs.Lists.{same, word, range}
-use Rattle.lists.proofs.Tests.{false-true, true-or-false, same-yes, same-no, same_true}
+use borrow.Author.Tests.{lt-ltb, le-ltb, le-leb}
+use Rattle.lists.specs.Lists.{word, range}
+use Rattle.lists.proofs.Tests.{true-or-false, same-yes, same-no}
 use Rattle.lists.proofs.Ranges.{from-length, from-get_or}
 use Rattle.scheme.specs.Words.{publics, bounds, definitions, threads, nodes, branches, arguments}
-use Rattle.table.specs.Answer.{cause_of}
+use Rattle.table.specs.Answer.{cause_number}
 use Rattle.table.specs.Causes.{cause_sparing, are_counts_right}
-use Rattle.table.specs.declared.Verdict.{Verdict}
+use Rattle.table.specs.declared.Cause.{Cause}
+use Rattle.table.specs.declared.Cause.TheVariants.{Short, Counts, Layout, Kinds, Ranges, Shape, Binding, Scope, Calls}
 use Rattle.table.proofs.Inside.{Counted, counted}
 use Rattle.process.specs.Outcomes.{Outcome, refusal, answered}
 use Rattle.process.proofs.Sets.{sets-whole}
@@ -25,23 +26,28 @@ use Rattle.scheme.specs.Index.{IsIndex}
 use Rattle.rewriting.specs.Inner.Copying.{Rows}
 use Rattle.rewriting.specs.Inner.Counting.{Summed, Small, counts_within, size_with}
 use Rattle.rewriting.specs.Inner.Preparing.{PreparedRight}
-use Rattle.rewriting.specs.declared.copies.Counts.{Counts}
-use Rattle.rewriting.specs.declared.copies.Prepared.{Prepared}
-use Rattle.rewriting.specs.declared.copies.Prepared.TheVariants.{Ready, Refused}
+use Rattle.rewriting.specs.declared.copies.Counts as Copies
+use Rattle.std.specs.Prelude.{Result, Ok, Err}
+use Rattle.std.specs.Result.{IsErrAnd}
+use Rattle.rewriting.specs.Answers.{outcome_of}
+use Rattle.rewriting.specs.declared.Refusal.{Refusal}
+use Rattle.rewriting.specs.declared.Refusal.TheVariants.{Table}
 use Rattle.rewriting.proofs.Family.{sound}
 use Rattle.rewriting.proofs.Reading
 
 -- ---- causes
 
-pub accepted-here : (w : List ℕ) (n : ℕ) → n ≡ cause_sparing w true → same n 0 ≡ true → cause_sparing w true ≡ 0
-accepted-here w n e h = sym e ∙ same_true n 0 h
-
-pub refused-here : (w : List ℕ) (n : ℕ) (b : Bool) → n ≡ cause_sparing w true → b ≡ same n 0 → not b ≡ true → (n ≡ rewrite_cause w) × (rewrite_cause w ≡ 0 → ⊥)
-unfolding rewrite_cause
-refused-here w n b e t r =
-    let f : same (cause_sparing w true) 0 ≡ false = rw (← e) (sym t ∙ not-true b r) in
-    let k : rewrite_cause w ≡ cause_sparing w true = rw f in
-    (e ∙ sym k, λ z. false-true f (same-yes (cause_sparing w true) 0 (sym k ∙ z)))
+-- a cause has a number of its own
+named : (cause : Cause) → 0 < cause_number cause
+named Short = omega arith
+named Counts = omega arith
+named Layout = omega arith
+named Kinds = omega arith
+named Ranges = omega arith
+named Shape = omega arith
+named Binding = omega arith
+named Scope = omega arith
+named Calls = omega arith
 
 pub ready-here : (w : List ℕ) → cause_sparing w true ≡ 0 → are_counts_right (rewritten w) ≡ true → rewrite_cause w ≡ 0
 unfolding rewrite_cause
@@ -55,7 +61,7 @@ beyond-here w ok h =
 
 -- ---- counts
 
-module _ (w list : List ℕ) (copies counts : Counts) (R : Rows w list copies) (S : Summed w copies counts) where
+module _ (w list : List ℕ) (copies counts : Copies.Counts) (R : Rows w list copies) (S : Summed w copies counts) where
   all-names : counts.names ≡ bounds (rewritten w)
   all-names = S.all-names ∙ rw R.name-row.count-is (sym (Reading.bounds-new w))
 
@@ -119,26 +125,27 @@ module _ (w list : List ℕ) (copies counts : Counts) (R : Rows w list copies) (
 
 -- ---- what was prepared, by its case
 
-module _ (w index list : List ℕ) (x : Prepared) (right : PreparedRight w index list x) where
-  pub prepared-ready : (c : Counts) → x ≡ Ready c → (rewrite_cause w ≡ 0) × IsIndex w index × Rows w list c
+pub table-refused : (w index list : List ℕ) (v : Cause) → cause_number v ≡ cause_sparing w true → (x : Result Copies.Counts Cause)
+    → IsErrAnd x (λ e. e ≡ v) → PreparedRight w index list x
+unfolding rewrite_cause
+table-refused w index list v e (Err q) h =
+    let d : cause_sparing w true ≡ 0 → ⊥ = λ z. omega (arith, named v) in
+    let k : rewrite_cause w ≡ cause_sparing w true = rw (same-no (cause_sparing w true) 0 d) in
+    (rw h (e ∙ sym k), λ z. d (sym k ∙ z))
+table-refused w index list v e (Ok c) h = absurd h
+
+module _ (w index list : List ℕ) (x : Result Copies.Counts Cause) (right : PreparedRight w index list x) where
+  pub prepared-ready : (c : Copies.Counts) → x ≡ Ok c → (rewrite_cause w ≡ 0) × IsIndex w index × Rows w list c
   prepared-ready c e = rw e at right
 
-  pub prepared-refused : (v : Verdict) → x ≡ Refused v → (cause_of v ≡ rewrite_cause w) × (rewrite_cause w ≡ 0 → ⊥)
+  pub prepared-refused : (v : Cause) → x ≡ Err v → (cause_number v ≡ rewrite_cause w) × (rewrite_cause w ≡ 0 → ⊥)
   prepared-refused v e = rw e at right
 
 -- ---- answers
 
-pub refused-origin : (w origins : List ℕ) (number n : ℕ) → n ≡ rewrite_cause w → (rewrite_cause w ≡ 0 → ⊥) → refusal n [] ≡ origin_outcome w origins number
-unfolding origin_outcome
-refused-origin w origins number n e d = rw (same-no (rewrite_cause w) 0 d, e)
-
 pub ready-origin : (w origins : List ℕ) (number : ℕ) → rewrite_cause w ≡ 0 → origin_at origins number ≡ origin_outcome w origins number
 unfolding origin_outcome
 ready-origin w origins number e = rw (same-yes (rewrite_cause w) 0 e)
-
-pub refused-rewriting : (w lent : List ℕ) (n : ℕ) → n ≡ rewrite_cause w → (rewrite_cause w ≡ 0 → ⊥) → refusal n lent ≡ rewrite_outcome w lent
-unfolding rewrite_outcome
-refused-rewriting w lent n e d = rw (same-no (rewrite_cause w) 0 d, e)
 
 pub no_room : (w lent : List ℕ) (n : ℕ) → rewrite_cause w ≡ 0 → n ≡ length (rewritten w) → length lent < n → refusal 10 lent ≡ rewrite_outcome w lent
 unfolding rewrite_outcome answered
@@ -150,6 +157,18 @@ unfolding rewrite_outcome answered
 all-written w lent after n e f l s =
     let k : length (rewritten w) ≤ length lent = omega (arith, f) in
     rw (same-yes (rewrite_cause w) 0 e, le-ltb (length lent) (length (rewritten w)) k, s ∙ sets-whole lent (rewritten w) k, f)
+
+-- the cause passed on
+module _ (w : List ℕ) (v : Cause) (n : cause_number v ≡ rewrite_cause w) (d : rewrite_cause w ≡ 0 → ⊥) where
+  pub rewriting-refused : (lent : List ℕ) (r : Result ℕ Refusal) → IsErrAnd r (λ e. e ≡ Table v) → outcome_of r lent ≡ rewrite_outcome w lent
+  unfolding rewrite_outcome
+  rewriting-refused lent (Err q) h = rw (h, same-no (rewrite_cause w) 0 d, n)
+  rewriting-refused lent (Ok c) h = absurd h
+
+  pub origin-refused : (origins : List ℕ) (number : ℕ) (r : Result ℕ Refusal) → IsErrAnd r (λ e. e ≡ Table v) → outcome_of r [] ≡ origin_outcome w origins number
+  unfolding origin_outcome
+  origin-refused origins number (Err q) h = rw (h, same-no (rewrite_cause w) 0 d, n)
+  origin-refused origins number (Ok c) h = absurd h
 
 -- ---- originals
 
