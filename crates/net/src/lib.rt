@@ -17,7 +17,7 @@ ghost use Rattle.net.specs.Inner.Passes.{rule_of, is_end_at, Finds, Turned};
 
 mod arcs;
 
-pub use arcs::{Arcs, arcs_of, put_all};
+pub use arcs::{Arcs, arcs_at, arcs_of, put_all};
 use arcs::{
     all_marked, arcs_start, contact, length_given, move_tokens, record_at, record_right, rising,
 };
