@@ -181,9 +181,9 @@ record_of w h t l = every-below (record_right w) (transition_count w) h t l
 -- a word past the largest number of 64 bits is past every list's end, as that number is
 pub word_capped : (w : List ℕ) (i j : ℕ) → length w < 18446744073709551616 → i ≡ min j 18446744073709551615 → word w i ≡ word w j
 word_capped w i j h e = elim (cases_lt j 18446744073709551615) [
-    | inl l ↦ ap (word w) (omega (arith, e, l))
-    | inr l ↦ get_or_past w i 0 (omega (arith, e, l)) ∙ sym (get_or_past w j 0 (omega (arith, l)))
-  ]
+  | inl l ↦ ap (word w) (omega (arith, e, l))
+  | inr l ↦ get_or_past w i 0 (omega (arith, e, l)) ∙ sym (get_or_past w j 0 (omega (arith, l)))
+]
 
 -- where an image's record tells that the inputs start, the outputs do and they end, by its words wherever they lie
 module _ (w : List ℕ) (t p : ℕ) (h : length w < 18446744073709551616) (at : p ≡ min (8 + word w 4 + min (t * 6) 18446744073709551615) 18446744073709551615) where

@@ -115,7 +115,7 @@ pub(crate) fn record_right(image: &[u32], transition: usize) -> bool
 
 // The arcs of a transition whose record is right.
 #[inline(always)]
-pub fn arcs_of(image: &[u32], transition: usize) -> Arcs
+pub(crate) fn arcs_of(image: &[u32], transition: usize) -> Arcs
     requires { Header image.now
         × (transition < transition_count image.now)
         × (record_right image.now transition ≡ true) }
@@ -212,7 +212,7 @@ pub(crate) fn contact(inputs: &[u32], outputs: &[u32], marking: &[u8]) -> bool
 
 // Writes a byte at every place of a list.
 #[inline(always)]
-pub fn put_all(places: &[u32], marking: &mut [u8], byte: u8)
+pub(crate) fn put_all(places: &[u32], marking: &mut [u8], byte: u8)
     requires { ascends (length marking.old) 0 places.now ≡ true }
     ensures { marking.new ≡ put byte marking.old places.now }
 {

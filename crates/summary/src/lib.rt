@@ -4,8 +4,9 @@
 
 ghost use Rattle.std.specs.Prelude.{◌≡◌, ◌+◌, ◌-◌, ◌*◌, ◌/◌, ◌%◌, ◌^◌, ◌<◌, true, not, ◌&&◌, ◌||◌, length};
 ghost use Rattle.lists.specs.Lists.{pick, same, word, from, every, ascends};
-ghost use Rattle.net.specs.Image.{place_count_of, transition_count, inputs_at, outputs_at};
-ghost use Rattle.net.specs.Firing.{is_marking, is_enabled, has_contact, moved};
+ghost use Rattle.net.specs.Image.{place_count_of, transition_count, record_right, inputs_at, outputs_at};
+ghost use Rattle.net.specs.Inner.Arcs.{Header, ArcsOf};
+ghost use Rattle.net.specs.Firing.{is_marking, is_enabled, has_contact, put, moved};
 ghost use Rattle.summary.specs.declared.Refusal.TheVariants as refusals;
 ghost use Rattle.summary.specs.Sets.{is_in_set, lowest_in, number_in};
 ghost use Rattle.summary.specs.Summary.{summary, summary_of, worked_out, shares, same_summary};
@@ -57,6 +58,27 @@ pub fn number(enabled: &[u64]) -> u64
     total
 }
 
+// The arcs of a transition whose record is right.
+#[inline(always)]
+fn arcs_of(image: &[u32], transition: usize) -> Arcs
+    requires { Header image.now
+        × (transition < transition_count image.now)
+        × (record_right image.now transition ≡ true) }
+    ensures { ArcsOf image.now transition result.inputs.now result.outputs.now }
+{
+    net::arcs_at(image, transition)
+}
+
+// Writes a byte at every place of a list.
+fn put_all(places: &[u32], marking: &mut [u8], byte: u8)
+    requires { ascends (length marking.old) 0 places.now ≡ true }
+    ensures { marking.new ≡ put byte marking.old places.now }
+{
+    for place in places {
+        marking[*place as usize] = byte;
+    }
+}
+
 // How many of the places have no token.
 #[inline(always)]
 fn missing(places: &[u32], bytes: &[u8]) -> u32
@@ -91,7 +113,7 @@ fn missing_at(image: &[u32], bytes: &[u8], transition: usize) -> u32
     requires { Sound image.now bytes.now × (transition < transition_count image.now) }
     ensures { result ≡ missing_in bytes.now (inputs_at image.now transition) }
 {
-    missing(net::arcs_of(image, transition).inputs, bytes)
+    missing(arcs_of(image, transition).inputs, bytes)
 }
 
 // Whether a transition is to be worked out afresh: all are, or one of its places is the firing's.
@@ -124,7 +146,7 @@ fn renew(
         (summary counts.old enabled.old))
         (summary counts.old enabled.old) }
 {
-    let arcs = net::arcs_of(image, transition);
+    let arcs = arcs_of(image, transition);
     if !is_afresh(arcs, bytes, all) {
         return;
     }
@@ -201,9 +223,9 @@ fn contact(arcs: Arcs, marking: &mut [u8]) -> bool
     ensures { (marking.new ≡ marking.old)
         × (result ≡ has_contact marking.old arcs.entry.inputs.now arcs.entry.outputs.now) }
 {
-    net::put_all(arcs.inputs, marking, 2);
+    put_all(arcs.inputs, marking, 2);
     let found = any_marked(arcs.outputs, marking);
-    net::put_all(arcs.inputs, marking, 1);
+    put_all(arcs.inputs, marking, 1);
     found
 }
 
@@ -229,12 +251,12 @@ fn keep(
         (outputs_at image.now transition))
         (summary counts.old enabled.old)) }
 {
-    let arcs = net::arcs_of(image, transition);
-    net::put_all(arcs.inputs, marking, 2);
-    net::put_all(arcs.outputs, marking, 3);
+    let arcs = arcs_of(image, transition);
+    put_all(arcs.inputs, marking, 2);
+    put_all(arcs.outputs, marking, 3);
     refresh(image, marking, counts, enabled, false);
-    net::put_all(arcs.inputs, marking, 0);
-    net::put_all(arcs.outputs, marking, 1);
+    put_all(arcs.inputs, marking, 0);
+    put_all(arcs.outputs, marking, 1);
 }
 
 // Fires where every record is right: 15, 16.
@@ -253,7 +275,7 @@ fn fire_known(
         ≡ fire_with image.now marking.old
         (summary counts.old enabled.old) transition }
 {
-    let arcs = net::arcs_of(image, transition);
+    let arcs = arcs_of(image, transition);
     if missing(arcs.inputs, marking) != 0 {
         return Err(Refusal::Cause(Cause::NotEnabled));
     }
