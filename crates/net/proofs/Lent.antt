@@ -1,5 +1,5 @@
 -- What the check of an image and a marking tells.
-use Rattle.std.proofs.Common.{◌≡◌, ℕ, List, Bool, true, false, not, Result, Err, refl, sym, ap, ◌∙◌, arith}
+use Rattle.std.proofs.Common.{◌≡◌, ℕ, List, Bool, true, false, not, Result, Err, refl, ap, ◌∙◌, arith}
 use Rattle.std.specs.Result.{IsErrAnd}
 use Rattle.std.proofs.lemmas.Result.{err_from_is_err_and}
 use Rattle.lists.specs.Lists.{pick}

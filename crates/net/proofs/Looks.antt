@@ -1,6 +1,5 @@
 -- What a look gives, case by case.
 use mathlib.Core.Path.{◌≡◌, refl, ap, ◌∙◌}
-use mathlib.Core.Bool.{true, false}
 use mathlib.Core.List.{List, [], ◌∷◌, ◌++◌}
 use Prim.Native.Nat.{ℕ, ◌≤◌, ◌<◌}
 use native.Mathlib.Omega.{arith}
@@ -9,8 +8,8 @@ use lib.Seq.{take_at, drop_at}
 use borrow.Author.Tests.{lt-ltb, le-ltb}
 use Rattle.lists.proofs.Tests.{same_self, same-no}
 use Rattle.net.specs.declared.Cause.{Cause}
-use Rattle.net.specs.Image.{place_count_of, is_header_right}
-use Rattle.net.specs.Firing.{is_marking, moved, made, refused, step, in_turn}
+use Rattle.net.specs.Image.{place_count_of}
+use Rattle.net.specs.Firing.{moved, made, refused, step, in_turn}
 use Rattle.net.specs.Looking.{looked, shown, look}
 use Rattle.net.specs.Answers.{cause_number}
 use Rattle.net.specs.Inner.Lent.{lent_cause}

@@ -1,6 +1,6 @@
 -- What one firing gives, case by case, and what it gives to numbers fired in turn.
 use mathlib.Core.Path.{◌≡◌, refl, sym, ap, ◌∙◌}
-use mathlib.Core.Bool.{Bool, true, false, not}
+use mathlib.Core.Bool.{true, false}
 use mathlib.Core.List.{List, [], ◌∷◌}
 use Prim.Native.Nat.{ℕ, ◌+◌, ◌≤◌, ◌<◌}
 use native.Mathlib.Nat.{zero-add}
@@ -8,7 +8,7 @@ use native.Mathlib.Omega.{arith}
 use lib.Dec.{leb}
 use lib.ListN.{length, get_or, drop, replicate, length-replicate}
 use borrow.Author.Tests.{lt-ltb, le-ltb}
-use Rattle.lists.specs.Lists.{pick, same, every}
+use Rattle.lists.specs.Lists.{same, every}
 use Rattle.lists.proofs.Tests.{and_left, same-yes, same-no, same_true}
 use Rattle.lists.proofs.Slices.{drop-step, drop-none}
 use Rattle.net.proofs.Marks.{length-put}

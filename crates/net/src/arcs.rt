@@ -1,7 +1,8 @@
 // Records and arcs of an image, and the tokens of the places that a list of arcs has.
 ghost use Rattle.std.specs.Prelude.{true, false, ◌≡◌, ◌<◌, ◌≤◌, length, MatchOption};
 ghost use Rattle.lists.specs.Lists.{ascends};
-ghost use Rattle.net.specs.Image.{transition_count, given_length, record_right};
+ghost use Rattle.net.specs.Image.{transition_count, given_length, record_right, inputs_at, outputs_at};
+ghost use Rattle.std.proofs.Math.Seq.{slice};
 ghost use Rattle.net.specs.Firing.{is_enabled, has_contact, put, moved};
 ghost use Rattle.net.specs.Inner.Arcs.{Header, Start, Offsets, ArcsOf};
 
@@ -39,6 +40,7 @@ pub(crate) fn rising(words: &[u32], places: usize) -> bool
 
 // The same, of a list that is short, as a transition's are: it is left at the first word that does not rise. A long one
 // is looked over faster by wide steps, which `rising` allows.
+#[inline(always)]
 fn rising_short(words: &[u32], places: usize) -> bool
     ensures { result ≡ ascends places 0 words.now }
 {
@@ -75,6 +77,7 @@ pub(crate) fn length_given(image: &[u32], arcs: usize) -> usize
 }
 
 // The offsets in a transition's record, unchecked.
+#[inline(always)]
 fn span_of(image: &[u32], transition: usize) -> Span
     requires { Header image.now × (transition < transition_count image.now) }
     ensures { Offsets image.now transition result.inputs result.outputs result.end }
@@ -111,7 +114,8 @@ pub(crate) fn record_right(image: &[u32], transition: usize) -> bool
 }
 
 // The arcs of a transition whose record is right.
-pub fn arcs_of(image: &[u32], transition: usize) -> Arcs
+#[inline(always)]
+pub(crate) fn arcs_of(image: &[u32], transition: usize) -> Arcs
     requires { Header image.now
         × (transition < transition_count image.now)
         × (record_right image.now transition ≡ true) }
@@ -127,7 +131,32 @@ pub fn arcs_of(image: &[u32], transition: usize) -> Arcs
     }
 }
 
+// The words from `start` up to `end`, as far as there are any.
+fn part(words: &[u32], start: usize, end: usize) -> &[u32]
+    ensures { result.now ≡ slice start end words.now }
+{
+    let end = usize::min(end, words.len());
+    if start < end { &words[start..end] } else { &[] }
+}
+
+// The arcs that a transition's record gives, as far as the image has them. Of any image.
+pub fn arcs_at(image: &[u32], transition: usize) -> Arcs
+    ensures inputs { result.inputs.now ≡ inputs_at image.now transition }
+    ensures outputs { result.outputs.now ≡ outputs_at image.now transition }
+{
+    let records = 8 + lists::word(image, 4);
+    let record = records.saturating_add(transition.saturating_mul(6));
+    let inputs = lists::word(image, record.saturating_add(3));
+    let outputs = inputs + lists::word(image, record.saturating_add(4));
+    let end = outputs + lists::word(image, record.saturating_add(5));
+    Arcs {
+        inputs: part(image, inputs, outputs),
+        outputs: part(image, outputs, end),
+    }
+}
+
 // The arcs of a transition, if its record is right. One that is known to be right is not looked over again.
+#[inline(always)]
 pub(crate) fn record_at(image: &[u32], transition: usize, known: bool) -> Option<Arcs>
     requires { Header image.now
         × (transition < transition_count image.now)
@@ -143,6 +172,7 @@ pub(crate) fn record_at(image: &[u32], transition: usize, known: bool) -> Option
 }
 
 // Whether every place of a list has its token.
+#[inline(always)]
 pub(crate) fn all_marked(places: &[u32], marking: &[u8]) -> bool
     requires { ascends (length marking.now) 0 places.now ≡ true }
     ensures { result ≡ is_enabled marking.now places.now }
@@ -181,7 +211,8 @@ pub(crate) fn contact(inputs: &[u32], outputs: &[u32], marking: &[u8]) -> bool
 }
 
 // Writes a byte at every place of a list.
-pub fn put_all(places: &[u32], marking: &mut [u8], byte: u8)
+#[inline(always)]
+pub(crate) fn put_all(places: &[u32], marking: &mut [u8], byte: u8)
     requires { ascends (length marking.old) 0 places.now ≡ true }
     ensures { marking.new ≡ put byte marking.old places.now }
 {

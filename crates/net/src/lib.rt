@@ -17,9 +17,10 @@ ghost use Rattle.net.specs.Inner.Passes.{rule_of, is_end_at, Finds, Turned};
 
 mod arcs;
 
-pub use arcs::{Arcs, arcs_of, put_all};
+pub use arcs::{Arcs, arcs_at};
 use arcs::{
-    all_marked, arcs_start, contact, length_given, move_tokens, record_at, record_right, rising,
+    all_marked, arcs_of, arcs_start, contact, length_given, move_tokens, put_all, record_at,
+    record_right, rising,
 };
 
 // Why a call refuses: causes 11, 12, 13, 14, 15 and 16.
@@ -165,6 +166,7 @@ pub fn check(image: &[u32], marking: &[u8]) -> Result<(), Cause>
 }
 
 // The arcs of a transition that a marking lets fire: 14, 12, 15, 16. The header is right, and the marking has its length.
+#[inline(always)]
 fn fireable<'a>(image: &'a [u32], marking: &[u8], transition: usize) -> Result<Arcs<'a>, Cause>
     requires { Header image.now × (length marking.now ≡ place_count_of image.now) }
     ensures { MatchResult result

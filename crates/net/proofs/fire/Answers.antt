@@ -1,6 +1,6 @@
 -- 11, 13, then the one firing.
 use Rattle.std.specs.Prelude.{⊤}
-use Rattle.std.proofs.Common.{Result, sym, ap, ◌∙◌}
+use Rattle.std.proofs.Common.{Result, sym, ◌∙◌}
 use Rattle.net.specs.declared.Cause.{Cause}
 use Rattle.net.specs.Answers.{firing_outcome}
 use Rattle.net.proofs.Images.{header}

@@ -1,6 +1,6 @@
 -- Loop: the numbers left, fired from the marking as it is now, give the outcome of all, with the i made before counted.
 use mathlib.Core.Path.{◌≡◌}
-use lib.ListN.{length, drop}
+use lib.ListN.{drop}
 use Rattle.net.specs.Firing.{after, in_turn}
 use Rattle.net.proofs.fire_all.Given as goal
 

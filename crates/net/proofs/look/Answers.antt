@@ -1,5 +1,5 @@
 -- 11, 13, then the one look.
-use Rattle.std.proofs.Common.{ℕ, Result, sym, ap, ◌∙◌}
+use Rattle.std.proofs.Common.{ℕ, Result, sym, ◌∙◌}
 use Rattle.net.specs.declared.Refusal.{Refusal}
 use Rattle.net.specs.Answers.{look_outcome}
 use Rattle.net.proofs.Images.{header}

@@ -1,6 +1,6 @@
 -- As the arcs tell, 10, then the marking copied to the front of the buffer and its tokens moved there.
-use Rattle.std.proofs.Common.{List, ◌≡◌, ◌++◌, length, take, drop, ℕ, Result, sym, ap, ◌∙◌, arith}
-use lib.Seq.{take_at, drop_at}
+use Rattle.std.proofs.Common.{List, ◌++◌, length, drop, ℕ, Result, ap, ◌∙◌, arith}
+use lib.Seq.{take_at}
 use Rattle.net.specs.declared.Refusal.{Refusal}
 use Rattle.net.specs.Answers.{look_outcome}
 use Rattle.net.proofs.Images.{both_ascend}

@@ -1,5 +1,4 @@
-use Rattle.std.proofs.Common.{◌≤◌, length, ◌∙◌, arith}
-use Rattle.net.specs.Image.{outputs_end}
+use Rattle.std.proofs.Common.{◌∙◌, arith}
 use Rattle.net.proofs.Images.{arcs_within, part, inputs_are, outputs-are}
 use Rattle.net.proofs.arcs.arcs_of.Goals as goal
 

@@ -1,4 +1,4 @@
-use Rattle.std.proofs.Common.{◌+◌, ◌<◌, length, sym, ap, ◌∙◌, arith}
+use Rattle.std.proofs.Common.{◌+◌, ◌<◌, length, sym, ◌∙◌, arith}
 use Rattle.net.proofs.Marks.{not_empty, rises-none, rises-first, rises_next, rises-no-more, rises-whole}
 use Rattle.net.proofs.arcs.rising.Goals as goal
 use Rattle.net.proofs.arcs.rising.Goals.{then-words-i, else-words-i}
