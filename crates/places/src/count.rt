@@ -69,9 +69,10 @@ pub fn privates_of(index: &[u32], values: Reach) -> usize
     ensures { result ≡ pick (not (same values.restricted 0)) (word index.now privates_at) 0 }
 {
     if has_privates(values) {
-        return privates(index);
+        privates(index)
+    } else {
+        0
     }
-    0
 }
 
 // A transition more for each value of a name.

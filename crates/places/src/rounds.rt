@@ -67,10 +67,7 @@ fn is_source(table: &[u16], name: usize) -> bool
     requires { name < names table.now }
     ensures { result ≡ is_source_name (scheme table.now) name }
 {
-    if name < word(table, 0) {
-        return true;
-    }
-    name_kind(table, name) == 0
+    name < word(table, 0) || name_kind(table, name) == 0
 }
 
 // Every public and restricted name comes to itself.
