@@ -287,15 +287,14 @@ fn course_of(table: &[u16], index: &[u32], channel: usize, name: usize) -> Cours
     let publics = word(table, 0);
     let privates = privates(index);
     if name == channel {
-        let values = Values {
-            set: 1,
-            low: 0,
-            end: 0,
-        };
         return Course {
             channels: true,
             sents: true,
-            values,
+            values: Values {
+                set: 1,
+                low: 0,
+                end: 0,
+            },
         };
     }
     let reach = reach_of(index, name);
@@ -373,7 +372,7 @@ fn partners(
     let mut q = h;
     let mut left = s.set;
     while left != 0 {
-        let k = u64::trailing_zeros(left) as u16;
+        let k = left.trailing_zeros() as u16;
         let at = 2 * (k as usize);
         let other = Starts {
             channel: rows.at[at],
@@ -381,7 +380,7 @@ fn partners(
         };
         let p = pair_of(s.side, s.own, receive_at(pairs, k), other);
         q = pair_up(table, index, out, q, p, course);
-        left = left & (left - 1);
+        left &= left - 1;
     }
     q
 }
