@@ -1,5 +1,5 @@
--- The tests of state words, one by one: what the code looks at decides what the definition asks.
-use mathlib.Core.Path.{◌≡◌, refl, sym, ◌∙◌}
+-- A name in a list, and the names that a node holds, as they are read.
+use mathlib.Core.Path.{◌≡◌, refl, ◌∙◌}
 use mathlib.Core.Bool.{Bool, true, false, not, ◌||◌}
 use mathlib.Core.List.{List, [], ◌∷◌}
 use Prim.Native.Nat.{ℕ, ◌+◌, ◌≤◌, ◌<◌}
@@ -60,35 +60,3 @@ module _ (w index : List ℕ) (K : Known w index) where
 
     pub held-listed : take r after ≡ (scheme w).held n
     held-listed = rw (H.count, H.written, sets-whole (replicate 64 0) (held_at w index n) names-fit) (take-append_seam (held_at w index n) _ ∙ held-here)
-
--- ---- a name's value against the node
-
-module _ (S : Scheme) (s : State) (x v : ℕ) (held : Bool) (e : s.value x ≡ value_at v) (h : held ≡ holds_at S s x) where
-  pub name-missing : v ≡ 65535 → not held ≡ is_name_right S s x
-  name-missing p = rw (e, same-yes v 65535 p, ← h, and-true (not held))
-
-  pub name-strange : (v ≡ 65535 → ⊥) → held ≡ false → false ≡ is_name_right S s x
-  name-strange d p = rw (e, same-no v 65535 d, ← h, p)
-
-  pub name-there : (v ≡ 65535 → ⊥) → held ≡ true → ltb v (S.publics + S.bounds) ≡ is_name_right S s x
-  name-there d p = rw (e, same-no v 65535 d, ← h, p)
-
--- ---- restricted names
-
-module _ (S : Scheme) (s : State) (x v : ℕ) (e : s.value x ≡ value_at v) (r : S.restricted x ≡ true) where
-  pub restricted-public : v < S.publics → S.publics ≤ 65535 → false ≡ is_restricted_right S s x
-  restricted-public l k = rw (r, e, same-no v 65535 (λ q. omega arith), lt-leb S.publics v l)
-
-  private-value : S.publics ≤ v → value_private S (value_at v) ≡ true
-  private-value l = go (ℕ_discrete v 65535)
-    where
-      go : Dec (v ≡ 65535) → value_private S (value_at v) ≡ true
-      go (yes p) = rw (same-yes v 65535 p)
-      go (no d) = rw (same-no v 65535 d, le-leb S.publics v l)
-
-  pub restricted-private : S.publics ≤ v
-      → every (λ y. not (S.restricted y) || (same x y || not (is_one_value (s.value x) (s.value y)))) (from S.publics S.bounds) ≡ is_restricted_right S s x
-  restricted-private l = rw (r, private-use l)
-    where
-      private-use : S.publics ≤ v → value_private S (s.value x) ≡ true
-      private-use l = rw e (private-value l)

@@ -1,6 +1,6 @@
 -- Values of names in state words, and the words of the starting state.
-use mathlib.Core.Path.{◌≡◌, refl, sym, ◌∙◌}
-use mathlib.Core.Bool.{true, false}
+use mathlib.Core.Path.{◌≡◌, refl, ◌∙◌}
+use mathlib.Core.Bool.{false}
 use mathlib.Core.Option.{some}
 use mathlib.Core.List.{List, [], ◌++◌, map}
 use Prim.Native.Nat.{ℕ, zero, suc, ◌+◌, ◌-◌, ◌≤◌, ◌<◌}
@@ -38,20 +38,6 @@ module _ (w ws : List ℕ) (x : ℕ) where
   pub value-outside : publics w ≤ x → publics w + bounds w ≤ x → Valued ((state_of (scheme w) ws).value x) 65535
   unfolding state_of scheme same
   value-outside h k = record { is = rw (le-ltb x (publics w) h, le-ltb x (publics w + bounds w) k); small = omega arith }
-
-pub one-missing : (v u : ℕ) → v ≡ 65535 → false ≡ is_one_value (value_at v) (value_at u)
-one-missing v u h = rw (same-yes v 65535 h)
-
-tested : (v u : ℕ) → eqb v u ≡ same v u
-unfolding same
-tested v u = refl
-
-pub one-there : (v u : ℕ) → (v ≡ 65535 → ⊥) → eqb v u ≡ is_one_value (value_at v) (value_at u)
-one-there v u h = go (ℕ_discrete u 65535)
-  where
-    go : Dec (u ≡ 65535) → eqb v u ≡ is_one_value (value_at v) (value_at u)
-    go (yes p) = rw (same-no v 65535 h, same-yes u 65535 p) (tested v u ∙ same-no v u (λ e. h (e ∙ p)))
-    go (no d) = rw (same-no v 65535 h, same-no u 65535 d) (tested v u)
 
 -- ---- the starting state
 
