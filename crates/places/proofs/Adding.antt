@@ -1,10 +1,9 @@
 -- Counts only grow, so a part of a sum is as small as the whole; and one turn of the loops that count.
-use Rattle.std.proofs.Common.{◌≡◌, ℕ, ◌+◌, ◌-◌, ◌<◌, ◌≤◌, Bool, true, false, not, ◌&&◌, List, [], ◌∷◌, map, length, refl, ap, ◌∙◌, subst, arith}
-use lib.Seq.{slice}
+use Rattle.std.proofs.Common.{◌≡◌, ℕ, ◌+◌, ◌-◌, ◌<◌, ◌≤◌, Bool, true, false, not, ◌&&◌, List, [], ◌∷◌, map, length, drop, refl, ap, ◌∙◌, subst, arith}
 use Rattle.lists.specs.Lists.{pick, same, word, from, range}
 use Rattle.lists.proofs.Ranges.{from_more, from-done, from-whole}
 use Rattle.lists.proofs.Tests.{same-yes, same-no}
-use Rattle.lists.proofs.Slices.{slice-step, slice-none}
+use Rattle.lists.proofs.Slices.{drop-step, drop-none}
 use Rattle.scheme.specs.Words.{branches, branch_kind, is_stop_node, is_choice, is_new, is_silent, is_send, is_receive, node_first, node_second}
 use Rattle.scheme.specs.Words.{channel, branch_name, arguments_of}
 use Rattle.scheme.specs.Owners.{held, branch_thread_of}
@@ -84,12 +83,11 @@ module _ (step : Sums → ℕ → Sums) where
   map-done f s i e h = rw (from-done i e h) (over_none s)
 
   -- the words of a list
-  pub part-more : (s : Sums) (xs : List ℕ) (i e : ℕ) → i < e → e ≤ length xs
-      → over step s (slice i e xs) ≡ over step (step s (word xs i)) (slice (i + 1) e xs)
-  part-more s xs i e h k = rw (slice-step xs i e h k) (over-one s (word xs i) (slice (i + 1) e xs))
+  pub rest-more : (s : Sums) (xs : List ℕ) (i : ℕ) → i < length xs → over step s (drop i xs) ≡ over step (step s (word xs i)) (drop (i + 1) xs)
+  rest-more s xs i h = rw (drop-step xs i h) (over-one s (word xs i) (drop (i + 1) xs))
 
-  pub part-done : (s : Sums) (xs : List ℕ) (i e : ℕ) → e ≤ i → over step s (slice i e xs) ≡ s
-  part-done s xs i e h = rw (slice-none xs i e h) (over_none s)
+  pub rest-done : (s : Sums) (xs : List ℕ) (i : ℕ) → length xs ≤ i → over step s (drop i xs) ≡ s
+  rest-done s xs i h = rw (drop-none xs i h) (over_none s)
 
   module _ (grows : (s : Sums) (x : ℕ) → Grows s (step s x)) where
     pub over-grows : (s : Sums) (xs : List ℕ) → Grows s (over step s xs)
@@ -108,9 +106,8 @@ module _ (step : Sums → ℕ → Sums) where
     pub map-few : (f : ℕ → ℕ) (all s : Sums) (i e x : ℕ) → all ≡ over step s (map f (from i (e - i))) → i < e → x ≡ f i → Few all → Few (step s x)
     map-few f all s i e x h l q k = rw q (over-few all (step s (f i)) (map f (from (i + 1) (e - (i + 1)))) (h ∙ map_more f s i e l) k)
 
-    pub part-few : (all s : Sums) (xs : List ℕ) (i e x : ℕ) → all ≡ over step s (slice i e xs) → i < e → e ≤ length xs → x ≡ word xs i → Few all
-        → Few (step s x)
-    part-few all s xs i e x h l k q f = rw q (over-few all (step s (word xs i)) (slice (i + 1) e xs) (h ∙ part-more s xs i e l k) f)
+    pub rest-few : (all s : Sums) (xs : List ℕ) (i x : ℕ) → all ≡ over step s (drop i xs) → i < length xs → x ≡ word xs i → Few all → Few (step s x)
+    rest-few all s xs i x h l q f = rw q (over-few all (step s (word xs i)) (drop (i + 1) xs) (h ∙ rest-more s xs i l) f)
 
   pub range-on : (all s t : Sums) (i e : ℕ) → all ≡ over step s (from i (e - i)) → i < e → t ≡ step s i → all ≡ over step t (from (i + 1) (e - (i + 1)))
   range-on all s t i e h l q = h ∙ range-more s i e l ∙ rw q
@@ -119,9 +116,9 @@ module _ (step : Sums → ℕ → Sums) where
       → all ≡ over step t (map f (from (i + 1) (e - (i + 1))))
   map_on f all s t i e x h l q r = h ∙ map_more f s i e l ∙ rw (r, q)
 
-  pub part-on : (all s t : Sums) (xs : List ℕ) (i e x : ℕ) → all ≡ over step s (slice i e xs) → i < e → e ≤ length xs → x ≡ word xs i → t ≡ step s x
-      → all ≡ over step t (slice (i + 1) e xs)
-  part-on all s t xs i e x h l k q r = h ∙ part-more s xs i e l k ∙ rw (r, q)
+  pub rest-on : (all s t : Sums) (xs : List ℕ) (i x : ℕ) → all ≡ over step s (drop i xs) → i < length xs → x ≡ word xs i → t ≡ step s x
+      → all ≡ over step t (drop (i + 1) xs)
+  rest-on all s t xs i x h l q r = h ∙ rest-more s xs i l ∙ rw (r, q)
 
 -- ---- the steps of the counts
 

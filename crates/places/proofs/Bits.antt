@@ -6,10 +6,10 @@ use lib.Arith.{mod-mul}
 use lib.Pow.{pow-lt}
 use lib.Bits.{bit_and, bit_or, bit_xor, differ, and_step, or_step, xor_step}
 use lib.Count.{ones, ones_cat, ones-le, count_trailing_zeros, under}
-use Rattle.lists.specs.Lists.{pick, bit, same, word, from, range, some, keep}
+use Rattle.lists.specs.Lists.{pick, bit, same, from, range, some, keep}
 use Rattle.lists.proofs.Tests.{both_ways, not-true-false, not-false-true, same_self, same-no, same-yes}
-use Rattle.lists.proofs.Ranges.{from-snoc, from-append, from-whole, from_more, from-done, member-from, from_member}
-use Rattle.lists.proofs.Members.{keep_append, keep-none, keep-yes, keep-no}
+use Rattle.lists.proofs.Ranges.{from-snoc, from-append, member-from, from_member}
+use Rattle.lists.proofs.Members.{keep_append, keep-none}
 use Rattle.places.specs.Sets.{bit_at, set_from}
 use Rattle.places.proofs.Tallies.{some-intro, some-elim}
 
@@ -369,34 +369,6 @@ numbers-past w n m h l =
 pub rank-all : (w v : ℕ) → w < 2 ^ 64 → 64 ≤ v → ones w ≡ length (keep (bit_at w) (range v))
 rank-all w v h l =
     ap ones (sym (mod-eq_of_lt h)) ∙ rank 64 w ∙ ap (λ (xs : List ℕ). length xs) (sym (numbers-past w 64 v h l))
-
--- ---- number k of a set, looked for from v on
-
-module _ (w : ℕ) where
-  pub nth-whole : (k : ℕ) → word (keep (bit_at w) (range 64)) k ≡ word (keep (bit_at w) (from 0 (64 - 0))) k
-  nth-whole k = ap (λ (xs : List ℕ). word (keep (bit_at w) xs) k) (from-whole 64)
-
-  pub nth_here : (v : ℕ) → v < 64 → bit_at w v ≡ true → word (keep (bit_at w) (from v (64 - v))) 0 ≡ v
-  nth_here v h b = ap (λ (xs : List ℕ). word (keep (bit_at w) xs) 0) (from_more v 64 h) ∙ ap (λ (xs : List ℕ). word xs 0)
-      (keep-yes (bit_at w) v (from (v + 1) (64 - (v + 1))) b)
-
-  pub nth_on : (v k : ℕ) → v < 64 → bit_at w v ≡ true → (k ≡ 0 → ⊥)
-      → word (keep (bit_at w) (from v (64 - v))) k ≡ word (keep (bit_at w) (from (v + 1) (64 - (v + 1)))) (k - 1)
-  nth_on v zero h b d = absurd (d refl)
-  nth_on v (suc k) h b d =
-      let e : suc k - 1 ≡ k = omega arith in
-      ap (λ (xs : List ℕ). word (keep (bit_at w) xs) (suc k)) (from_more v 64 h)
-      ∙ ap (λ (xs : List ℕ). word xs (suc k)) (keep-yes (bit_at w) v (from (v + 1) (64 - (v + 1))) b) ∙ rw e
-
-  pub nth-skip : (v k : ℕ) → v < 64 → bit_at w v ≡ false
-      → word (keep (bit_at w) (from v (64 - v))) k ≡ word (keep (bit_at w) (from (v + 1) (64 - (v + 1)))) k
-  nth-skip v k h b =
-      ap (λ (xs : List ℕ). word (keep (bit_at w) xs) k) (from_more v 64 h)
-      ∙ ap (λ (xs : List ℕ). word xs k) (keep-no (bit_at w) v (from (v + 1) (64 - (v + 1))) b)
-
-  pub nth-done : (v k : ℕ) → 64 ≤ v → word (keep (bit_at w) (from v (64 - v))) k ≡ 0
-  unfolding keep
-  nth-done v k h = rw (from-done v 64 h)
 
 -- n digits are below 2ⁿ, and fit 32 bits
 pub digits-small : (w n : ℕ) → n ≤ 32 → w % 2 ^ n < 2 ^ 32

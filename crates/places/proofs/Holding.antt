@@ -5,7 +5,7 @@ use lib.ListN.{get_or-replicate}
 use lib.Seq.{sets}
 use Rattle.lists.specs.Lists.{pick, same, word, from, range, some, keep, flat, member, total}
 use Rattle.lists.proofs.Tests.{same_true, and_left, and_right}
-use Rattle.lists.proofs.Ranges.{from_more, from-done, from-length, from-whole, from_member}
+use Rattle.lists.proofs.Ranges.{from-length, from_member}
 use Rattle.lists.proofs.Members.{member-keep, map-member, flat-member, keep-length, keep-yes, keep-no}
 use Rattle.places.proofs.Totals.{total-same}
 use Rattle.scheme.specs.Words.{publics, bounds, nodes, threads, node_kind, node_first, branch_kind, branch_name, first_formal, formals, formal_count}
@@ -348,33 +348,3 @@ module _ (w : List ℕ) where
       where
         small : (t : ℕ) → member t (range (threads w)) ≡ true → t < 8
         small t m = omega (arith, from_member t 0 (threads w) m, accepted-threads)
-
--- ---- a sum of words
-
--- the words from i on, up to e
-abbrev pub words_left : List ℕ → ℕ → ℕ → ℕ
-words_left most i e = total (map (word most) (from i (e - i)))
-
-pub sum_more : (most : List ℕ) (i e : ℕ) → i < e → words_left most i e ≡ word most i + words_left most (i + 1) e
-unfolding total
-sum_more most i e h = rw (from_more i e h)
-
-pub sum-whole : (most : List ℕ) (e : ℕ) → words_left most 0 e ≡ total (map (word most) (range e))
-sum-whole most e = ap (λ (xs : List ℕ). total (map (word most) xs)) (sym (from-whole e))
-
-pub sum_done : (most : List ℕ) (i e : ℕ) → e ≤ i → words_left most i e ≡ 0
-unfolding total
-sum_done most i e h = rw (from-done i e h)
-
--- ---- a word raised
-
-pub larger-small : (a b r : ℕ) → a < 4294967296 → b ≤ 64 → r ≡ pick (ltb a b) b a → r < 4294967296
-larger-small a b r h k e = go (ltb a b) e
-  where
-    go : (c : Bool) → r ≡ pick c b a → r < 4294967296
-    go true q = omega arith
-    go false q = omega arith
-
-pub raised : (most : List ℕ) (t held b r : ℕ) → b ≡ word most t → r ≡ pick (ltb b held) held b
-    → set most t r ≡ set most t (pick (ltb (word most t) held) held (word most t))
-raised most t held b r e q = rw (q, e)

@@ -44,3 +44,4 @@ pub mod Outcomes
 pub mod NodeSums
 pub mod PairSums
 pub mod WholeSums
+pub mod Chains

@@ -1,10 +1,10 @@
 -- Names of a table as the code reads them: whether one is restricted, the values that one may hold, where its row starts.
-use Rattle.std.proofs.Common.{◌≡◌, ℕ, suc, ◌+◌, ◌-◌, ◌*◌, ◌<◌, ◌≤◌, Bool, true, false, not, ◌&&◌, eqb, List, [], length, get_or, sym, refl, ap, ◌∙◌, arith, length-append, get_or-append-add, le-ltb, lt-ltb, eq-eqb, ne_eqb, le-leb}
+use Rattle.std.proofs.Common.{◌≡◌, ℕ, ◌+◌, ◌-◌, ◌*◌, ◌<◌, ◌≤◌, Bool, true, false, not, ◌&&◌, eqb, List, [], length, get_or, sym, refl, ap, ◌∙◌, arith, length-append, get_or-append-add, le-ltb, lt-ltb, le-leb}
 use lib.ListN.{get_or-append}
 use borrow.Author.Tests.{lt-leb}
 use Rattle.lists.specs.Lists.{pick, same, word, from, range, keep, member}
-use Rattle.lists.proofs.Ranges.{from-append, from_member, from_more, from-done, from-length, from-get_or}
-use Rattle.lists.proofs.Members.{keep_append, keep-yes, keep-no}
+use Rattle.lists.proofs.Ranges.{from-append, from_member, from-length, from-get_or}
+use Rattle.lists.proofs.Members.{keep_append, keep_same}
 use Rattle.scheme.specs.Words.{publics, bounds, names, name_kind_of}
 use Rattle.scheme.specs.Scheme.{Scheme, scheme}
 use Rattle.table.specs.Causes.{cause}
@@ -16,7 +16,7 @@ use Rattle.places.specs.Places.{equals, differs, free}
 use Rattle.places.specs.Rows.{row_length, number_of}
 use Rattle.places.specs.Plan.{restricted_in, free_at, Reached, Laid}
 use Rattle.places.specs.Reaches.{public_set_word, restricted_set_word}
-use Rattle.places.specs.Inner.Plan.{today, privates_word, values, row_of, free_names_word, read_names_word, Holds, Differs, reached}
+use Rattle.places.specs.Inner.Plan.{today, privates_word, values, row_of, free_names_word, Holds, Differs, reached}
 use Rattle.places.specs.declared.reach.Reach.{Reach}
 use Rattle.places.proofs.Plans.{reach-told, free-is}
 use Rattle.places.proofs.ReachRows.{public_list_of, values-are, restricted-alone, restricted-yes, private-member, value-small, row-size}
@@ -80,56 +80,20 @@ module _ (w : List ℕ) where
   unfolding scheme same
   kind-tells x k h l e = rw (le-leb (publics w) x h, lt-ltb x (names w) l, e)
 
-  pub kind-restricted : (x k : ℕ) → publics w ≤ x → x < names w → k ≡ name_kind_of w x → k ≡ 0 → S.restricted x ≡ true
-  kind-restricted x k h l e z = sym (kind-tells x k h l e) ∙ eq-eqb k 0 z
+  -- ---- free names, and those of them that may hold private values
 
-  pub kind-free : (x k : ℕ) → publics w ≤ x → x < names w → k ≡ name_kind_of w x → (k ≡ 0 → ⊥) → S.restricted x ≡ false
-  kind-free x k h l e z = sym (kind-tells x k h l e) ∙ ne_eqb k 0 z
-
-  -- ---- free names, counted from x on
-
-  abbrev is_free : ℕ → Bool
+  abbrev pub is_free : ℕ → Bool
   is_free x = not (S.restricted x)
 
-  pub free_more : (x e : ℕ) → x < e → S.restricted x ≡ false
-      → length (keep is_free (from x (e - x))) ≡ suc (length (keep is_free (from (x + 1) (e - (x + 1)))))
-  free_more x e h r = rw (from_more x e h) (ap (λ (l : List ℕ). length l) (keep-yes is_free x (from (x + 1) (e - (x + 1))) (rw r)))
-
-  pub free-skip : (x e : ℕ) → x < e → S.restricted x ≡ true
-      → length (keep is_free (from x (e - x))) ≡ length (keep is_free (from (x + 1) (e - (x + 1))))
-  free-skip x e h r = rw (from_more x e h) (ap (λ (l : List ℕ). length l) (keep-no is_free x (from (x + 1) (e - (x + 1))) (rw r)))
-
-  pub free-start : (p e : ℕ) → p ≡ publics w → e ≡ p + bounds w → free_names_word w ≡ 0 + length (keep is_free (from p (e - p)))
-  free-start p e h k =
-      let d : e - p ≡ bounds w = omega arith in
-      let r : free_names_word w ≡ length (keep is_free (from p (e - p))) = rw (d, h) in
-      omega (arith, r)
-
-  pub free-done : (x e : ℕ) → e ≤ x → length (keep is_free (from x (e - x))) ≡ 0
-  unfolding keep
-  free-done x e h = rw (from-done x e h)
-
-  -- ---- those that may hold private values, counted from x on
+  -- a bound name is free by its kind
+  pub free-kinds : length (keep (λ x. not (eqb (name_kind_of w x) 0)) (from (publics w) (bounds w))) ≡ free_names_word w
+  free-kinds =
+      ap (λ (xs : List ℕ). length xs)
+      (keep_same (λ x. not (eqb (name_kind_of w x) 0)) is_free (from (publics w) (bounds w))
+      (λ x m. let h = from_member x (publics w) (bounds w) m in ap not (kind-tells x (name_kind_of w x) h.0 (omega (arith, h.1)) refl)))
 
   abbrev pub is_name_read : ℕ → Bool
   is_name_read x = not (S.restricted x) && has_private_values S x
-
-  pub read_more : (x e : ℕ) → x < e → is_name_read x ≡ true
-      → length (keep is_name_read (from x (e - x))) ≡ suc (length (keep is_name_read (from (x + 1) (e - (x + 1)))))
-  read_more x e h r = rw (from_more x e h) (ap (λ (l : List ℕ). length l) (keep-yes is_name_read x (from (x + 1) (e - (x + 1))) r))
-
-  pub read-skip : (x e : ℕ) → x < e → is_name_read x ≡ false → length (keep is_name_read (from x (e - x))) ≡ length (keep is_name_read (from (x + 1) (e - (x + 1))))
-  read-skip x e h r = rw (from_more x e h) (ap (λ (l : List ℕ). length l) (keep-no is_name_read x (from (x + 1) (e - (x + 1))) r))
-
-  pub read-start : (p e : ℕ) → p ≡ publics w → e ≡ p + bounds w → read_names_word w ≡ 0 + length (keep is_name_read (from p (e - p)))
-  read-start p e h k =
-      let d : e - p ≡ bounds w = omega arith in
-      let r : read_names_word w ≡ length (keep is_name_read (from p (e - p))) = rw (d, h) in
-      omega (arith, r)
-
-  pub read_done : (x e : ℕ) → e ≤ x → length (keep is_name_read (from x (e - x))) ≡ 0
-  unfolding keep
-  read_done x e h = rw (from-done x e h)
 
 module _ (w : List ℕ) (ok : cause w ≡ 0) where
   abbrev S' : Scheme

@@ -17,7 +17,7 @@ use Rattle.table.proofs.Accepted.{accepted}
 use Rattle.places.specs.Places.{common}
 use Rattle.places.specs.Inner.Plan.{today, privates_word, values, read_names_word, Lists, reached}
 use Rattle.places.specs.Answers.{Sums, sums}
-use Rattle.places.specs.Inner.Counting.{Few, add_times, over, release_sums, copy_sums, silent_sums, node_sums, bound_bit, public_count, private_count}
+use Rattle.places.specs.Inner.Counting.{Few, add_times, add_both, value_sums, over, release_sums, copy_sums, silent_sums, node_sums, bound_bit, public_count, private_count}
 use Rattle.places.specs.Inner.Counting.{pair_sums, partner_sums, send_sums, all_sums}
 use Rattle.places.specs.Plan.{privates_at, reach_in, Laid}
 use Rattle.places.specs.Reaches.{common_reach}
@@ -29,7 +29,7 @@ use Rattle.places.proofs.Weights.{held-few}
 use Rattle.places.proofs.Plans
 use Rattle.places.proofs.Plans.{reach-is}
 use Rattle.places.proofs.Reaches.{reach-lists, common-lists}
-use Rattle.places.proofs.Adding.{over-few, few-part, grows-times, release-grows, copy-grows, send-grows}
+use Rattle.places.proofs.Adding.{over-few, release-grows, copy-grows, send-grows}
 
 -- ---- names that a node holds, in a buffer of 64 words
 
@@ -178,25 +178,11 @@ module _ (p n : ℕ) (r : Reach) (vs : List ℕ) (l : Lists p n r vs) where
 pub bound-few : (r x p : ℕ) → r ≡ bit (not (ltb x p)) → r ≤ 1
 bound-few r x p e = omega (arith, e, bit-small (not (ltb x p)))
 
--- a sum of two parts, added one after the other
-pub record Twice (s all : Sums) (n i o m j p : ℕ) : Type 0 where
-  pub is : all ≡ add_times (add_times s n i o) m j p
-
-module _ {s all : Sums} {n i o m j p : ℕ} (e : Twice s all n i o m j p) where
-  pub first-few : Few all → Few (add_times s n i o)
-  first-few f = few-part (add_times s n i o) (add_times (add_times s n i o) m j p) (grows-times (add_times s n i o) m j p) (subst Few e.is f)
-
-  pub second-few : (u : Sums) → u ≡ add_times s n i o → Few all → Few (add_times u m j p)
-  second-few u q f = rw q (subst Few e.is f)
-
-  pub both-added : (u v : Sums) → u ≡ add_times s n i o → v ≡ add_times u m j p → v ≡ all
-  both-added u v q r = r ∙ rw q (sym e.is)
-
 -- the values of a name whose reach is read
 pub values-read : (w x : List ℕ) → Laid w x → (z : ℕ) (r : Reach) → r ≡ reach_in x z → Lists (publics w) (privates_word w) r (values w z)
 values-read w x L z r e = rw (e, reach-is w x L z) (reach-lists w L.accepted z)
 
--- ---- the releases of a name, the copies of an argument: what the code has counted of the values, c public and v private ones
+-- ---- what the code has counted of the values of a name, c public and v private ones
 
 module _ (w : List ℕ) (h : cause w ≡ 0) (x : List ℕ) (L : Laid w x) (z : ℕ) (r : Reach) (c v : ℕ) (er : r ≡ reach_in x z)
     (ec : c ≡ length (keep (bit_at r.publics) (range (publics w)))) (ev : v ≡ pick (not (same r.restricted 0)) (word x privates_at) 0) where
@@ -209,13 +195,12 @@ module _ (w : List ℕ) (h : cause w ≡ 0) (x : List ℕ) (L : Laid w x) (z : �
   pub privates-counted : private_count w (values w z) ≡ v
   privates-counted = reach-privates (publics w) (privates_word w) r (values w z) values_listed ∙ sym (ev ∙ rw (Plans.privates-are w x L))
 
-  pub release-read : (s : Sums) → Twice s (release_sums w s z) c 2 1 v 2 2
-  unfolding release_sums
-  release-read s = record { is = rw (publics-counted, privates-counted) }
+  pub values-read_of : (s : Sums) (i o arcs : ℕ) → value_sums w s z i o arcs ≡ add_both s c i o v arcs
+  values-read_of s i o arcs = rw (publics-counted, privates-counted)
 
-  pub copy_read : (s : Sums) (b : ℕ) → b ≡ bound_bit w z → Twice s (copy_sums w s z) c (b + 1) (b + 2) v (b + 2) (b + 2)
-  unfolding copy_sums
-  copy_read s b e = record { is = rw (publics-counted, privates-counted, e) }
+pub copy_read : (w : List ℕ) (s : Sums) (x b : ℕ) → b ≡ bound_bit w x → copy_sums w s x ≡ value_sums w s x (b + 1) (b + 2) (b + 2)
+unfolding copy_sums
+copy_read w s x b e = rw e
 
 -- what the code has read of a send and a receive: channels a and e, the name z that is sent, the values x of both channels, whether the channels are bound, and
 -- how many of the values are public and private
@@ -269,30 +254,28 @@ module _ (w : List ℕ) (b r a z e : ℕ) (x : Reach) (ba be c v : ℕ) (k : Rea
   unfolding pair_sums
   pair_read s = rw (k.bit_is, k.bit-other, k.channel-is, k.name-is, k.other-is)
 
-  pub self-sums : (s : Sums) → z ≡ a → Twice s (pair_sums w b s r) c (ba + be + 2) (ba + be + 3) v (ba + be + 3) (ba + be + 3)
-  self-sums s q = record {
-    is = pair_read s ∙ rw (
-      same-yes z a q,
-      reach-publics (publics w) (privates_word w) x vs k.lists,
-      reach-privates (publics w) (privates_word w) x vs k.lists,
-      k.publics-are,
-      k.privates-are,
-    );
-  }
+  pub self-sums : (s : Sums) → z ≡ a → pair_sums w b s r ≡ add_both s c (ba + be + 2) (ba + be + 3) v (ba + be + 3)
+  self-sums s q =
+      pair_read s ∙ rw (
+        same-yes z a q,
+        reach-publics (publics w) (privates_word w) x vs k.lists,
+        reach-privates (publics w) (privates_word w) x vs k.lists,
+        k.publics-are,
+        k.privates-are,
+      )
 
   pub other-sums : (s : Sums) (bz d u : ℕ) → (z ≡ a → ⊥) → bz ≡ bound_bit w z → d ≡ public_count w (values w z) → u ≡ private_count w (values w z)
-      → Twice s (pair_sums w b s r) ((c + v) * d) (ba + be + bz + 2) (ba + be + bz + 3) ((c + v) * u) (ba + be + bz + 3) (ba + be + bz + 3)
-  other-sums s bz d u ne eb ed eu = record {
-    is = pair_read s ∙ rw (
-      same-no z a ne,
-      reach-length (publics w) (privates_word w) x vs k.lists,
-      k.publics-are,
-      k.privates-are,
-      eb,
-      ed,
-      eu,
-    );
-  }
+      → pair_sums w b s r ≡ add_both s ((c + v) * d) (ba + be + bz + 2) (ba + be + bz + 3) ((c + v) * u) (ba + be + bz + 3)
+  other-sums s bz d u ne eb ed eu =
+      pair_read s ∙ rw (
+        same-no z a ne,
+        reach-length (publics w) (privates_word w) x vs k.lists,
+        k.publics-are,
+        k.privates-are,
+        eb,
+        ed,
+        eu,
+      )
 
 -- ---- the receives that go with a send
 

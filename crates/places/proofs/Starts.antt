@@ -1,5 +1,5 @@
 -- Where rows start, told from the reaches of a plan: each count is that of the name's row.
-use Rattle.std.proofs.Common.{◌≡◌, ℕ, ◌+◌, ◌-◌, ◌*◌, ◌%◌, ◌^◌, ◌<◌, ◌≤◌, Bool, true, false, List, map, length, sym, refl, ap, ◌∙◌, subst, mod-eq_of_lt, arith, take_at, le-ltb, lt-ltb}
+use Rattle.std.proofs.Common.{◌≡◌, ℕ, ◌+◌, ◌-◌, ◌*◌, ◌%◌, ◌^◌, ◌<◌, ◌≤◌, min, max, Bool, true, false, List, map, length, sym, refl, ap, ◌∙◌, subst, mod-eq_of_lt, arith, take_at, le-ltb, lt-ltb}
 use native.Mathlib.Decide.{ℕ_discrete, dec_lt}
 use lib.Count.{ones}
 use Rattle.lists.specs.Lists.{pick, same, word, from, range, keep, total}
@@ -49,6 +49,20 @@ least-high a e b h l = go (dec_lt e b)
     go : Dec (e < b) → a ≤ least e b
     go (yes d) = rw (lt-ltb e b d) h
     go (no d) = rw (le-ltb e b (omega arith)) l
+
+least-min : (a b : ℕ) → least a b ≡ min a b
+least-min a b = go (dec_lt a b)
+  where
+    go : Dec (a < b) → least a b ≡ min a b
+    go (yes l) = rw (lt-ltb a b l) (omega arith)
+    go (no l) = rw (le-ltb a b (omega arith)) (omega arith)
+
+most-max : (a b : ℕ) → most a b ≡ max a b
+most-max a b = go (dec_lt a b)
+  where
+    go : Dec (a < b) → most a b ≡ max a b
+    go (yes l) = rw (lt-ltb a b l) (omega arith)
+    go (no l) = rw (le-ltb a b (omega arith)) (omega arith)
 
 pub least-few : (a b : ℕ) → least a b ≤ b
 least-few a b = go (dec_lt a b)
@@ -111,10 +125,10 @@ module _ (p n y : ℕ) (x : List ℕ) where
   places-more e d = rw (e, same-no (word (restricted_in x) y) 0 d)
 
 -- the rows between two names, as they are counted
-pub span-told : (w x : List ℕ) (n first end p b a l : ℕ) → p ≡ publics w → b ≡ bounds w → a ≡ most first p → l ≡ least end (p + b)
+pub span-told : (w x : List ℕ) (n first end p b a l : ℕ) → p ≡ publics w → b ≡ bounds w → a ≡ max first p → l ≡ min end (p + b)
     → total (map (places_in p x n) (from a (l - a))) ≡ span_in w x n first end
 unfolding span_in
-span-told w x n first end p b a l ep eb ea el = rw (ea, el, ep, eb)
+span-told w x n first end p b a l ep eb ea el = rw (ea, el, ← most-max first p, ← least-min end (p + b), ep, eb)
 
 -- the rows below a name and those from it on
 span-on : (w x : List ℕ) (n a e : ℕ) → a ≤ e → span_in w x n 0 e ≡ span_in w x n 0 a + span_in w x n a e

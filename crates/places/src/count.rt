@@ -1,5 +1,5 @@
 // How many transitions and arcs a net has, by multiplication.
-ghost use Rattle.std.specs.Prelude.{◌≡◌, ◌+◌, ◌-◌, ◌*◌, ◌^◌, ◌<◌, ◌≤◌, not, map, length, take, nat_lt};
+ghost use Rattle.std.specs.Prelude.{◌≡◌, ◌+◌, ◌-◌, ◌*◌, ◌^◌, ◌<◌, ◌≤◌, not, map, length, nat_lt};
 ghost use Rattle.std.proofs.lemmas.List.Edits.{sets};
 ghost use Rattle.lists.specs.Lists.{pick, bit, same, word, from, range, keep, flat};
 ghost use Rattle.scheme.specs.Words.{publics, names, nodes, branches, channel, argument};
@@ -9,8 +9,8 @@ ghost use Rattle.places.specs.Sides.{side_in, side_at, receive_words, receives_o
 ghost use Rattle.places.specs.Answers.{sums_of};
 ghost use Rattle.places.specs.Sets.{bit_at};
 ghost use Rattle.places.specs.Inner.Plan.{read_names_word};
-ghost use Rattle.places.specs.Inner.Counting.{Few, add_times, over};
-ghost use Rattle.places.specs.Inner.Counting.{release_sums, copy_sums, silent_sums, node_sums};
+ghost use Rattle.places.specs.Inner.Counting.{Few, add_times, add_both, over};
+ghost use Rattle.places.specs.Inner.Counting.{value_sums, release_sums, copy_sums, silent_sums, node_sums};
 ghost use Rattle.places.specs.Inner.Counting.{pair_sums, set_sums, send_sums, all_sums, Sends, Pairs};
 
 use crate::layout::reading_names;
@@ -41,6 +41,21 @@ fn more(t: Totals, times: usize, inputs: usize, outputs: usize) -> Totals
     }
 }
 
+// `publics` transitions more, and `privates` more with `arcs` inputs and as many outputs.
+fn more_of_both(
+    t: Totals,
+    publics: usize,
+    inputs: usize,
+    outputs: usize,
+    privates: usize,
+    arcs: usize,
+) -> Totals
+    requires { Few (add_both (sums_of t) publics inputs outputs privates arcs) }
+    ensures { sums_of result ≡ add_both (sums_of t) publics inputs outputs privates arcs }
+{
+    more(more(t, publics, inputs, outputs), privates, arcs, arcs)
+}
+
 // How many public values a name has whose reach is given.
 pub fn publics_of(table: &[u16], values: Reach) -> usize
     ensures { (result ≡ length (keep (bit_at values.publics) (range (publics table.now)))) × (result ≤ 64) }
@@ -58,48 +73,39 @@ pub fn privates_of(index: &[u32], values: Reach) -> usize
     0
 }
 
-// The releases of a name.
-fn releases(table: &[u16], index: &[u32], t: Totals, name: usize) -> Totals
-    requires { Laid table.now index.now × Few (release_sums table.now (sums_of t) name) }
-    ensures { sums_of result ≡ release_sums table.now (sums_of t) name }
+// A transition more for each value of a name.
+fn for_values(
+    table: &[u16],
+    index: &[u32],
+    t: Totals,
+    name: usize,
+    inputs: usize,
+    outputs: usize,
+    arcs: usize,
+) -> Totals
+    requires { Laid table.now index.now × Few (value_sums table.now (sums_of t) name inputs outputs arcs) }
+    ensures { sums_of result ≡ value_sums table.now (sums_of t) name inputs outputs arcs }
 {
     let values = reach_of(index, name);
     let publics = publics_of(table, values);
     let privates = privates_of(index, values);
-    more(more(t, publics, 2, 1), privates, 2, 2)
+    more_of_both(t, publics, inputs, outputs, privates, arcs)
 }
 
-fn all_releases(table: &[u16], index: &[u32], t: Totals, names: &[u32], count: usize) -> Totals
-    requires { Laid table.now index.now × (count ≤ length names.now)
-        × Few (over (release_sums table.now) (sums_of t) (take count names.now)) }
-    ensures { sums_of result
-        ≡ over (release_sums table.now) (sums_of t) (take count names.now) }
+// The releases of names.
+fn releases(table: &[u16], index: &[u32], t: Totals, names: &[u32]) -> Totals
+    requires { Laid table.now index.now × Few (over (release_sums table.now) (sums_of t) names.now) }
+    ensures { sums_of result ≡ over (release_sums table.now) (sums_of t) names.now }
 {
     let mut r = t;
-    for i in 0..count {
-        r = releases(table, index, r, word(names, i));
+    for &name in names {
+        r = for_values(table, index, r, name as usize, 2, 1, 2);
     }
     r
 }
 
-// The copies of an argument.
-fn copies(table: &[u16], index: &[u32], t: Totals, argument: usize) -> Totals
-    requires { Laid table.now index.now × Few (copy_sums table.now (sums_of t) argument) }
-    ensures { sums_of result ≡ copy_sums table.now (sums_of t) argument }
-{
-    let read = bound(table, argument);
-    let values = reach_of(index, argument);
-    let publics = publics_of(table, values);
-    let privates = privates_of(index, values);
-    more(
-        more(t, publics, read + 1, read + 2),
-        privates,
-        read + 2,
-        read + 2,
-    )
-}
-
-fn all_copies(table: &[u16], index: &[u32], t: Totals, first: usize, end: usize) -> Totals
+// The copies of arguments.
+fn copies(table: &[u16], index: &[u32], t: Totals, first: usize, end: usize) -> Totals
     requires { Laid table.now index.now
         × Few (over (copy_sums table.now) (sums_of t) (map (argument table.now) (from first (end - first)))) }
     ensures { sums_of result
@@ -108,7 +114,9 @@ fn all_copies(table: &[u16], index: &[u32], t: Totals, first: usize, end: usize)
 {
     let mut r = t;
     for i in first..end {
-        r = copies(table, index, r, field1(table, 12, i));
+        let name = field1(table, 12, i);
+        let read = bound(table, name);
+        r = for_values(table, index, r, name, read + 1, read + 2, read + 2);
     }
     r
 }
@@ -146,28 +154,16 @@ fn node(table: &[u16], index: &[u32], read: usize, t: Totals, n: usize) -> Total
     let mut r = t;
     if kind != 0 {
         let end = second + field4(table, 8, first, 3);
-        r = all_copies(table, index, more(t, 1, 1, 1), second, end);
+        r = copies(table, index, more(t, 1, 1, 1), second, end);
     }
-    all_releases(table, index, r, &names, held)
+    releases(table, index, r, &names[..held])
 }
 
 // 1 for a bound name, 0 for a public one.
 fn bound(table: &[u16], name: usize) -> usize
     ensures { result ≡ bit (not (nat_lt name (publics table.now))) }
 {
-    if name < word(table, 0) {
-        return 0;
-    }
-    1
-}
-
-pub(crate) fn larger(a: usize, b: usize) -> usize
-    ensures { result ≡ pick (nat_lt a b) b a }
-{
-    if a < b {
-        return b;
-    }
-    a
+    usize::from(word(table, 0) <= name)
 }
 
 // One side of a communication: the branch, its thread, its channel, the name that it sends or binds, and the places
@@ -296,19 +292,23 @@ fn pair(table: &[u16], index: &[u32], t: Totals, s: Sending, r: Side, i: Reach) 
     let publics = publics_of(table, i);
     let privates = privates_of(index, i);
     if s.name == s.channel {
-        return more(
-            more(t, publics, channels + 2, channels + 3),
-            privates,
+        return more_of_both(
+            t,
+            publics,
+            channels + 2,
             channels + 3,
+            privates,
             channels + 3,
         );
     }
     let arcs = channels + s.names;
     let all = publics + privates;
-    more(
-        more(t, all * s.publics, arcs + 2, arcs + 3),
-        all * s.privates,
+    more_of_both(
+        t,
+        all * s.publics,
+        arcs + 2,
         arcs + 3,
+        all * s.privates,
         arcs + 3,
     )
 }
@@ -323,10 +323,10 @@ fn partners(table: &[u16], index: &[u32], t: Totals, send: u32, set: u64, pairs:
     let mut q = t;
     let mut left = set;
     while left != 0 {
-        let r = receive_at(pairs, u64::trailing_zeros(left) as u16);
+        let r = receive_at(pairs, left.trailing_zeros() as u16);
         let i = common(s.values, reach_of(index, r.channel as usize));
         q = pair(table, index, q, s, r, i);
-        left = left & (left - 1);
+        left &= left - 1;
     }
     q
 }

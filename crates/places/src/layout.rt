@@ -1,5 +1,5 @@
 // Where places stand: control places of nodes, [*≠n], and how many there are.
-ghost use Rattle.std.specs.Prelude.{◌≡◌, ◌+◌, ◌<◌, ◌≤◌, not, ◌&&◌, ◌++◌, length, drop, replicate};
+ghost use Rattle.std.specs.Prelude.{◌≡◌, ◌+◌, ◌<◌, ◌≤◌, not, ◌&&◌, ◌++◌, length, drop};
 ghost use Rattle.std.proofs.lemmas.List.Edits.{sets};
 ghost use Rattle.lists.specs.Lists.{word, same};
 ghost use Rattle.scheme.specs.Words.{bounds, nodes};
@@ -24,24 +24,7 @@ pub(crate) fn is_restricted(table: &[u16], name: usize) -> bool
     ensures { result ≡ (scheme table.now).restricted name }
 {
     let publics = word(table, 0);
-    if name < publics {
-        return false;
-    }
-    if publics + word(table, 1) <= name {
-        return false;
-    }
-    field1(table, 7, name - publics) == 0
-}
-
-// Sets every word to v.
-pub(crate) fn repeat(out: &mut [u32], v: u32)
-    ensures { out.new ≡ replicate (length out.old) v }
-{
-    let mut i = 0;
-    while i < out.len() {
-        out[i] = v;
-        i += 1;
-    }
+    publics <= name && name < publics + word(table, 1) && field1(table, 7, name - publics) == 0
 }
 
 // How many control places a node has that holds so many names: so far from their start those of the next node start.
@@ -75,7 +58,7 @@ fn fill_nodes(table: &[u16], held: &[u32], first: usize, index: &mut [u32]) -> u
         store(index, NODES + n, at as u32);
         at += control_count(table, n, word(held, n));
     }
-    repeat(&mut index[NODES + count..PRIVATES], at as u32);
+    index[NODES + count..PRIVATES].fill(at as u32);
     at
 }
 
@@ -84,16 +67,9 @@ pub(crate) fn free_names(table: &[u16]) -> usize
     ensures { (result ≡ free_names_word table.now) × (result ≤ bounds table.now) }
 {
     let publics = word(table, 0);
-    let end = publics + word(table, 1);
-    let mut count = 0;
-    let mut x = publics;
-    while x < end {
-        if name_kind(table, x) != 0 {
-            count += 1;
-        }
-        x += 1;
-    }
-    count
+    (publics..publics + word(table, 1))
+        .filter(|&x| name_kind(table, x) != 0)
+        .count()
 }
 
 // Whether a bound name has places [x≠n]: it is not restricted, and a restricted name is in its reach.
@@ -101,10 +77,7 @@ pub fn is_read(table: &[u16], index: &[u32], name: usize) -> bool
     ensures { result ≡ (not ((scheme table.now).restricted name)
         && not (same (word (restricted_in index.now) name) 0)) }
 {
-    if is_restricted(table, name) {
-        return false;
-    }
-    has_privates(reach_of(index, name))
+    !is_restricted(table, name) && has_privates(reach_of(index, name))
 }
 
 // How many bound names that are not restricted may hold private values.
@@ -113,16 +86,9 @@ pub(crate) fn reading_names(table: &[u16], index: &[u32]) -> usize
     ensures { (result ≡ read_names_word table.now) × (result ≤ bounds table.now) }
 {
     let publics = word(table, 0);
-    let end = publics + word(table, 1);
-    let mut count = 0;
-    let mut x = publics;
-    while x < end {
-        if is_read(table, index, x) {
-            count += 1;
-        }
-        x += 1;
-    }
-    count
+    (publics..publics + word(table, 1))
+        .filter(|&x| is_read(table, index, x))
+        .count()
 }
 
 // Fills in what the plan has behind the index.

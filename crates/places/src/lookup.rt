@@ -1,5 +1,7 @@
 // What the plan of a table tells: where a node's control places and [*≠n] start, N, and how many places and initial
 // tokens the net has. Exact on any words: what the plan has no word for reads 0.
+ghost use Rattle.std.specs.Prelude.{◌≤◌};
+ghost use Rattle.std.proofs.Math.Seq.{slice};
 ghost use Rattle.lists.specs.Lists.{Word};
 ghost use Rattle.places.specs.Plan.{nodes_in, privates_at, free_at, places_at, tokens_at};
 
@@ -23,14 +25,22 @@ pub const TOKENS: usize = 1220;
 
 pub const SIZE: usize = 1221;
 
+// Word i of the part of a list from `first` on and below `end`, 0 past the part.
+pub(crate) fn part(words: &[u32], first: usize, end: usize, i: usize) -> usize
+    requires { first ≤ end }
+    ensures { Word 4294967296 (slice first end words.now) i result }
+{
+    if i < end - first {
+        return word(words, first + i);
+    }
+    0
+}
+
 // Where the control places of a node start; past the nodes where they end.
 pub fn node_start(index: &[u32], node: usize) -> usize
     ensures { Word 4294967296 (nodes_in index.now) node result }
 {
-    if node < PRIVATES - NODES {
-        return word(index, NODES + node);
-    }
-    0
+    part(index, NODES, PRIVATES, node)
 }
 
 // N: how many private values there are.

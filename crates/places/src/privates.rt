@@ -8,7 +8,6 @@ ghost use Rattle.table.specs.Known.{Known};
 ghost use Rattle.places.specs.Inner.Plan.{privates_word};
 ghost use Rattle.places.specs.Inner.Holding.{held_most, HeldBelow, NoneHeld, MostsHeld};
 
-use crate::count::larger;
 use crate::layout::free_names;
 use lists::{store, word};
 use scheme::fields::{field3, field4};
@@ -54,8 +53,7 @@ fn raise(most: &mut [u32], t: usize, held: usize)
     ensures { most.new ≡ slice_set most.old t
         (pick (nat_lt (word most.old t) held) held (word most.old t)) }
 {
-    let before = word(most, t);
-    store(most, t, larger(before, held) as u32);
+    store(most, t, held.max(word(most, t)) as u32);
 }
 
 // How many names each node holds, from the lowest up.
@@ -91,13 +89,7 @@ fn sum(words: &[u32], count: usize) -> usize
     requires { count ≤ 8 }
     ensures { result ≡ total (map (word words.now) (range count)) }
 {
-    let mut s = 0;
-    let mut i = 0;
-    while i < count {
-        s += word(words, i);
-        i += 1;
-    }
-    s
+    (0..count).map(|i| word(words, i)).sum()
 }
 
 // N: none without restricted names, else what the threads hold at most, added up; `held` has how many each node holds.

@@ -5,8 +5,7 @@ ghost use Rattle.places.specs.Sets.{bit_at};
 ghost use Rattle.places.specs.Plan.{publics_in, restricted_in, reach_in};
 ghost use Rattle.places.specs.Reaches.{common_reach};
 
-use crate::lookup::{NODES, PUBLICS, RESTRICTED};
-use lists::word;
+use crate::lookup::{NODES, PUBLICS, RESTRICTED, part};
 
 // A set has number k at bit k: public names by their numbers, restricted ones counted from the first bound name.
 #[derive(Clone, Copy)]
@@ -19,19 +18,13 @@ pub struct Reach {
 pub(crate) fn public_word(index: &[u32], name: usize) -> usize
     ensures { Word 4294967296 (publics_in index.now) name result }
 {
-    if name < RESTRICTED - PUBLICS {
-        return word(index, PUBLICS + name);
-    }
-    0
+    part(index, PUBLICS, RESTRICTED, name)
 }
 
 pub(crate) fn restricted_word(index: &[u32], name: usize) -> usize
     ensures { Word 4294967296 (restricted_in index.now) name result }
 {
-    if name < NODES - RESTRICTED {
-        return word(index, RESTRICTED + name);
-    }
-    0
+    part(index, RESTRICTED, NODES, name)
 }
 
 // The reach of a name; nothing past the names.
@@ -65,10 +58,7 @@ pub fn has_privates(values: Reach) -> bool
 pub fn has(set: u64, v: usize) -> bool
     ensures { result ≡ bit_at set v }
 {
-    if v < 64 {
-        return (set >> v) % 2 == 1;
-    }
-    false
+    v < 64 && (set >> v) % 2 == 1
 }
 
 // How many numbers of a set are below v.
@@ -76,25 +66,14 @@ pub fn rank(set: u64, v: usize) -> usize
     ensures { (result ≡ length (keep (bit_at set) (range v))) × (result ≤ 64) }
 {
     if v < 64 {
-        return u64::count_ones(set % (1u64 << v)) as usize;
+        return (set % (1u64 << v)).count_ones() as usize;
     }
-    u64::count_ones(set) as usize
+    set.count_ones() as usize
 }
 
 // Number k of a set, counted from 0 upward; 0 where the set has no more than k.
 pub fn nth(set: u64, k: usize) -> usize
     ensures { (result ≡ word (keep (bit_at set) (range 64)) k) × (result < 64) }
 {
-    let mut left = k;
-    let mut v = 0;
-    while v < 64 {
-        if has(set, v) {
-            if left == 0 {
-                return v;
-            }
-            left -= 1;
-        }
-        v += 1;
-    }
-    0
+    (0..64).filter(|&v| has(set, v)).nth(k).unwrap_or(0)
 }

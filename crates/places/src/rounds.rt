@@ -14,7 +14,6 @@ ghost use Rattle.places.specs.Inner.Sets.{hears_at, said_at, is_said};
 ghost use Rattle.places.specs.Inner.Sets.{Start, Found, Ears, Heard, Round};
 ghost use Rattle.places.specs.Inner.Plan.{argument_name};
 
-use crate::layout::repeat;
 use crate::lookup::{PUBLICS, RESTRICTED};
 use lists::{store, word};
 use scheme::fields::{field1, field3, field4, name_kind};
@@ -24,10 +23,7 @@ use scheme::lookup::branch_thread;
 pub(crate) fn word64(words: &[u64], i: usize) -> u64
     ensures { result ≡ word words.now i }
 {
-    if i < words.len() {
-        return words[i];
-    }
-    0
+    words.get(i).copied().unwrap_or(0)
 }
 
 // Joins a set to set x, and returns whether that brings something.
@@ -50,9 +46,9 @@ pub(crate) fn gather(words: &[u64], set: u64) -> u64
     let mut all = 0u64;
     let mut left = set;
     while left != 0 {
-        let x = u64::trailing_zeros(left) as usize;
-        all = all | word64(words, x);
-        left = left & (left - 1);
+        let x = left.trailing_zeros() as usize;
+        all |= word64(words, x);
+        left &= left - 1;
     }
     all
 }
@@ -64,9 +60,9 @@ pub(crate) fn spread(words: &mut [u64], set: u64, a: u64) -> bool
     let mut grew = false;
     let mut left = set;
     while left != 0 {
-        let x = u64::trailing_zeros(left) as usize;
+        let x = left.trailing_zeros() as usize;
         grew |= join(words, x, a);
-        left = left & (left - 1);
+        left &= left - 1;
     }
     grew
 }
@@ -234,7 +230,7 @@ fn put_digits(words: &[u64], n: usize, first: usize, size: usize, at: usize, ind
     for x in 0..n {
         store(index, at + x, ((word64(words, x) >> first) % limit) as u32);
     }
-    repeat(&mut index[at + n..at + 64], 0);
+    index[at + n..at + 64].fill(0);
 }
 
 // Fills in the reaches of names behind the index.

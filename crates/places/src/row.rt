@@ -1,22 +1,12 @@
 // Where the row of a name starts: the number of row places of the names below, by each name's reach. Nothing is kept.
-ghost use Rattle.std.specs.Prelude.{◌≡◌, ◌≤◌, nat_lt};
-ghost use Rattle.lists.specs.Lists.{pick, word};
+ghost use Rattle.std.specs.Prelude.{◌≡◌, ◌≤◌};
+ghost use Rattle.lists.specs.Lists.{word};
 ghost use Rattle.places.specs.Plan.{privates_at};
 ghost use Rattle.places.specs.Starts.{places_in, span_in, start_in, start_after, start_on};
 
-use crate::count::larger;
 use crate::lookup::privates;
 use crate::reach::{has, public_word, restricted_word};
 use lists::word;
-
-fn smaller(a: usize, b: usize) -> usize
-    ensures { result ≡ pick (nat_lt a b) a b }
-{
-    if a < b {
-        return a;
-    }
-    b
-}
 
 // How many places the row of a name has: N where the name is in its own reach, so restricted; else the publics in its
 // reach and, with a restricted name in it, 2N more.
@@ -26,12 +16,12 @@ fn places_of(index: &[u32], publics: usize, privates: u32, name: usize) -> usize
 {
     let restricted = restricted_word(index, name) as u64;
     if restricted == 0 {
-        return u32::count_ones(public_word(index, name) as u32) as usize;
+        return (public_word(index, name) as u32).count_ones() as usize;
     }
     if has(restricted, name - publics) {
         return privates as usize;
     }
-    u32::count_ones(public_word(index, name) as u32) as usize + 2 * (privates as usize)
+    (public_word(index, name) as u32).count_ones() as usize + 2 * (privates as usize)
 }
 
 // How many row places the bound names from `first` on and below `end` have, with so many private values.
@@ -45,12 +35,10 @@ pub(crate) fn places_with(
     ensures { result ≡ span_in table.now index.now privates first end }
 {
     let publics = word(table, 0);
-    let last = smaller(end, publics + word(table, 1));
+    let last = end.min(publics + word(table, 1));
     let mut count = 0;
-    let mut x = larger(first, publics);
-    while x < last {
+    for x in first.max(publics)..last {
         count += places_of(index, publics, privates, x);
-        x += 1;
     }
     count
 }

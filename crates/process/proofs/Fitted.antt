@@ -9,7 +9,8 @@ use native.Mathlib.Omega.{arith}
 use lib.ListN.{length, take, drop, length-append, length-drop}
 use lib.Seq.{length-take-le}
 use borrow.Author.Tests.{lt-ltb, le-ltb}
-use Rattle.lists.specs.Lists.{same, range, flat}
+use Rattle.lists.specs.Lists.{range, flat}
+use Rattle.lists.proofs.Tests.{same_self}
 use Rattle.lists.proofs.Slices.{slice-between}
 use Rattle.scheme.specs.Words.{branches}
 use Rattle.table.specs.Causes.{cause}
@@ -77,14 +78,10 @@ fitted-length words lent after r F = go (dec_lt (length lent) (length words))
 -- ---- the outcome
 
 module _ (w ws lent : List ℕ) where
-  pub open-refused : (n : ℕ) → same n 0 ≡ false → n ≡ cause w → refusal n lent ≡ open_outcome w ws lent
-  unfolding open_outcome
-  open-refused n h e = rw (sym e, h)
-
-  module _ (n : ℕ) (h : same n 0 ≡ true) (e : n ≡ cause w) where
+  module _ (e : cause w ≡ 0) where
     pub open-malformed : is_well_formed (scheme w) ws ≡ false → refusal 18 lent ≡ open_outcome w ws lent
     unfolding open_outcome
-    open-malformed f = rw (sym e, h, f)
+    open-malformed f = rw (e, same_self 0, f)
 
     module _ (f : is_well_formed (scheme w) ws ≡ true) (after : List ℕ) (r : ℕ) (F : Fitted (open_labels (scheme w) (state_of (scheme w) ws)) lent after r) where
       pub open-short : length after < r → refusal 10 after ≡ open_outcome w ws lent
@@ -93,7 +90,7 @@ module _ (w ws lent : List ℕ) where
           let words = open_labels (scheme w) (state_of (scheme w) ws) in
           let k = lt-ltb (length lent) (length words) (omega (arith, F.size, fitted-length words lent after r F)) in
           let same-words : after ≡ lent = F.left ∙ rw k in
-          rw (sym e, h, f, k, same-words)
+          rw (e, same_self 0, f, k, same-words)
 
       pub open-written : r ≤ length after → record { number = 0; value = some (r / 3); left = after } ≡ open_outcome w ws lent
       unfolding open_outcome answered
@@ -103,4 +100,4 @@ module _ (w ws lent : List ℕ) where
           let three = labels_length (scheme w) (state_of (scheme w) ws) in
           let t : r / 3 ≡ length (open_step_list (scheme w) (state_of (scheme w) ws)) = omega (arith, F.size, three) in
           let all_words : after ≡ words ++ drop (length words) lent = F.left ∙ rw k in
-          rw (sym e, h, f, k, all_words, t)
+          rw (e, same_self 0, f, k, all_words, t)

@@ -1,19 +1,18 @@
 -- The tests of state words, one by one: what the code looks at decides what the definition asks.
 use mathlib.Core.Path.{◌≡◌, refl, sym, ◌∙◌}
 use mathlib.Core.Bool.{Bool, true, false, not, ◌||◌}
-use mathlib.Core.List.{List, []}
+use mathlib.Core.List.{List, [], ◌∷◌}
 use Prim.Native.Nat.{ℕ, ◌+◌, ◌≤◌, ◌<◌}
 use native.Mathlib.Decide.{ℕ_discrete}
 use native.Mathlib.Omega.{arith}
-use lib.Dec.{ltb}
-use lib.ListN.{length, replicate, length-replicate}
-use lib.Seq.{slice, length-sets}
+use lib.Dec.{ltb, eqb}
+use lib.ListN.{length, take, replicate, length-replicate}
+use lib.Seq.{length-sets, take-append_seam}
 use borrow.Author.Tests.{le-leb, lt-leb}
-use Rattle.lists.specs.Lists.{same, word, from, every, member}
-use Rattle.lists.proofs.Tests.{same-yes, same-no, and-true}
-use Rattle.lists.proofs.Members.{member-here}
+use Rattle.std.specs.List.{list_any}
+use Rattle.lists.specs.Lists.{same, from, every, member}
+use Rattle.lists.proofs.Tests.{same-yes, same-no, same-sym, and-true}
 use Rattle.lists.proofs.Counts.{distinct-below}
-use Rattle.lists.proofs.Slices.{slice-step, slice-none, slice-between}
 use Rattle.scheme.specs.Words.{nodes}
 use Rattle.scheme.specs.Index.{held_at, HeldNames}
 use Rattle.scheme.specs.Scheme.{Scheme, scheme}
@@ -25,19 +24,12 @@ use Rattle.table.specs.Known.{Known}
 use Rattle.process.specs.Inner.Values.{value_at}
 use Rattle.process.proofs.Sets.{sets-whole}
 
--- ---- a name among the first words of a list
+-- ---- a name in a list
 
-module _ (names : List ℕ) (count i v x : ℕ) (h : i < count) (k : count ≤ length names) (e : v ≡ word names i) where
-  pub listed_here : v ≡ x → member x (slice i count names) ≡ true
-  listed_here p = rw (slice-step names i count h k, ← e, p) (member-here x (slice (i + 1) count names))
-
-  pub listed_more : (v ≡ x → ⊥) → member x (slice i count names) ≡ member x (slice (i + 1) count names)
-  unfolding member
-  listed_more d = rw (slice-step names i count h k, ← e, member, same-no x v (λ p. d (sym p)))
-
-pub listed-none : (names : List ℕ) (count i x : ℕ) → count ≤ i → member x (slice i count names) ≡ false
-unfolding member
-listed-none names count i x h = rw (slice-none names i count h)
+pub member_any : (x : ℕ) (ys : List ℕ) → member x ys ≡ list_any (λ y. eqb y x) ys
+unfolding member same
+member_any x [] = refl
+member_any x (y ∷ ys) = rw (same-sym x y, member_any x ys)
 
 -- ---- held names
 
@@ -66,10 +58,8 @@ module _ (w index : List ℕ) (K : Known w index) where
     pub held-count-fits : r ≤ length after
     held-count-fits = rw (H.count, H.written, length-sets (replicate 64 0) 0 (held_at w index n)) names-fit
 
-    pub held-listed : slice 0 r after ≡ (scheme w).held n
-    held-listed =
-        rw (H.count, H.written, sets-whole (replicate 64 0) (held_at w index n) names-fit)
-        (slice-between [] (held_at w index n) _ 0 (length (held_at w index n)) refl (omega arith) ∙ held-here)
+    pub held-listed : take r after ≡ (scheme w).held n
+    held-listed = rw (H.count, H.written, sets-whole (replicate 64 0) (held_at w index n) names-fit) (take-append_seam (held_at w index n) _ ∙ held-here)
 
 -- ---- a name's value against the node
 

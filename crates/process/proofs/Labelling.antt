@@ -6,6 +6,7 @@ use Prim.Native.Nat.{ℕ, ◌+◌, ◌≤◌, ◌<◌}
 use native.Mathlib.Omega.{arith}
 use lib.Dec.{ltb}
 use borrow.Author.Tests.{lt-ltb}
+use Rattle.std.specs.Bool.{then_some}
 use Rattle.lists.specs.Lists.{pick, same, from, member}
 use Rattle.lists.proofs.Tests.{and_left, and_right, not-true-false}
 use Rattle.lists.proofs.Ranges.{member-from, from_member}
@@ -19,7 +20,7 @@ use Rattle.process.specs.States.{State, is_one_value}
 use Rattle.process.specs.Steps.{Step, communication, no_step, is_step_open, can_communicate, is_standing_at}
 use Rattle.process.specs.Labels.{new_name, named_new, named_silent, named_call, is_partner}
 use Rattle.process.specs.Labels.{bookkeeping, copy, release, missing, copies, releases, named_copy, named_release}
-use Rattle.process.specs.Inner.Codes.{if_open, meant, Labelled}
+use Rattle.process.specs.Inner.Codes.{if_open, meant, opened, Labelled}
 use Rattle.process.specs.declared.labels.Step as code
 use Rattle.process.proofs.Decoding.{new-there, send-there, receive-there, choice-at, new-at, call_at, send_at, receive-at}
 
@@ -125,11 +126,9 @@ module _ (S : Scheme) (s : State) (b c : ℕ) where
 
 -- a step that a label names is taken if it is open
 module _ (S : Scheme) (s : State) (x : Step) where
-  pub open-yes : (y : Step) → y ≡ x → is_step_open S s y ≡ true → y ≡ if_open S s x
-  open-yes y e h = rw (← e, h)
-
-  pub open_no : (y : Step) → y ≡ x → is_step_open S s y ≡ false → no_step ≡ if_open S s x
-  open_no y e h = rw (← e, h)
+  pub open_told : (b : Bool) (y : code.Step) → b ≡ is_step_open S s (meant y) → meant y ≡ x → opened (then_some b y) ≡ if_open S s x
+  open_told true y e h = rw (← h, ← e)
+  open_told false y e h = rw (← h, ← e)
 
   pub open-nothing : no_step ≡ x → no_step ≡ if_open S s x
   unfolding is_step_open

@@ -1,4 +1,5 @@
 pub mod Cases
+pub mod Refusing
 pub mod Renaming
 pub mod Sets
 pub mod Decoding

@@ -11,7 +11,7 @@ use lib.ListN.{length, replicate, length-append, length-map, length-replicate}
 use lib.Seq.{sets}
 use borrow.Author.Tests.{lt-ltb, le-ltb}
 use Rattle.lists.specs.Lists.{same, word, from, range}
-use Rattle.lists.proofs.Tests.{same-yes, same-no}
+use Rattle.lists.proofs.Tests.{same-yes, same-no, same_self}
 use Rattle.lists.proofs.Ranges.{from-length}
 use Rattle.lists.proofs.Stores.{sets-append}
 use Rattle.scheme.specs.Words.{publics, bounds, threads, root, entry}
@@ -69,14 +69,10 @@ start-length w =
     rw (start-words w, length-append, length-map (range (threads w)) (λ t. root w (entry w t)), from-length 0 (threads w), length-replicate {A = ℕ} (bounds w) 65535)
 
 module _ (w lent : List ℕ) where
-  pub start-refused : (n : ℕ) → same n 0 ≡ false → n ≡ cause w → refusal n lent ≡ start_outcome w lent
-  unfolding start_outcome
-  start-refused n h e = rw (sym e, h)
-
-  module _ (n : ℕ) (h : same n 0 ≡ true) (e : n ≡ cause w) where
+  module _ (e : cause w ≡ 0) where
     pub start-short : length lent < threads w + bounds w → refusal 10 lent ≡ start_outcome w lent
     unfolding start_outcome answered
-    start-short l = let k : length lent < length (state_words (scheme w) (start (scheme w))) = omega (arith, start-length w) in rw (sym e, h, lt-ltb _ _ k)
+    start-short l = let k : length lent < length (state_words (scheme w) (start (scheme w))) = omega (arith, start-length w) in rw (e, same_self 0, lt-ltb _ _ k)
 
     pub start-written : (r : ℕ) (middle left : List ℕ) → threads w + bounds w ≤ length lent → r ≡ threads w + bounds w
         → middle ≡ sets lent 0 (map (λ t. root w (entry w t)) (range (threads w)))
@@ -89,4 +85,4 @@ module _ (w lent : List ℕ) where
         let roots = map (λ t. root w (entry w t)) (range (threads w)) in
         let m : 0 + length roots ≡ threads w = rw (length-map (range (threads w)) (λ t. root w (entry w t)), from-length 0 (threads w)) (omega arith) in
         let o : sets lent 0 ws ≡ left = rw (start-words w) (sets-append lent 0 roots (replicate (bounds w) 65535) ∙ rw (m, ← f, ← g)) in
-        rw (sym e, h, le-ltb (length lent) (length ws) k, q, ← sets-whole lent ws k, o)
+        rw (e, same_self 0, le-ltb (length lent) (length ws) k, q, ← sets-whole lent ws k, o)

@@ -9,11 +9,15 @@ use native.Mathlib.Decide.{ℕ_discrete, dec_lt}
 use native.Mathlib.Nat.{add-zero, sub-zero}
 use native.Mathlib.Numerals.{add-one}
 use native.Mathlib.Omega.{arith}
-use lib.Dec.{ltb}
+use lib.Dec.{ltb, eqb}
 use lib.ListN.{length, take, drop, set, length-set}
 use borrow.Author.Tests.{lt-ltb, le-ltb, le-leb, lt-leb}
-use Rattle.lists.specs.Lists.{pick, same, word, from, member}
-use Rattle.lists.proofs.Tests.{same-yes, same-no, same_self, not-true-false, not-false-true, true-or-false}
+use Rattle.std.specs.Prelude
+use Rattle.std.specs.Prelude.{Some, None, unwrap_or}
+use Rattle.std.specs.List.{position_from}
+use Rattle.std.proofs.lemmas.Grind.{common_steps}
+use Rattle.lists.specs.Lists.{same, word, from, member}
+use Rattle.lists.proofs.Tests.{same-yes, same-no, same_self, same-sym, not-true-false, not-false-true, true-or-false}
 use Rattle.lists.proofs.Members.{not-member, map-append}
 use Rattle.lists.proofs.Ranges.{from-length, from-snoc, member-from, from_member}
 use lib.Seq.{sets, slice, length-slice, take-suc-set}
@@ -43,33 +47,27 @@ place-span v a (suc n) h k = go (ℕ_discrete v a) (λ l. place-span v (a + 1) n
     go (yes e) ih = let z : 0 ≡ v - a = omega arith in rw (same-yes v a e, place) z
     go (no d) ih = let z : suc (v - (a + 1)) ≡ v - a = omega arith in rw (same-no v a d, place) (ap suc (ih (omega arith)) ∙ z)
 
+-- what is left of a comparison once a value has been looked at; nothing is right after one that is not numbered by first appearance
+abbrev pub after_turn : (ℕ → Bool) → Prelude.Option ℕ → Bool
+after_turn rest None = false
+after_turn rest (Some seen) = rest seen
+
 module _ (S : Scheme) (P seen v : ℕ) (os : List (Option ℕ)) (vs : List ℕ) where
   -- one word of a numbering
-  pub numbered-turn : P ≤ 32 → seen ≤ 32
-      → same_list S (value_words P (from P seen) (value_at v ∷ os)) (v ∷ vs)
-      ≡ pick (same (next_seen_of P seen v) 65536) false (same_list S (value_words P (from P (next_seen_of P seen v)) os) vs)
+  pub numbered-turn : same_list S (value_words P (from P seen) (value_at v ∷ os)) (v ∷ vs)
+      ≡ after_turn (λ n. same_list S (value_words P (from P n) os) vs) (next_seen_of P seen v)
   unfolding value_words same_list next_seen_of noted
-  numbered-turn h k = go (ℕ_discrete v 65535) (dec_lt v P) (dec_lt v (P + seen)) (ℕ_discrete v (P + seen))
+  numbered-turn = go (ℕ_discrete v 65535) (dec_lt v P) (dec_lt v (P + seen)) (ℕ_discrete v (P + seen))
     where
       go : Dec (v ≡ 65535) → Dec (v < P) → Dec (v < P + seen) → Dec (v ≡ P + seen)
           → same_list S (value_words P (from P seen) (value_at v ∷ os)) (v ∷ vs)
-          ≡ pick (same (next_seen_of P seen v) 65536) false (same_list S (value_words P (from P (next_seen_of P seen v)) os) vs)
-      go (yes a) b c d = rw (same-yes v 65535 a, same-yes 65535 v (sym a), same-no seen 65536 (λ e. omega arith))
-      go (no a) (yes b) c d = rw (same-no v 65535 a, lt-ltb v P b, value_words, same_self v, same-no seen 65536 (λ e. omega arith))
+          ≡ after_turn (λ n. same_list S (value_words P (from P n) os) vs) (next_seen_of P seen v)
+      go (yes a) b c d = rw (same-yes v 65535 a, same-yes 65535 v (sym a))
+      go (no a) (yes b) c d = rw (same-no v 65535 a, lt-ltb v P b, value_words, same_self v)
       go (no a) (no b) (yes c) d =
           let m : member v (from P seen) ≡ true = member-from v P seen (omega arith) c in
           let q : P + (v - P) ≡ v = omega arith in
-          rw (
-            same-no v 65535 a,
-            le-ltb v P (omega arith),
-            value_words,
-            lt-ltb v (P + seen) c,
-            m,
-            place-span v P seen (omega arith) c,
-            q,
-            same_self v,
-            same-no seen 65536 (λ e. omega arith),
-          )
+          rw (same-no v 65535 a, le-ltb v P (omega arith), value_words, lt-ltb v (P + seen) c, m, place-span v P seen (omega arith) c, q, same_self v)
       go (no a) (no b) (no c) (yes d) =
           let m : member v (from P seen) ≡ false = not-true-false (member v (from P seen)) (λ e. let f = from_member v P seen e in omega arith) in
           let s : from P (seen + 1) ≡ from P seen ++ (v ∷ []) = rw (d, ← from-snoc P seen) (let z : seen + 1 ≡ suc seen = omega arith in rw z) in
@@ -84,7 +82,6 @@ module _ (S : Scheme) (P seen v : ℕ) (os : List (Option ℕ)) (vs : List ℕ) 
             from-length P seen,
             ← d,
             same_self v,
-            same-no (seen + 1) 65536 (λ e. omega arith),
             s,
           )
       go (no a) (no b) (no c) (no d) =
@@ -99,20 +96,11 @@ module _ (S : Scheme) (P seen v : ℕ) (os : List (Option ℕ)) (vs : List ℕ) 
             place-last v (from P seen) m,
             from-length P seen,
             same-no (P + seen) v (λ e. d (sym e)),
-            same_self 65536,
           )
 
-pub seen-grows : (P seen v : ℕ) → (next_seen_of P seen v ≡ 65536 → ⊥) → next_seen_of P seen v ≤ seen + 1
-unfolding next_seen_of
-seen-grows P seen v h = go (same v 65535) refl (ltb v P) refl (ltb v (P + seen)) refl (same v (P + seen)) refl
-  where
-    go : (a : Bool) → same v 65535 ≡ a → (b : Bool) → ltb v P ≡ b → (c : Bool) → ltb v (P + seen) ≡ c → (d : Bool) → same v (P + seen) ≡ d
-        → next_seen_of P seen v ≤ seen + 1
-    go true e b f c g d i = rw e (omega arith)
-    go false e true f c g d i = rw (e, f) (omega arith)
-    go false e false f true g d i = rw (e, f, g) (omega arith)
-    go false e false f false g true i = rw (e, f, g, i) (omega arith)
-    go false e false f false g false i = absurd (h (rw (e, f, g, i)))
+pub seen-grows : (P seen v n : ℕ) → next_seen_of P seen v ≡ Some n → n ≤ seen + 1
+unfolding next_seen_of same
+seen-grows P seen v n h = grind (arith, common_steps)
 
 -- ---- the words of a state against themselves
 
@@ -141,8 +129,8 @@ module _ (w ws : List ℕ) (size : length ws ≡ threads w + bounds w) where
       let d : bounds w - 0 ≡ bounds w = omega arith in
       rw (a, b, d) (nodes-same (scheme w) ws _ (threads w) 0 (threads w) (omega arith) (omega arith))
 
-  module _ (few : publics w ≤ 32) (seen i v : ℕ) (bound : seen ≤ 32) (more : i < bounds w) (is : v ≡ word ws (threads w + i)) (small : v < 65536) where
-    pub numbered_more : numbered_from w ws seen i ≡ pick (same (next_seen_of (publics w) seen v) 65536) false (numbered_from w ws (next_seen_of (publics w) seen v) (i + 1))
+  module _ (seen i v : ℕ) (more : i < bounds w) (is : v ≡ word ws (threads w + i)) (small : v < 65536) where
+    pub numbered_more : numbered_from w ws seen i ≡ after_turn (λ n. numbered_from w ws n (i + 1)) (next_seen_of (publics w) seen v)
     numbered_more =
         let q : bounds w - i ≡ suc (bounds w - (i + 1)) = omega arith in
         let x : publics w + i - publics w ≡ i = omega arith in
@@ -151,7 +139,7 @@ module _ (w ws : List ℕ) (size : length ws ≡ threads w + bounds w) where
         let z : threads w + i + 1 ≡ threads w + (i + 1) = omega arith in
         let l : from (publics w + i) (bounds w - i) ≡ (publics w + i) ∷ from (publics w + (i + 1)) (bounds w - (i + 1)) = rw (q, ← y) (opened (publics w + i) (bounds w - (i + 1))) in
         rw (l, u, drop-step ws (threads w + i) (omega arith), ← is, z)
-        (numbered-turn (scheme w) (publics w) seen v (map (state_of (scheme w) ws).value (from (publics w + (i + 1)) (bounds w - (i + 1)))) (drop (threads w + (i + 1)) ws) few bound)
+        (numbered-turn (scheme w) (publics w) seen v (map (state_of (scheme w) ws).value (from (publics w + (i + 1)) (bounds w - (i + 1)))) (drop (threads w + (i + 1)) ws))
 
   pub numbered-end : (seen i : ℕ) → bounds w ≤ i → numbered_from w ws seen i ≡ true
   unfolding value_words same_list from
@@ -159,20 +147,20 @@ module _ (w ws : List ℕ) (size : length ws ≡ threads w + bounds w) where
       let q : bounds w - i ≡ 0 = omega arith in
       rw (q, drop-none ws (threads w + i) (omega arith))
 
--- ---- where a value stands among the first of a list
+-- ---- where a value stands in a list, as a search for it tells
 
-module _ (us : List ℕ) (count i v x : ℕ) (h : i < count) (k : count ≤ length us) (e : v ≡ word us i) where
-  pub place_here : v ≡ x → i + place x (slice i count us) ≡ i
-  unfolding place
-  place_here p = rw (slice-step us i count h k, ← e, p, place, same_self x, add-zero i)
+place_from : (v k : ℕ) (us : List ℕ) (n : ℕ) → k + length us ≡ n → unwrap_or (position_from (λ u. eqb u v) k us) n ≡ k + place v us
+unfolding place same
+place_from v k [] n e = omega arith
+place_from v k (u ∷ us) n e = go (eqb u v) refl (place_from v (k + 1) us n (omega arith))
+  where
+    go : (b : Bool) → eqb u v ≡ b → unwrap_or (position_from (λ u. eqb u v) (k + 1) us) n ≡ k + 1 + place v us
+        → unwrap_or (position_from (λ u. eqb u v) k (u ∷ us)) n ≡ k + place v (u ∷ us)
+    go true q ih = rw (q, place, same-sym v u, q) (omega arith)
+    go false q ih = rw (q, place, same-sym v u, q) (ih ∙ omega arith)
 
-  pub place-more : (v ≡ x → ⊥) → i + place x (slice i count us) ≡ i + 1 + place x (slice (i + 1) count us)
-  unfolding place
-  place-more d = rw (slice-step us i count h k, ← e, place, same-no x v (λ p. d (sym p))) (omega arith)
-
-pub place_end : (us : List ℕ) (count i x : ℕ) → i ≤ count → count ≤ i → i + place x (slice i count us) ≡ count
-unfolding place
-place_end us count i x l h = rw (slice-none us i count h) (omega arith)
+pub place_first : (v : ℕ) (us : List ℕ) (n : ℕ) → length us ≡ n → unwrap_or (position_from (λ u. eqb u v) 0 us) n ≡ place v us
+place_first v us n e = place_from v 0 us n (omega arith) ∙ omega arith
 
 -- ---- one word more
 

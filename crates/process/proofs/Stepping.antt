@@ -10,8 +10,8 @@ use lib.Dec.{ltb}
 use lib.ListN.{length, length-append, length-map}
 use lib.Seq.{sets}
 use borrow.Author.Tests.{lt-ltb, le-ltb}
-use Rattle.lists.specs.Lists.{same, from, range}
-use Rattle.lists.proofs.Tests.{true-or-false, not-true-false}
+use Rattle.lists.specs.Lists.{from, range}
+use Rattle.lists.proofs.Tests.{same_self, true-or-false, not-true-false}
 use Rattle.lists.proofs.Ranges.{from-length}
 use Rattle.lists.proofs.Stores.{sets-append}
 use Rattle.scheme.specs.Words.{publics, bounds, threads}
@@ -87,19 +87,15 @@ unfolding is_step_open
 not_taken S s x h = not-true-false (is_step_open S s x) (λ o. let e : no_step ≡ x = h ∙ rw o in false≢true (rw (← e) at o))
 
 module _ (w ws : List ℕ) (kind a b : ℕ) (lent : List ℕ) where
-  pub step-refused : (n : ℕ) → same n 0 ≡ false → n ≡ cause w → refusal n lent ≡ step_outcome w ws kind a b lent
-  unfolding step_outcome
-  step-refused n h e = rw (sym e, h)
-
-  module _ (n : ℕ) (h : same n 0 ≡ true) (e : n ≡ cause w) where
+  module _ (e : cause w ≡ 0) where
     pub step-malformed : is_well_formed (scheme w) ws ≡ false → refusal 18 lent ≡ step_outcome w ws kind a b lent
     unfolding step_outcome
-    step-malformed f = rw (sym e, h, f)
+    step-malformed f = rw (e, same_self 0, f)
 
     module _ (f : is_well_formed (scheme w) ws ≡ true) where
       pub step-shut : no_step ≡ if_open (scheme w) (state_of (scheme w) ws) (step_of (scheme w) kind a b) → refusal 19 lent ≡ step_outcome w ws kind a b lent
       unfolding step_outcome
-      step-shut o = rw (sym e, h, f, not_taken (scheme w) (state_of (scheme w) ws) (step_of (scheme w) kind a b) o)
+      step-shut o = rw (e, same_self 0, f, not_taken (scheme w) (state_of (scheme w) ws) (step_of (scheme w) kind a b) o)
 
       module _ (y : code.Step) (o : meant y ≡ if_open (scheme w) (state_of (scheme w) ws) (step_of (scheme w) kind a b)) where
         pub step-short : length lent < threads w + bounds w → refusal 10 lent ≡ step_outcome w ws kind a b lent
@@ -108,7 +104,7 @@ module _ (w ws : List ℕ) (kind a b : ℕ) (lent : List ℕ) where
             let t = taken (scheme w) (state_of (scheme w) ws) (step_of (scheme w) kind a b) y o in
             let after = take (scheme w) (step_of (scheme w) kind a b) (state_of (scheme w) ws) in
             let k : length lent < length (state_words (scheme w) after) = omega (arith, state-words-length w after) in
-            rw (sym e, h, f, t.0, lt-ltb (length lent) (length (state_words (scheme w) after)) k)
+            rw (e, same_self 0, f, t.0, lt-ltb (length lent) (length (state_words (scheme w) after)) k)
 
         pub step-written : (r : ℕ) (left : List ℕ) → threads w + bounds w ≤ length lent → r ≡ threads w + bounds w
             → left ≡ sets lent 0 (state_words (scheme w) (take (scheme w) (meant y) (state_of (scheme w) ws)))
@@ -119,7 +115,7 @@ module _ (w ws : List ℕ) (kind a b : ℕ) (lent : List ℕ) where
             let after = take (scheme w) (step_of (scheme w) kind a b) (state_of (scheme w) ws) in
             let k : length (state_words (scheme w) after) ≤ length lent = omega (arith, state-words-length w after) in
             let i : sets lent 0 (state_words (scheme w) after) ≡ left = sym (g ∙ rw t.1) in
-            rw (sym e, h, f, t.0, le-ltb (length lent) (length (state_words (scheme w) after)) k, q, counted w, ← sets-whole lent (state_words (scheme w) after) k, i)
+            rw (e, same_self 0, f, t.0, le-ltb (length lent) (length (state_words (scheme w) after)) k, q, counted w, ← sets-whole lent (state_words (scheme w) after) k, i)
 
         pub step-going : (index : List ℕ) → Known w index → Going w index ws (meant y)
         step-going index K =

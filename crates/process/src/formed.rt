@@ -1,5 +1,5 @@
 // Cause 18: whether words are a state's.
-ghost use Rattle.std.specs.Prelude.{◌≡◌, not, ◌||◌, ◌+◌, ◌≤◌, ◌<◌, length};
+ghost use Rattle.std.specs.Prelude.{◌≡◌, not, ◌||◌, ◌<◌};
 ghost use Rattle.std.proofs.Math.Seq.{slice};
 ghost use Rattle.lists.specs.Lists.{same, every, from, range, member};
 ghost use Rattle.scheme.specs.Words.{publics, bounds, threads};
@@ -17,21 +17,6 @@ use lists::word;
 use scheme::fields::name_kind;
 use scheme::lookup::held_names;
 
-// Whether a name stands among the first words.
-fn is_listed(names: &[u32], count: usize, name: usize) -> bool
-    requires { count ≤ length names.now }
-    ensures { result ≡ member name (slice 0 count names.now) }
-{
-    let mut i = 0;
-    while i < count {
-        if word(names, i) == name {
-            return true;
-        }
-        i += 1;
-    }
-    false
-}
-
 // Whether a node holds a name.
 pub(crate) fn holds(table: &[u16], index: &[u32], node: usize, name: usize) -> bool
     requires { Known table.now index.now }
@@ -42,7 +27,7 @@ pub(crate) fn holds(table: &[u16], index: &[u32], node: usize, name: usize) -> b
     }
     let mut names = [0u32; 64];
     let count = held_names(table, index, node as u8, &mut names);
-    is_listed(&names, count, name)
+    names[..count].iter().any(|x| *x as usize == name)
 }
 
 // Whether a name is to have a value in the state: its thread's node holds it, and is no Stop.
@@ -52,10 +37,7 @@ fn is_held(table: &[u16], index: &[u32], state: &[u16], name: usize) -> bool
         (state_of (scheme table.now) state.now) name }
 {
     let node = word(state, name_thread(table, index, name));
-    if is_stop(table, node) {
-        return false;
-    }
-    holds(table, index, node, name)
+    !is_stop(table, node) && holds(table, index, node, name)
 }
 
 // Whether a name has a value just where it is to have one, and the value is not too large.
@@ -69,10 +51,7 @@ fn name_right(table: &[u16], index: &[u32], state: &[u16], name: usize) -> bool
     if value == 65535 {
         return !held;
     }
-    if !held {
-        return false;
-    }
-    value < word(table, 0) + word(table, 1)
+    held && value < word(table, 0) + word(table, 1)
 }
 
 fn names_right(table: &[u16], index: &[u32], state: &[u16]) -> bool
@@ -83,14 +62,7 @@ fn names_right(table: &[u16], index: &[u32], state: &[u16]) -> bool
 {
     let first = word(table, 0);
     let end = first + word(table, 1);
-    let mut x = first;
-    while x < end {
-        if !name_right(table, index, state, x) {
-            return false;
-        }
-        x += 1;
-    }
-    true
+    (first..end).all(|x| name_right(table, index, state, x))
 }
 
 // Whether a thread stands at a node of its own.
@@ -100,10 +72,7 @@ fn node_right(table: &[u16], index: &[u32], state: &[u16], thread: usize) -> boo
         (state_of (scheme table.now) state.now) thread }
 {
     let node = word(state, thread);
-    if node < word(table, 4) {
-        return node_thread(table, index, node) == thread;
-    }
-    false
+    node < word(table, 4) && node_thread(table, index, node) == thread
 }
 
 fn nodes_right(table: &[u16], index: &[u32], state: &[u16]) -> bool
@@ -113,34 +82,18 @@ fn nodes_right(table: &[u16], index: &[u32], state: &[u16]) -> bool
         (range (threads table.now)) }
 {
     let threads = word(table, 3);
-    let mut t = 0;
-    while t < threads {
-        if !node_right(table, index, state, t) {
-            return false;
-        }
-        t += 1;
-    }
-    true
+    (0..threads).all(|t| node_right(table, index, state, t))
 }
 
-// How many private values have appeared once `value` has; 65536 where it is not numbered by first appearance.
-fn next_seen(publics: usize, seen: usize, value: usize) -> usize
+// How many private values have appeared once `value` has, if it is numbered by first appearance.
+fn next_seen(publics: usize, seen: usize, value: usize) -> Option<usize>
     requires { (publics < 65536) × (seen < 65536) }
     ensures { result ≡ next_seen_of publics seen value }
 {
-    if value == 65535 {
-        return seen;
+    if value == 65535 || value < publics + seen {
+        return Some(seen);
     }
-    if value < publics {
-        return seen;
-    }
-    if value < publics + seen {
-        return seen;
-    }
-    if value == publics + seen {
-        return seen + 1;
-    }
-    65536
+    (value == publics + seen).then_some(seen + 1)
 }
 
 // Whether the private values are numbered by first appearance.
@@ -154,14 +107,11 @@ fn is_numbered(table: &[u16], state: &[u16]) -> bool
     let threads = word(table, 3);
     let bounds = word(table, 1);
     let mut seen = 0;
-    let mut i = 0;
-    while i < bounds {
-        let next = next_seen(publics, seen, word(state, threads + i));
-        if next == 65536 {
+    for i in 0..bounds {
+        let Some(next) = next_seen(publics, seen, word(state, threads + i)) else {
             return false;
-        }
+        };
         seen = next;
-        i += 1;
     }
     true
 }
@@ -170,13 +120,7 @@ fn is_restricted(table: &[u16], name: usize) -> bool
     ensures { result ≡ (scheme table.now).restricted name }
 {
     let publics = word(table, 0);
-    if name < publics {
-        return false;
-    }
-    if name < publics + word(table, 1) {
-        return name_kind(table, name) == 0;
-    }
-    false
+    publics <= name && name < publics + word(table, 1) && name_kind(table, name) == 0
 }
 
 // Whether two names are one, or do not both have one value, or the second is not restricted.
@@ -186,13 +130,9 @@ fn is_apart(table: &[u16], state: &[u16], name: usize, other: usize) -> bool
         (is_one_value ((state_of (scheme table.now) state.now).value name)
         ((state_of (scheme table.now) state.now).value other)))) }
 {
-    if !is_restricted(table, other) {
-        return true;
-    }
-    if name == other {
-        return true;
-    }
-    !one_value(value_of(table, state, name), value_of(table, state, other))
+    !is_restricted(table, other)
+        || name == other
+        || !one_value(value_of(table, state, name), value_of(table, state, other))
 }
 
 fn is_unshared(table: &[u16], state: &[u16], name: usize) -> bool
@@ -204,14 +144,7 @@ fn is_unshared(table: &[u16], state: &[u16], name: usize) -> bool
 {
     let first = word(table, 0);
     let end = first + word(table, 1);
-    let mut y = first;
-    while y < end {
-        if !is_apart(table, state, name, y) {
-            return false;
-        }
-        y += 1;
-    }
-    true
+    (first..end).all(|y| is_apart(table, state, name, y))
 }
 
 // Whether a name, if restricted, has a private value that no other restricted name has.
@@ -219,13 +152,8 @@ fn restricted_right(table: &[u16], state: &[u16], name: usize) -> bool
     ensures { result ≡ is_restricted_right (scheme table.now)
         (state_of (scheme table.now) state.now) name }
 {
-    if !is_restricted(table, name) {
-        return true;
-    }
-    if value_of(table, state, name) < word(table, 0) {
-        return false;
-    }
-    is_unshared(table, state, name)
+    !is_restricted(table, name)
+        || word(table, 0) <= value_of(table, state, name) && is_unshared(table, state, name)
 }
 
 fn all_restricted_right(table: &[u16], state: &[u16]) -> bool
@@ -235,14 +163,7 @@ fn all_restricted_right(table: &[u16], state: &[u16]) -> bool
 {
     let first = word(table, 0);
     let end = first + word(table, 1);
-    let mut x = first;
-    while x < end {
-        if !restricted_right(table, state, x) {
-            return false;
-        }
-        x += 1;
-    }
-    true
+    (first..end).all(|x| restricted_right(table, state, x))
 }
 
 // Whether the words are a state's: their length, the nodes, the names, the numbering, and last the restricted names.
@@ -250,17 +171,9 @@ pub(crate) fn well_formed(table: &[u16], index: &[u32], state: &[u16]) -> bool
     requires { Known table.now index.now }
     ensures { result ≡ is_well_formed (scheme table.now) state.now }
 {
-    if state.len() != word(table, 3) + word(table, 1) {
-        return false;
-    }
-    if !nodes_right(table, index, state) {
-        return false;
-    }
-    if !names_right(table, index, state) {
-        return false;
-    }
-    if !is_numbered(table, state) {
-        return false;
-    }
-    all_restricted_right(table, state)
+    state.len() == word(table, 3) + word(table, 1)
+        && nodes_right(table, index, state)
+        && names_right(table, index, state)
+        && is_numbered(table, state)
+        && all_restricted_right(table, state)
 }

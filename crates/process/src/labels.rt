@@ -39,12 +39,11 @@ pub enum Bookkeeping {
     Release(usize, usize),
 }
 
-// What a label names: bookkeeping, a step of the process, or nothing that the table has.
+// What a label of the table names: bookkeeping or a step of the process.
 #[derive(Clone, Copy)]
 pub enum Named {
     Bookkeeping(Bookkeeping),
     Process(Step),
-    Missing,
 }
 
 // A label: its kind and two numbers.
@@ -53,13 +52,6 @@ pub struct Label {
     pub kind: u32,
     pub a: u32,
     pub b: u32,
-}
-
-// The step to be taken, if it is open.
-#[derive(Clone, Copy)]
-pub enum Open {
-    Taken(Step),
-    Closed,
 }
 
 // The label of a step of the table.
@@ -92,79 +84,59 @@ pub(crate) fn label_of(table: &[u16], step: Step) -> Label
 }
 
 // A copy: the node is a Call, and the name a formal of the definition called.
-fn copy_named(table: &[u16], node: usize, name: usize) -> Named
+fn copy_named(table: &[u16], node: usize, name: usize) -> Option<Named>
     requires { cause table.now ≡ 0 }
     ensures { named result ≡ named_copy (scheme table.now) node name }
 {
     if !node_is(table, node, 3) {
-        return Named::Missing;
+        return None;
     }
     let called = field3(table, 10, node, 1);
     let first = field4(table, 8, called, 2);
-    if name < first {
-        return Named::Missing;
-    }
-    if name < first + field4(table, 8, called, 3) {
-        return Named::Bookkeeping(Bookkeeping::Copy(node, name));
-    }
-    Named::Missing
+    let is_formal = first <= name && name < first + field4(table, 8, called, 3);
+    is_formal.then_some(Named::Bookkeeping(Bookkeeping::Copy(node, name)))
 }
 
 // A release: the node is a Stop or a Call, and holds the name.
-fn release_named(table: &[u16], index: &[u32], node: usize, name: usize) -> Named
+fn release_named(table: &[u16], index: &[u32], node: usize, name: usize) -> Option<Named>
     requires { Known table.now index.now }
     ensures { named result ≡ named_release (scheme table.now) node name }
 {
-    if node_is(table, node, 1) {
-        return Named::Missing;
+    if node_is(table, node, 1) || node_is(table, node, 2) {
+        return None;
     }
-    if node_is(table, node, 2) {
-        return Named::Missing;
-    }
-    if holds(table, index, node, name) {
-        return Named::Bookkeeping(Bookkeeping::Release(node, name));
-    }
-    Named::Missing
+    holds(table, index, node, name).then_some(Named::Bookkeeping(Bookkeeping::Release(node, name)))
 }
 
-fn new_named(table: &[u16], node: usize, name: usize) -> Named
+fn new_named(table: &[u16], node: usize, name: usize) -> Option<Named>
     ensures { named result
         ≡ step_meaning (named_new (scheme table.now) node name ((scheme table.now).node node)) }
 {
     if !node_is(table, node, 2) {
-        return Named::Missing;
+        return None;
     }
-    if name == field3(table, 10, node, 1) {
-        return Named::Process(Step::New(node));
-    }
-    Named::Missing
+    (name == field3(table, 10, node, 1)).then_some(Named::Process(Step::New(node)))
 }
 
-fn silent_named(table: &[u16], branch: usize, zero: usize) -> Named
+fn silent_named(table: &[u16], branch: usize, zero: usize) -> Option<Named>
     ensures { named result
         ≡ step_meaning
         (named_silent (scheme table.now) branch zero ((scheme table.now).branch branch)) }
 {
     if !branch_is(table, branch, 0) {
-        return Named::Missing;
+        return None;
     }
-    if zero == 0 {
-        return Named::Process(Step::Silent(branch));
-    }
-    Named::Missing
+    (zero == 0).then_some(Named::Process(Step::Silent(branch)))
 }
 
-fn call_named(table: &[u16], node: usize, zero: usize) -> Named
+fn call_named(table: &[u16], node: usize, zero: usize) -> Option<Named>
     ensures { named result
         ≡ step_meaning (named_call (scheme table.now) node zero ((scheme table.now).node node)) }
 {
     if !node_is(table, node, 3) {
-        return Named::Missing;
+        return None;
     }
-    if zero == 0 {
-        return Named::Process(Step::Call(node));
-    }
-    Named::Missing
+    (zero == 0).then_some(Named::Process(Step::Call(node)))
 }
 
 // Whether the branches are a send and a receive of different threads.
@@ -173,10 +145,7 @@ fn are_partners(table: &[u16], index: &[u32], send: usize, receive: usize) -> bo
     ensures { result ≡ (is_send ((scheme table.now).branch send)
         && is_partner (scheme table.now) send receive) }
 {
-    if !branch_is(table, send, 1) {
-        return false;
-    }
-    if !branch_is(table, receive, 2) {
+    if !branch_is(table, send, 1) || !branch_is(table, receive, 2) {
         return false;
     }
     let sender = branch_thread(table, index, send);
@@ -184,21 +153,16 @@ fn are_partners(table: &[u16], index: &[u32], send: usize, receive: usize) -> bo
     sender != receiver
 }
 
-fn communication_named(table: &[u16], index: &[u32], send: usize, receive: usize) -> Named
+fn communication_named(table: &[u16], index: &[u32], send: usize, receive: usize) -> Option<Named>
     requires { Known table.now index.now }
     ensures { named result ≡ step_meaning (named_communication (scheme table.now) send receive) }
 {
-    if are_partners(table, index, send, receive) {
-        return Named::Process(Step::Communicate(Pair {
-            send: send,
-            receive: receive,
-        }));
-    }
-    Named::Missing
+    let step = Step::Communicate(Pair { send, receive });
+    are_partners(table, index, send, receive).then_some(Named::Process(step))
 }
 
 // What a label names: its kind decides between bookkeeping and the steps of the process.
-fn named_by(table: &[u16], index: &[u32], kind: u32, a: usize, b: usize) -> Named
+fn named_by(table: &[u16], index: &[u32], kind: u32, a: usize, b: usize) -> Option<Named>
     requires { Known table.now index.now }
     ensures { named result ≡ meaning_of (scheme table.now) kind a b }
 {
@@ -209,7 +173,7 @@ fn named_by(table: &[u16], index: &[u32], kind: u32, a: usize, b: usize) -> Name
         3 => silent_named(table, a, b),
         4 => communication_named(table, index, a, b),
         5 => call_named(table, a, b),
-        _ => Named::Missing,
+        _ => None,
     }
 }
 
@@ -235,19 +199,13 @@ pub(crate) fn can_meet(
     ensures { result ≡ is_step_open (scheme table.now)
         (state_of (scheme table.now) state.now) (communication send receive) }
 {
-    if !are_partners(table, index, send, receive) {
-        return false;
-    }
-    if !stands(table, index, state, home(table, index, send)) {
-        return false;
-    }
-    if !stands(table, index, state, home(table, index, receive)) {
-        return false;
-    }
-    one_value(
-        value_of(table, state, field4(table, 11, send, 1)),
-        value_of(table, state, field4(table, 11, receive, 1)),
-    )
+    are_partners(table, index, send, receive)
+        && stands(table, index, state, home(table, index, send))
+        && stands(table, index, state, home(table, index, receive))
+        && one_value(
+            value_of(table, state, field4(table, 11, send, 1)),
+            value_of(table, state, field4(table, 11, receive, 1)),
+        )
 }
 
 // Whether a step is open: its threads stand at its nodes, and for a communication both channels have one value.
@@ -257,25 +215,11 @@ fn is_open(table: &[u16], index: &[u32], state: &[u16], step: Step) -> bool
         (state_of (scheme table.now) state.now) (meant step) }
 {
     match step {
-        Step::New(n) => {
-            if !node_is(table, n, 2) {
-                return false;
-            }
-            stands(table, index, state, n)
-        }
-        Step::Silent(b) => {
-            if !branch_is(table, b, 0) {
-                return false;
-            }
-            stands(table, index, state, home(table, index, b))
-        }
+        Step::New(n) => node_is(table, n, 2) && stands(table, index, state, n),
+        Step::Silent(b) => branch_is(table, b, 0)
+            && stands(table, index, state, home(table, index, b)),
         Step::Communicate(p) => can_meet(table, index, state, p.send, p.receive),
-        Step::Call(n) => {
-            if !node_is(table, n, 3) {
-                return false;
-            }
-            stands(table, index, state, n)
-        }
+        Step::Call(n) => node_is(table, n, 3) && stands(table, index, state, n),
     }
 }
 
@@ -287,20 +231,15 @@ pub(crate) fn open_step(
     kind: u32,
     a: u32,
     b: u32,
-) -> Open
+) -> Option<Step>
     requires { Known table.now index.now }
     ensures { opened result
         ≡ if_open (scheme table.now) (state_of (scheme table.now) state.now)
         (step_of (scheme table.now) kind a b) }
 {
     match named_by(table, index, kind, a as usize, b as usize) {
-        Named::Process(s) => {
-            if is_open(table, index, state, s) {
-                return Open::Taken(s);
-            }
-            Open::Closed
-        }
-        Named::Bookkeeping(_) => Open::Closed,
-        Named::Missing => Open::Closed,
+        Some(Named::Process(s)) => is_open(table, index, state, s).then_some(s),
+        Some(Named::Bookkeeping(_)) => None,
+        None => None,
     }
 }

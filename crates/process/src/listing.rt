@@ -49,11 +49,9 @@ fn list_branches(table: &[u16], first: usize, count: usize, at: usize, out: &mut
         out.old at out.new result }
 {
     let end = first + count;
-    let mut b = first;
     let mut next = at;
-    while b < end {
+    for b in first..end {
         next = list_branch(table, b, next, out);
-        b += 1;
     }
     next
 }
@@ -108,11 +106,9 @@ fn list_nodes(table: &[u16], index: &[u32], state: &[u16], out: &mut [u32]) -> u
         (range (nodes table.now))) out.old 0 out.new result }
 {
     let nodes = word(table, 4);
-    let mut n = 0;
     let mut next = 0;
-    while n < nodes {
+    for n in 0..nodes {
         next = list_node(table, index, state, n, next, out);
-        n += 1;
     }
     next
 }
@@ -131,14 +127,11 @@ fn gather_branch(
         (standing table.now (state_of (scheme table.now) state.now) kind branch)
         out.old at out.new result }
 {
-    if !branch_is(table, branch, kind) {
-        return at;
+    if branch_is(table, branch, kind) && stands(table, index, state, home(table, index, branch)) {
+        store(out, at, branch as u32);
+        return at + 1;
     }
-    if !stands(table, index, state, home(table, index, branch)) {
-        return at;
-    }
-    store(out, at, branch as u32);
-    at + 1
+    at
 }
 
 // The branches of a kind at nodes where threads stand.
@@ -149,11 +142,9 @@ fn gather(table: &[u16], index: &[u32], state: &[u16], kind: usize, out: &mut [u
         (range (branches table.now))) out.old 0 out.new result }
 {
     let branches = word(table, 5);
-    let mut b = 0;
     let mut next = 0;
-    while b < branches {
+    for b in 0..branches {
         next = gather_branch(table, index, state, kind, b, next, out);
-        b += 1;
     }
     next
 }
@@ -174,10 +165,7 @@ fn list_pair(
         receive) out.old at out.new result }
 {
     if can_meet(table, index, state, send, receive) {
-        let pair = Pair {
-            send: send,
-            receive: receive,
-        };
+        let pair = Pair { send, receive };
         return write_label(table, Step::Communicate(pair), at, out);
     }
     at
@@ -197,12 +185,9 @@ fn list_pairs(
         (pairs_words (scheme table.now) (state_of (scheme table.now) state.now)
         receives.now send) out.old at out.new result }
 {
-    let mut i = 0;
     let mut next = at;
-    while i < receives.len() {
-        let receive = word(receives, i);
-        next = list_pair(table, index, state, send, receive, next, out);
-        i += 1;
+    for &receive in receives {
+        next = list_pair(table, index, state, send, receive as usize, next, out);
     }
     next
 }
@@ -221,12 +206,9 @@ fn list_meetings(
         (meeting_words (scheme table.now) (state_of (scheme table.now) state.now)
         sends.now receives.now) out.old at out.new result }
 {
-    let mut i = 0;
     let mut next = at;
-    while i < sends.len() {
-        let send = word(sends, i);
-        next = list_pairs(table, index, state, send, receives, next, out);
-        i += 1;
+    for &send in sends {
+        next = list_pairs(table, index, state, send as usize, receives, next, out);
     }
     next
 }

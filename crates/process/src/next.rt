@@ -25,10 +25,7 @@ fn ends(table: &[u16], index: &[u32], thread: usize, node: usize, name: usize) -
     ensures { result ≡ (is_stop_node ((scheme table.now).node node)
         && same ((scheme table.now).thread_of_name name) thread) }
 {
-    if is_stop(table, node) {
-        return name_thread(table, index, name) == thread;
-    }
-    false
+    is_stop(table, node) && name_thread(table, index, name) == thread
 }
 
 // A name's value after a New, which takes a value that no word names.
@@ -195,10 +192,8 @@ fn write_nodes(table: &[u16], index: &[u32], state: &[u16], step: Step, out: &mu
         (state_of (scheme table.now) state.now)).node (range (threads table.now))) }
 {
     let threads = word(table, 3);
-    let mut t = 0;
-    while t < threads {
+    for t in 0..threads {
         store(out, t, node_after(table, index, state, step, t) as u16);
-        t += 1;
     }
 }
 
@@ -213,14 +208,12 @@ fn fill_values(table: &[u16], index: &[u32], state: &[u16], step: Step, values: 
 {
     let publics = word(table, 0);
     let bounds = word(table, 1);
-    let mut i = 0;
-    while i < bounds {
+    for i in 0..bounds {
         store(
             values,
             i,
             value_after(table, index, state, step, publics + i) as u16,
         );
-        i += 1;
     }
 }
 

@@ -15,10 +15,7 @@ use scheme::fields::{field3, field4};
 pub(crate) fn node_is(table: &[u16], node: usize, kind: usize) -> bool
     ensures { result ≡ (ltb node (nodes table.now) && same (node_kind table.now node) kind) }
 {
-    if node < word(table, 4) {
-        return field3(table, 10, node, 0) == kind;
-    }
-    false
+    node < word(table, 4) && field3(table, 10, node, 0) == kind
 }
 
 // Whether the table has the branch, and it is of the kind.
@@ -26,26 +23,14 @@ pub(crate) fn branch_is(table: &[u16], branch: usize, kind: usize) -> bool
     ensures { result ≡ (ltb branch (branches table.now)
         && same (branch_kind table.now branch) kind) }
 {
-    if branch < word(table, 5) {
-        return field4(table, 11, branch, 0) == kind;
-    }
-    false
+    branch < word(table, 5) && field4(table, 11, branch, 0) == kind
 }
 
 // Whether the node is a Stop.
 pub(crate) fn is_stop(table: &[u16], node: usize) -> bool
     ensures { result ≡ is_stop_node ((scheme table.now).node node) }
 {
-    if node_is(table, node, 1) {
-        return false;
-    }
-    if node_is(table, node, 2) {
-        return false;
-    }
-    if node_is(table, node, 3) {
-        return false;
-    }
-    true
+    !node_is(table, node, 1) && !node_is(table, node, 2) && !node_is(table, node, 3)
 }
 
 // The node of a branch.

@@ -26,10 +26,7 @@ pub(crate) fn value_of(table: &[u16], state: &[u16], name: usize) -> usize
 pub(crate) fn one_value(first: usize, second: usize) -> bool
     ensures { result ≡ is_one_value (value_at first) (value_at second) }
 {
-    if first == 65535 {
-        return false;
-    }
-    first == second
+    first != 65535 && first == second
 }
 
 // Where a value stands among the first `count` values seen, `count` where it does not.
@@ -37,14 +34,8 @@ fn place_of(seen: &[u16], count: usize, value: usize) -> usize
     requires { count ≤ length seen.now }
     ensures { result ≡ place value (slice 0 count seen.now) }
 {
-    let mut i = 0;
-    while i < count {
-        if word(seen, i) == value {
-            return i;
-        }
-        i += 1;
-    }
-    count
+    let place = seen[..count].iter().position(|x| *x as usize == value);
+    place.unwrap_or(count)
 }
 
 // A value's word, and how many private values have been seen once it has.
@@ -60,16 +51,10 @@ fn number(publics: usize, seen: &mut [u16], count: usize, value: usize) -> Turn
     ensures { Turned publics seen.old count value seen.new result.word result.count }
 {
     if value == 65535 {
-        return Turn {
-            word: 65535,
-            count: count,
-        };
+        return Turn { word: 65535, count };
     }
     if value < publics {
-        return Turn {
-            word: value,
-            count: count,
-        };
+        return Turn { word: value, count };
     }
     let place = place_of(seen, count, value);
     if place == count {
@@ -81,7 +66,7 @@ fn number(publics: usize, seen: &mut [u16], count: usize, value: usize) -> Turn
     }
     Turn {
         word: publics + place,
-        count: count,
+        count,
     }
 }
 
@@ -90,23 +75,15 @@ fn number(publics: usize, seen: &mut [u16], count: usize, value: usize) -> Turn
 pub fn write_numbered(publics: u16, values: &[u16], count: u16, at: u16, out: &mut [u16]) -> bool
     ensures { Numbered publics values.now count at out.old result out.new }
 {
-    if 32 < publics {
-        return false;
-    }
-    if 32 < count {
-        return false;
-    }
-    if values.len() < count as usize {
+    if 32 < publics || 32 < count || values.len() < count as usize {
         return false;
     }
     let mut seen = [0u16; 32];
     let mut noted = 0;
-    let mut i = 0;
-    while i < count as usize {
+    for i in 0..count as usize {
         let turn = number(publics as usize, &mut seen, noted, word(values, i));
         store(out, at as usize + i, turn.word as u16);
         noted = turn.count;
-        i += 1;
     }
     true
 }

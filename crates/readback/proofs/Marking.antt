@@ -2,13 +2,11 @@
 use mathlib.Core.Path.{◌≡◌, refl, sym, ◌∙◌}
 use mathlib.Core.Bool.{Bool, true, false, ◌||◌}
 use mathlib.Core.List.{List, [], ◌∷◌, ◌++◌}
-use Prim.Native.Nat.{ℕ, zero, suc, ◌+◌, ◌-◌, ◌≤◌, ◌<◌}
-use native.Mathlib.Decide.{ℕ_discrete, dec_lt}
+use Prim.Native.Nat.{ℕ, zero, suc, min, ◌+◌, ◌-◌, ◌≤◌, ◌<◌}
+use native.Mathlib.Decide.{ℕ_discrete}
 use native.Mathlib.Omega.{arith}
-use lib.Dec.{ltb}
 use lib.ListN.{length, set, take, length-set}
 use lib.Seq.{slice, get_or-set_same, get_or-set_other}
-use borrow.Author.Tests.{lt-ltb, le-ltb}
 use Rattle.lists.specs.Lists.{pick, same, word, from, member}
 use Rattle.lists.proofs.Tests.{same_self, same-no}
 use Rattle.scheme.specs.Words.{first_formal, formal_count, formals, node_first}
@@ -42,18 +40,14 @@ span-start first e = let q : e - 0 ≡ e = omega arith in let r : first + 0 ≡ 
 
 -- ---- the first of some numbers in a row
 
-take-from : (k a n : ℕ) → take k (from a n) ≡ from a (pick (ltb k n) k n)
+take-from : (k a n : ℕ) → take k (from a n) ≡ from a (min k n)
 unfolding from
 take-from zero a zero = refl
-take-from zero a (suc n) = rw (lt-ltb 0 (suc n) (omega arith))
-take-from (suc k) a zero = rw (le-ltb (suc k) 0 (omega arith))
-take-from (suc k) a (suc n) = rw (take-from k (a + 1) n) (go (dec_lt k n))
-  where
-    go : Dec (k < n) → a ∷ from (a + 1) (pick (ltb k n) k n) ≡ from a (pick (ltb (suc k) (suc n)) (suc k) (suc n))
-    go (yes l) = rw (lt-ltb k n l, lt-ltb (suc k) (suc n) (omega arith))
-    go (no d) = rw (le-ltb k n (omega arith), le-ltb (suc k) (suc n) (omega arith))
+take-from zero a (suc n) = let q : min 0 (suc n) ≡ 0 = omega arith in rw q
+take-from (suc k) a zero = let q : min (suc k) 0 ≡ 0 = omega arith in rw q
+take-from (suc k) a (suc n) = let q : min (suc k) (suc n) ≡ suc (min k n) = omega arith in rw (take-from k (a + 1) n, q)
 
-pub formals_from : (w : List ℕ) (d k first count : ℕ) → first ≡ first_formal w d → count ≡ pick (ltb k (formal_count w d)) k (formal_count w d)
+pub formals_from : (w : List ℕ) (d k first count : ℕ) → first ≡ first_formal w d → count ≡ min k (formal_count w d)
     → from first count ≡ take k (formals w d)
 unfolding formals
 formals_from w d k first count e f = rw (e, f) (sym (take-from k (first_formal w d) (formal_count w d)))
@@ -78,17 +72,10 @@ put_word (y ∷ ys) m x h = put_word ys (set m y 1) x (rw (length-set m y 1) h) 
     go (yes q) = rw (q, same_self y, get_or-set_same m y 1 0 (rw q at h)) (both (member y ys))
     go (no d) = rw (same-no x y d, get_or-set_other m y x 1 0 d)
 
-pub smaller-few : (a b : ℕ) → pick (ltb a b) a b ≤ b
-smaller-few a b = go (dec_lt a b)
-  where
-    go : Dec (a < b) → pick (ltb a b) a b ≤ b
-    go (yes l) = rw (lt-ltb a b l) (omega arith)
-    go (no d) = rw (le-ltb a b (omega arith)) (omega arith)
-
 -- the names held in a call's chain
 pub call-marked : (w names held₀ held₁ held₂ : List ℕ) (node index count d f first l₁ k l₂ : ℕ) → d ≡ node_first w node
     → f ≡ formal_count w d → first ≡ first_formal w d
-    → l₁ ≡ index - 1 → k ≡ pick (ltb l₁ f) l₁ f → l₂ ≡ index - (1 + f) → held₁ ≡ put 1 held₀ (from first k) → held₂ ≡ put 1 held₁ (slice l₂ count names)
+    → l₁ ≡ index - 1 → k ≡ min l₁ f → l₂ ≡ index - (1 + f) → held₁ ≡ put 1 held₀ (from first k) → held₂ ≡ put 1 held₁ (slice l₂ count names)
     → held₂ ≡ put 1 held₀ (take (index - 1) (formals w (node_first w node)) ++ slice (index - (1 + formal_count w (node_first w node))) count names)
 call-marked w names held₀ held₁ held₂ node index count d f first l₁ k l₂ d-is f-is first-is l-is k-is m-is one two =
     two

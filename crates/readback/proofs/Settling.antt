@@ -6,7 +6,7 @@ use Prim.Native.Nat.{ℕ, zero, suc}
 use native.Mathlib.Omega.{arith}
 use lib.ListN.{length, replicate}
 use Rattle.lists.specs.Lists.{word, member}
-use Rattle.lists.proofs.Tests.{bit-small, same_true}
+use Rattle.lists.proofs.Tests.{and_left, and_assoc, bit-small, same_true}
 use Rattle.lists.proofs.Ranges.{every-at}
 use Rattle.scheme.specs.Words.{names}
 use Rattle.scheme.specs.Scheme.{Scheme, scheme}
@@ -64,34 +64,32 @@ module _ (w index : List ℕ) (L : Laid w index) where
       stand-at = at-nodes w m places indexes L.accepted e f
 
       module _ (held : List ℕ) (marks : held ≡ put 1 (replicate 64 0) (held_all w places indexes)) where
-        right-values : (b : Bool) → b ≡ values_right S m (word held) → values_right S m (held_bit S m) ≡ b
-        right-values b q = sym (q ∙ held-bits w m places indexes L.accepted e f held marks)
+        values-right : values_right S m (held_bit S m) ≡ values_right S m (word held)
+        values-right = sym (held-bits w m places indexes L.accepted e f held marks)
 
-        pub no-values : (values : List ℕ) (b : Bool) → b ≡ values_right S m (word held) → b ≡ false → Settles w m false places indexes values
-        no-values values b q z = (sym (tests ∙ rw (e, right-values b q, z)), λ q. absurd (false≢true q))
+        -- the tests of bound names, b
+        module _ (values : List ℕ) (b : Bool) (q : b ≡ (values_right S m (word held) && opposed_all S m)) where
+          told : stands_in w m ≡ (b && freed_all S m)
+          told = tests ∙ rw (e, values-right, q, and_assoc (values_right S m (word held)) (opposed_all S m) (freed_all S m))
 
-        -- no bound name has two values
-        pub values-once : (values : List ℕ) (b : Bool) → b ≡ values_right S m (word held) → b ≡ true → ValuesBelow w m values (names w) → ValuesOnce w m values
-        unfolding values_right
-        values-once values b q z v = record {
-          are = v;
-          once = λ x nm.
-              let r = every-at (value_right S m (held_bit S m)) S.publics S.bounds (right-values b q ∙ z) x
-              (omega (arith, nm.0, publics-are w)) (omega (arith, nm.1, publics-are w, bounds-are w)) in
-              omega (
-                arith,
-                same_true (length (values_at S m x)) (held_bit S m x) r,
-                bit-small (member x (held_here S (first_of (spots_at S m (S.thread_of_name x))))),
-              );
-        }
+          pub no-values : b ≡ false → Settles w m b places indexes values
+          no-values z = (z ∙ sym (told ∙ rw z), λ t. absurd (false≢true (sym z ∙ t)))
 
-        pub not-opposed : (values : List ℕ) (b c : Bool) → b ≡ values_right S m (word held) → b ≡ true → c ≡ opposed_all S m → c ≡ false
-            → Settles w m false places indexes values
-        not-opposed values b c q z r y = (sym (tests ∙ rw (e, right-values b q, z, ← r, y)), λ q. absurd (false≢true q))
+          module _ (z : b ≡ true) (v : ValuesBelow w m values (names w)) where
+            -- no bound name has two values
+            pub values-once : ValuesOnce w m values
+            unfolding values_right
+            values-once = record {
+              are = v;
+              once = λ x nm.
+                  let r = every-at (value_right S m (held_bit S m)) S.publics S.bounds (values-right ∙ and_left (values_right S m (word held)) (opposed_all S m) (sym q ∙ z)) x
+                  (omega (arith, nm.0, publics-are w)) (omega (arith, nm.1, publics-are w, bounds-are w)) in
+                  omega (
+                    arith,
+                    same_true (length (values_at S m x)) (held_bit S m x) r,
+                    bit-small (member x (held_here S (first_of (spots_at S m (S.thread_of_name x))))),
+                  );
+            }
 
-        pub settles : (values : List ℕ) (b c d : Bool) → b ≡ values_right S m (word held) → b ≡ true → c ≡ opposed_all S m → c ≡ true → d ≡ freed_all S m
-            → ValuesBelow w m values (names w) → Settles w m d places indexes values
-        settles values b c d q z r y s v = (
-          s ∙ sym (tests ∙ rw (e, right-values b q, z, ← r, y)),
-          λ t. record { at-nodes = stand-at; spots-found = f; values-found = v },
-        )
+            pub settles : (d : Bool) → d ≡ freed_all S m → Settles w m d places indexes values
+            settles d s = (s ∙ sym (told ∙ rw z), λ t. record { at-nodes = stand-at; spots-found = f; values-found = v })

@@ -40,10 +40,8 @@ pub(crate) fn find(marking: &[u8], start: usize, count: usize) -> Found
     ensures { FoundOf (hits marking.now start count) result }
 {
     let mut found = Found { count: 0, first: 0 };
-    let mut i = 0;
-    while i < count {
+    for i in 0..count {
         found = one_more(found, i, is_marked(marking, start + i));
-        i += 1;
     }
     found
 }

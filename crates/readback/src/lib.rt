@@ -44,13 +44,8 @@ fn stands_for(
     }
     let mut held = [0u8; 64];
     names::mark_all(table, index, places, indexes, &mut held);
-    if !names::find_values(table, index, marking, &held, values) {
-        return false;
-    }
-    if !names::opposed(table, index, marking) {
-        return false;
-    }
-    names::freed(table, index, marking, values)
+    names::find_values(table, index, marking, &held, values)
+        && names::freed(table, index, marking, values)
 }
 
 // Reads a marking of a table that is laid out.

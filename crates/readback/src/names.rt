@@ -1,7 +1,7 @@
 // Names held where the threads stand, and the marked places of names' rows.
-ghost use Rattle.std.specs.Prelude.{◌≡◌, ◌++◌, ◌+◌, ◌-◌, ◌≤◌, ◌<◌, length, take, ltb, true};
+ghost use Rattle.std.specs.Prelude.{◌≡◌, ◌&&◌, ◌++◌, ◌+◌, ◌-◌, ◌≤◌, ◌<◌, length, take, true};
 ghost use Rattle.std.proofs.Math.Seq.{slice};
-ghost use Rattle.lists.specs.Lists.{pick, word, from, range, every};
+ghost use Rattle.lists.specs.Lists.{word, from, range, every};
 ghost use Rattle.scheme.specs.Words.{publics, names, nodes, node_first, formal_count, formals};
 ghost use Rattle.scheme.specs.Scheme.{scheme};
 ghost use Rattle.net.specs.Firing.{put};
@@ -25,34 +25,13 @@ use places::row::row_places;
 use scheme::fields::{field3, field4, name_kind};
 use scheme::lookup::held_names;
 
-// a - b, 0 where b is more.
-fn less(a: usize, b: usize) -> usize
-    ensures { result ≡ a - b }
-{
-    if a < b {
-        return 0;
-    }
-    a - b
-}
-
-fn smaller(a: usize, b: usize) -> usize
-    ensures { result ≡ pick (ltb a b) a b }
-{
-    if a < b {
-        return a;
-    }
-    b
-}
-
 // Marks the names of a list from place `first` up to place `end`.
 fn mark_names(names: &[u32], first: usize, end: usize, held: &mut [u8])
     requires { end ≤ length names.now }
     ensures { held.new ≡ put 1 held.old (slice first end names.now) }
 {
-    let mut i = first;
-    while i < end {
+    for i in first..end {
         store(held, word(names, i), 1);
-        i += 1;
     }
 }
 
@@ -61,10 +40,8 @@ fn mark_span(first: usize, count: usize, held: &mut [u8])
     requires { (first < 65536) × (count < 65536) }
     ensures { held.new ≡ put 1 held.old (from first count) }
 {
-    let mut i = 0;
-    while i < count {
+    for i in 0..count {
         store(held, first + i, 1);
-        i += 1;
     }
 }
 
@@ -79,8 +56,12 @@ fn mark_call(table: &[u16], node: usize, k: usize, names: &[u32], count: usize, 
 {
     let d = field3(table, 10, node, 1);
     let formals = field4(table, 8, d, 3);
-    mark_span(field4(table, 8, d, 2), smaller(less(k, 1), formals), held);
-    mark_names(names, less(k, 1 + formals), count, held);
+    mark_span(
+        field4(table, 8, d, 2),
+        k.saturating_sub(1).min(formals),
+        held,
+    );
+    mark_names(names, k.saturating_sub(1 + formals), count, held);
 }
 
 // Marks the names held at control place k of a node.
@@ -114,10 +95,8 @@ pub(crate) fn mark_all(
         ≡ put 1 held.old (held_all table.now places.now indexes.now) }
 {
     let threads = word(table, 3);
-    let mut t = 0;
-    while t < threads {
+    for t in 0..threads {
         mark_held(table, index, word(places, t), word(indexes, t), held);
-        t += 1;
     }
 }
 
@@ -173,16 +152,6 @@ fn find_value(
     true
 }
 
-// Just one of two.
-fn just_one(a: bool, b: bool) -> bool
-    ensures { result ≡ is_just_one a b }
-{
-    if a {
-        return !b;
-    }
-    b
-}
-
 // Whether of each of `count` places from `first` on and the one as far from `second` just one is marked.
 fn opposite(marking: &[u8], first: usize, second: usize, count: usize) -> bool
     requires { (first < 8589934592) × (second < 8589934592) × (count < 65536) }
@@ -190,44 +159,7 @@ fn opposite(marking: &[u8], first: usize, second: usize, count: usize) -> bool
         ≡ every (λ i. is_just_one (token marking.now (first + i)) (token marking.now (second + i)))
         (range count) }
 {
-    let mut i = 0;
-    while i < count {
-        if !just_one(
-            is_marked(marking, first + i),
-            is_marked(marking, second + i),
-        ) {
-            return false;
-        }
-        i += 1;
-    }
-    true
-}
-
-// The marked value of each bound name. Whether each has one just if it is held.
-pub(crate) fn find_values(
-    table: &[u16],
-    index: &[u32],
-    marking: &[u8],
-    held: &[u8],
-    values: &mut [u16],
-) -> bool
-    requires { Laid table.now index.now × (64 ≤ length values.old) }
-    ensures { (result ≡ values_right (scheme table.now) marking.now (word held.now))
-        × (result ≡ true → ValuesBelow table.now marking.now values.new
-        (names table.now)) }
-{
-    let publics = word(table, 0);
-    let end = publics + word(table, 1);
-    let mut row = 0;
-    let mut x = publics;
-    while x < end {
-        if !find_value(table, index, marking, held, values, row, x) {
-            return false;
-        }
-        row += row_places(table, index, x, x + 1);
-        x += 1;
-    }
-    true
+    (0..count).all(|i| is_marked(marking, first + i) != is_marked(marking, second + i))
 }
 
 // Whether [x≠n] is marked just without [x=n], for a name that is not restricted; its row starts at `row`.
@@ -244,21 +176,31 @@ fn opposed_for(table: &[u16], index: &[u32], marking: &[u8], row: usize, name: u
     opposite(marking, private, private + count, count)
 }
 
-// Whether [x≠n] is marked just without [x=n], for each name that is not restricted.
-pub(crate) fn opposed(table: &[u16], index: &[u32], marking: &[u8]) -> bool
-    requires { Laid table.now index.now }
-    ensures { result ≡ opposed_all (scheme table.now) marking.now }
+// The marked value of each bound name. Whether each has one just if it is held, and [x≠n] is marked just without [x=n]
+// for each name that is not restricted.
+pub(crate) fn find_values(
+    table: &[u16],
+    index: &[u32],
+    marking: &[u8],
+    held: &[u8],
+    values: &mut [u16],
+) -> bool
+    requires { Laid table.now index.now × (64 ≤ length values.old) }
+    ensures { (result ≡ (values_right (scheme table.now) marking.now (word held.now)
+        && opposed_all (scheme table.now) marking.now))
+        × (result ≡ true → ValuesBelow table.now marking.now values.new
+        (names table.now)) }
 {
     let publics = word(table, 0);
     let end = publics + word(table, 1);
     let mut row = 0;
-    let mut x = publics;
-    while x < end {
-        if !opposed_for(table, index, marking, row, x) {
+    for x in publics..end {
+        if !find_value(table, index, marking, held, values, row, x)
+            || !opposed_for(table, index, marking, row, x)
+        {
             return false;
         }
         row += row_places(table, index, x, x + 1);
-        x += 1;
     }
     true
 }
@@ -293,12 +235,10 @@ fn free_values(index: &[u32], marking: &[u8]) -> u64
     let start = free_start(index);
     let count = privates(index);
     let mut set = 0;
-    let mut n = 0;
-    while n < count {
+    for n in 0..count {
         if is_marked(marking, start + n) {
             set = with_number(set, n);
         }
-        n += 1;
     }
     set
 }
@@ -312,14 +252,12 @@ pub(crate) fn freed(table: &[u16], index: &[u32], marking: &[u8], values: &[u16]
     let publics = word(table, 0);
     let end = publics + word(table, 1);
     let mut set = free_values(index, marking);
-    let mut x = publics;
-    while x < end {
+    for x in publics..end {
         let n = private_value(table, values, x);
         if has(set, n) {
             return false;
         }
         set = with_number(set, n);
-        x += 1;
     }
     let count = privates(index);
     rank(set, count) == count

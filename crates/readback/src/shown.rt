@@ -24,10 +24,7 @@ fn node_shown(table: &[u16], node: usize, k: usize) -> usize
     requires { NodeOf table.now node }
     ensures { Number (shown_node_of (scheme table.now) (spot node k)) result }
 {
-    if k == 0 {
-        return node;
-    }
-    if field3(table, 10, node, 0) == 3 {
+    if k != 0 && field3(table, 10, node, 0) == 3 {
         return field4(table, 8, field3(table, 10, node, 1), 1);
     }
     node
@@ -42,14 +39,12 @@ pub(crate) fn write_nodes(table: &[u16], nodes: &[u32], indexes: &[u32], state: 
         (range (threads table.now))) }
 {
     let threads = word(table, 3);
-    let mut t = 0;
-    while t < threads {
+    for t in 0..threads {
         store(
             state,
             t,
             node_shown(table, word(nodes, t), word(indexes, t)) as u16,
         );
-        t += 1;
     }
 }
 
@@ -92,10 +87,7 @@ fn name_shown(table: &[u16], node: usize, k: usize, name: usize) -> usize
     if kind == STOP {
         return 65535;
     }
-    if kind != 3 {
-        return name;
-    }
-    if k == 0 {
+    if kind != 3 || k == 0 {
         return name;
     }
     name_called(table, node, k - 1, name)
@@ -150,14 +142,12 @@ fn fill_values(
 {
     let publics = word(table, 0);
     let bounds = word(table, 1);
-    let mut i = 0;
-    while i < bounds {
+    for i in 0..bounds {
         store(
             list,
             i,
             name_value(table, index, nodes, indexes, values, publics + i) as u16,
         );
-        i += 1;
     }
 }
 

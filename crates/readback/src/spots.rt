@@ -48,14 +48,7 @@ const MARKED: usize = 1;
 fn one_each(counts: &[u32], threads: usize) -> bool
     ensures { result ≡ every (λ t. same (word counts.now t) 1) (range threads) }
 {
-    let mut t = 0;
-    while t < threads {
-        if word(counts, t) != MARKED {
-            return false;
-        }
-        t += 1;
-    }
-    true
+    (0..threads).all(|t| word(counts, t) == MARKED)
 }
 
 // Notes the marked control places of every node.
@@ -72,10 +65,8 @@ fn note_all(
         counts.new places.new indexes.new }
 {
     let count = word(table, 4);
-    let mut n = 0;
-    while n < count {
+    for n in 0..count {
         note(table, index, marking, n, counts, places, indexes);
-        n += 1;
     }
 }
 

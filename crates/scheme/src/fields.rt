@@ -40,9 +40,5 @@ pub fn name_kind(table: &[u16], name: usize) -> usize
     ensures { Word 65536 table.now
         (word table.now 7 + (name - word table.now 0)) result }
 {
-    let publics = word(table, 0);
-    if name < publics {
-        return field1(table, 7, 0);
-    }
-    field1(table, 7, name - publics)
+    field1(table, 7, name.saturating_sub(word(table, 0)))
 }

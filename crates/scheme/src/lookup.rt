@@ -30,10 +30,7 @@ fn part(index: &[u32], at: usize, end: usize, i: usize) -> usize
     requires { (at ≤ end) × (end ≤ 832) }
     ensures { Word 4294967296 (slice at end index.now) i result }
 {
-    if i < end - at {
-        return word(index, at + i);
-    }
-    0
+    if i < end - at { word(index, at + i) } else { 0 }
 }
 
 // What owns a node, as a number.
@@ -68,24 +65,20 @@ pub fn binder(index: &[u32], name: usize) -> usize
 pub fn step_up(index: &[u32], node: usize) -> Parent
     ensures { result ≡ parent_at index.now node }
 {
-    let owner = owner(index, node);
-    if owner < 65536 {
-        return Parent::Nobody;
-    }
-    if owner < 131072 {
-        return Parent::Definition(owner - 65536);
-    }
-    if owner < 196608 {
-        if owner - 131072 < node {
-            return Parent::New(owner - 131072);
+    match owner(index, node) {
+        owner @ 65536..131072 => Parent::Definition(owner - 65536),
+        owner @ 131072..196608 if owner - 131072 < node => Parent::New(owner - 131072),
+        owner @ 196608.. => {
+            let branch = owner - 196608;
+            let home = home(index, branch);
+            if home < node {
+                Parent::Branch(branch, home)
+            } else {
+                Parent::Nobody
+            }
         }
-        return Parent::Nobody;
+        _ => Parent::Nobody,
     }
-    let home = home(index, owner - 196608);
-    if home < node {
-        return Parent::Branch(owner - 196608, home);
-    }
-    Parent::Nobody
 }
 
 // The thread of a node.
@@ -107,17 +100,12 @@ pub fn branch_thread(table: &[u16], index: &[u32], branch: usize) -> usize
 pub fn name_thread(table: &[u16], index: &[u32], name: usize) -> usize
     ensures { Number (name_thread_at table.now index.now name) result }
 {
-    let binder = binder(index, name);
-    if binder < 65536 {
-        return word(table, 3);
+    match binder(index, name) {
+        ..65536 => word(table, 3),
+        binder @ 65536..131072 => node_thread(table, index, binder - 65536),
+        binder @ 131072..196608 => branch_thread(table, index, binder - 131072),
+        binder => field4(table, 8, binder - 196608, 0),
     }
-    if binder < 131072 {
-        return node_thread(table, index, binder - 65536);
-    }
-    if binder < 196608 {
-        return branch_thread(table, index, binder - 131072);
-    }
-    field4(table, 8, binder - 196608, 0)
 }
 
 // Writes `count` numbers from `first` on, as far as `out` reaches, and returns how many there are.

@@ -46,9 +46,10 @@ fn branch_count(table: &[u16], node: usize) -> usize
     ensures { Number (branch_count_of table.now node) result }
 {
     if field3(table, 10, node, 0) == 1 {
-        return field3(table, 10, node, 2);
+        field3(table, 10, node, 2)
+    } else {
+        0
     }
-    0
 }
 
 // How many arguments a node has.
@@ -56,9 +57,10 @@ fn argument_count(table: &[u16], node: usize) -> usize
     ensures { Number (argument_count_of table.now node) result }
 {
     if field3(table, 10, node, 0) == 3 {
-        return field4(table, 8, field3(table, 10, node, 1), 3);
+        field4(table, 8, field3(table, 10, node, 1), 3)
+    } else {
+        0
     }
-    0
 }
 
 // The first number that entry i names.
@@ -68,12 +70,10 @@ pub fn span_first(table: &[u16], source: Source, i: usize) -> usize
     match source {
         Source::Roots => field4(table, 8, i, 1),
         Source::Formals => field4(table, 8, i, 2),
-        Source::NewChildren => field3(table, 10, i, 2),
-        Source::NewNames => field3(table, 10, i, 1),
+        Source::NewNames | Source::Branches => field3(table, 10, i, 1),
+        Source::NewChildren | Source::Arguments => field3(table, 10, i, 2),
         Source::NextNodes => field4(table, 11, i, 3),
         Source::ReceivedNames => field4(table, 11, i, 2),
-        Source::Branches => field3(table, 10, i, 1),
-        Source::Arguments => field3(table, 10, i, 2),
     }
 }
 
@@ -82,11 +82,9 @@ pub fn span_count(table: &[u16], source: Source, i: usize) -> usize
     ensures { Number (span_count_of table.now source i) result }
 {
     match source {
-        Source::Roots => 1,
+        Source::Roots | Source::NextNodes => 1,
         Source::Formals => field4(table, 8, i, 3),
-        Source::NewChildren => new_count(table, i),
-        Source::NewNames => new_count(table, i),
-        Source::NextNodes => 1,
+        Source::NewChildren | Source::NewNames => new_count(table, i),
         Source::ReceivedNames => received_count(table, i),
         Source::Branches => branch_count(table, i),
         Source::Arguments => argument_count(table, i),
@@ -97,11 +95,8 @@ pub fn span_count(table: &[u16], source: Source, i: usize) -> usize
 pub fn tally(counts: &mut [u8], x: usize)
     ensures { counts.new ≡ tallied counts.old x }
 {
-    if word(counts, x) == 0 {
-        store(counts, x, 1);
-    } else {
-        store(counts, x, 2);
-    }
+    let more = if word(counts, x) == 0 { 1 } else { 2 };
+    store(counts, x, more);
 }
 
 // One more at each of the numbers from `first` up to `end`.

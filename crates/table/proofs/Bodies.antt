@@ -49,6 +49,13 @@ module _ (w : List ℕ) (n : ℕ) where
       tally-none 64 (range (publics w) ++ held w n) x h ∙
       (none-member x (range (publics w) ++ held w n) ∙ ap not (public-or-held x))
 
+  pub held_some : (x : ℕ) → x < 64 → not (same (word (held_tally w n) x) 0) ≡ usable w n x
+  held_some x h = ap not (held_none x h) ∙ twice (usable w n x)
+    where
+      twice : (b : Bool) → not (not b) ≡ b
+      twice true = refl
+      twice false = refl
+
   pub not-held : (x : ℕ) → x < 64 → word (held_tally w n) x ≡ 0 → usable w n x ≡ false
   not-held x h e = go (usable w n x) (sym (held_none x h) ∙ same-yes _ _ e)
     where

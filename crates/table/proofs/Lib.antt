@@ -1,3 +1,4 @@
+pub mod Chains
 pub mod Cases
 pub mod Inside
 pub mod Consecutive

@@ -1,17 +1,15 @@
 -- A cause's test is the tests of its parts: what each part's check answers, as a fact of the definition.
-use mathlib.Core.Path.{◌≡◌, sym, ap, ◌∙◌}
+use mathlib.Core.Path.{◌≡◌, sym, ◌∙◌}
 use mathlib.Core.Bool.{Bool, true, false}
 use mathlib.Core.List.{List, ◌++◌}
 use Prim.Native.Nat.{ℕ, ◌+◌, ◌-◌, ◌≤◌, ◌<◌}
 use native.Mathlib.Omega.{arith}
 use lib.ListN.{replicate}
 use Rattle.lists.specs.Lists.{same, word, bit, from, range, every, flat, times}
-use Rattle.lists.proofs.Ranges.{from-whole, every-same, from_member}
+use Rattle.lists.proofs.Ranges.{every-same, from_member}
 use Rattle.scheme.specs.Words.{publics, bounds, definitions, nodes, branches, names, name_kind_of}
 use Rattle.table.specs.Causes.{is_owned_once, bound_right, root_nodes, new_children, next_nodes}
-use Rattle.table.specs.Inner.Items.{passes_of}
 use Rattle.scheme.specs.Spans.{span_of, tally_all}
-use Rattle.table.specs.declared.tests.Item.{Item}
 use Rattle.scheme.specs.declared.spans.Source.{Source}
 use Rattle.scheme.specs.declared.spans.Source.TheVariants.{Roots, NewChildren, NextNodes}
 use Rattle.scheme.proofs.Tally.{tally-append, tally-none, tally-once}
@@ -20,16 +18,6 @@ use Rattle.table.proofs.SpanLists.{roots-spans, children-spans, nexts-spans}
 -- numbers from a first one up to its end
 pub from-to : (f s : ℕ) → from f (f + s - f) ≡ from f s
 from-to f s = let e : f + s - f ≡ s = omega arith in rw e
-
--- every entry of a section passes, or not
-pub part : (w : List ℕ) (item : Item) (n m : ℕ) (r b : Bool) → n ≡ m → r ≡ every (passes_of w item) (from 0 (n - 0)) → r ≡ b
-    → every (passes_of w item) (range m) ≡ b
-part w item n m r b e h q = rw (← e) (ap (every (passes_of w item)) (from-whole n) ∙ (sym h ∙ q))
-
--- every bound name passes, or not
-pub names-part : (w : List ℕ) (item : Item) (p n : ℕ) (r b : Bool) → p ≡ publics w → n ≡ bounds w → r ≡ every (passes_of w item) (from p (p + n - p)) → r ≡ b
-    → every (passes_of w item) (from (publics w) (bounds w)) ≡ b
-names-part w item p n r b e f h q = rw (← e, ← f) (ap (every (passes_of w item)) (sym (from-to p n)) ∙ (sym h ∙ q))
 
 -- each node counted once is owned once
 pub counted-owned : (w counts : List ℕ) → nodes w ≤ 256
@@ -62,17 +50,16 @@ counted-bound w counts xs kind l e =
 -- what the passes of the code leave and answer, with the counts that it read
 pub owned-counts : (w c₁ c₂ c₃ : List ℕ) (d m b : ℕ) (r : Bool) → d ≡ definitions w → m ≡ nodes w → b ≡ branches w → nodes w ≤ 256
     → c₁ ≡ tally_all (replicate 256 0) (flat (span_of w Roots) (range d)) → c₂ ≡ tally_all c₁ (flat (span_of w NewChildren) (range m))
-    → c₃ ≡ tally_all c₂ (flat (span_of w NextNodes) (range b)) → r ≡ every (λ k. same (word c₃ k) 1) (range m)
+    → c₃ ≡ tally_all c₂ (flat (span_of w NextNodes) (range b)) → every (λ k. same (word c₃ k) 1) (range (nodes w)) ≡ r
     → r ≡ every (is_owned_once w) (range (nodes w))
 owned-counts w c₁ c₂ c₃ d m b r e f g l h₁ h₂ h₃ q =
-    q ∙ rw f (counted-owned w c₃ l (rw (h₃, h₂, h₁, e, f, g, roots-spans w, children-spans w, nexts-spans w)))
+    sym q ∙ counted-owned w c₃ l (rw (h₃, h₂, h₁, e, f, g, roots-spans w, children-spans w, nexts-spans w))
 
-pub bound-counts : (w counts : List ℕ) (s : Source) (n kind p b : ℕ) (r : Bool) → p ≡ publics w → b ≡ bounds w → names w ≤ 64
+pub bound-counts : (w counts : List ℕ) (s : Source) (n kind : ℕ) (r : Bool) → names w ≤ 64
     → counts ≡ tally_all (replicate 64 0) (flat (span_of w s) (range n))
-    → r ≡ every (λ x. same (word counts x) (bit (same (name_kind_of w x) kind))) (from p (p + b - p))
+    → every (λ x. same (word counts x) (bit (same (name_kind_of w x) kind))) (from (publics w) (bounds w)) ≡ r
     → r ≡ every (bound_right w (flat (span_of w s) (range n)) kind) (from (publics w) (bounds w))
-bound-counts w counts s n kind p b r e f l h q =
-    q ∙ rw (from-to p b, e, f) (counted-bound w counts (flat (span_of w s) (range n)) kind l h)
+bound-counts w counts s n kind r l h q = sym q ∙ counted-bound w counts (flat (span_of w s) (range n)) kind l h
 
 -- every name bound by one kind of binder, or not
 pub bound-part : (w : List ℕ) (s : Source) (n m kind : ℕ) (binders : List ℕ) (r b : Bool) → n ≡ m → flat (span_of w s) (range m) ≡ binders

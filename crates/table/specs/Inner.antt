@@ -1,4 +1,3 @@
 -- Definitions and facts that only promises of private functions cite.
-pub mod Items
 pub mod Scope
 pub mod Shaped

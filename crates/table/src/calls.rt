@@ -1,25 +1,23 @@
 // Cause 9: entries of their own thread without formals, calls that stay in the thread and leave the definition unless
 // self-calls are spared.
+#![tactic(auto, unfolding(lists::specs::Lists::same, crate::specs::Causes::is_entry_right, crate::specs::Causes::call_right_in))]
+
 ghost use Rattle.std.specs.Prelude.{◌≡◌, ◌≤◌, not};
 ghost use Rattle.scheme.specs.Words.{definitions, nodes, branches, is_call_node};
 ghost use Rattle.scheme.specs.Index.{definitions_in};
 ghost use Rattle.lists.specs.Lists.{word, range, every};
 ghost use Rattle.table.specs.Causes.{is_entry_right, call_right_in, are_calls_right};
 
-use crate::tests::{Item, all_pass};
 use lists::word;
 use scheme::fields::{field1, field3, field4};
 use scheme::index::{BINDERS, fill_bodies};
 use scheme::lookup::definition;
 
-pub(crate) fn entry_right(table: &[u16], thread: usize) -> bool
+fn entry_right(table: &[u16], thread: usize) -> bool
     ensures { result ≡ is_entry_right table.now thread }
 {
     let definition = field1(table, 9, thread);
-    if field4(table, 8, definition, 0) != thread {
-        return false;
-    }
-    field4(table, 8, definition, 3) == 0
+    field4(table, 8, definition, 0) == thread && field4(table, 8, definition, 3) == 0
 }
 
 // Whether a node that is a Call of the definition `own` stays in the thread, and leaves the definition or is spared.
@@ -30,45 +28,7 @@ fn call_right(table: &[u16], node: usize, own: usize, spared: bool) -> bool
         return true;
     }
     let called = field3(table, 10, node, 1);
-    if field4(table, 8, called, 0) != field4(table, 8, own, 0) {
-        return false;
-    }
-    if spared {
-        return true;
-    }
-    called != own
-}
-
-// Whether every Call is right, by the definitions that an index has.
-fn all_calls_right(table: &[u16], index: &[u32], spared: bool) -> bool
-    ensures { result ≡ every
-        (λ n. call_right_in table.now spared (word (definitions_in index.now) n) n)
-        (range (nodes table.now)) }
-{
-    let count = word(table, 4);
-    let mut n = 0;
-    while n < count {
-        if !call_right(table, n, definition(index, n), spared) {
-            return false;
-        }
-        n += 1;
-    }
-    true
-}
-
-// Whether no node is a Call.
-fn has_no_call(table: &[u16]) -> bool
-    ensures { result ≡ every (λ n. not (is_call_node table.now n)) (range (nodes table.now)) }
-{
-    let count = word(table, 4);
-    let mut n = 0;
-    while n < count {
-        if field3(table, 10, n, 0) == 3 {
-            return false;
-        }
-        n += 1;
-    }
-    true
+    field4(table, 8, called, 0) == field4(table, 8, own, 0) && (spared || called != own)
 }
 
 // Without Calls the definitions of nodes are not asked for.
@@ -76,13 +36,14 @@ pub(crate) fn calls_right(table: &[u16], spared: bool) -> bool
     requires { (nodes table.now ≤ 256) × (branches table.now ≤ 256) × (definitions table.now ≤ 32) }
     ensures { result ≡ are_calls_right table.now spared }
 {
-    if !all_pass(table, Item::EntryRight, 0, word(table, 3)) {
+    if !(0..word(table, 3)).all(|t| entry_right(table, t)) {
         return false;
     }
-    if has_no_call(table) {
+    let nodes = word(table, 4);
+    if (0..nodes).all(|n| field3(table, 10, n, 0) != 3) {
         return true;
     }
     let mut index = [0u32; BINDERS];
     fill_bodies(table, &mut index);
-    all_calls_right(table, &index, spared)
+    (0..nodes).all(|n| call_right(table, n, definition(&index, n), spared))
 }

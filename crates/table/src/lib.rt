@@ -7,7 +7,6 @@ mod kinds;
 mod ranges;
 mod scope;
 mod shape;
-mod tests;
 
 ghost use Rattle.std.specs.Prelude.{◌≡◌, ◌<◌};
 ghost use Rattle.table.specs.Answer.{cause_of, cause_number};
@@ -48,6 +47,7 @@ impl From<Cause> for usize {
 }
 
 // The first cause, in number order, that applies to the words.
+#[tactic(auto, unfolding(crate::specs::Causes::cause))]
 pub fn check(table: &[u16]) -> Result<(), Cause>
     ensures { cause_of result ≡ cause table.now }
 {
@@ -55,6 +55,7 @@ pub fn check(table: &[u16]) -> Result<(), Cause>
 }
 
 // The same, with self-calls spared or not.
+#[tactic(auto, unfolding(crate::specs::Causes::cause_sparing, crate::specs::Causes::first_failed, crate::specs::Causes::long_enough))]
 pub fn check_sparing(table: &[u16], spared: bool) -> Result<(), Cause>
     ensures { cause_of result ≡ cause_sparing table.now spared }
 {
@@ -89,6 +90,7 @@ pub fn check_sparing(table: &[u16], spared: bool) -> Result<(), Cause>
 }
 
 // Cause 2: whether each count is within its bound.
+#[tactic(auto, unfolding(crate::specs::Causes::are_counts_right))]
 fn counts_right(table: &[u16]) -> bool
     ensures { result ≡ are_counts_right table.now }
 {
@@ -99,34 +101,19 @@ fn counts_right(table: &[u16]) -> bool
     let nodes = word(table, 4);
     let branches = word(table, 5);
     let arguments = word(table, 6);
-    if publics > 32 {
-        return false;
-    }
-    if bounds > 32 {
-        return false;
-    }
-    if definitions > 32 {
-        return false;
-    }
-    if threads < 1 {
-        return false;
-    }
-    if threads > 8 {
-        return false;
-    }
-    if nodes < 1 {
-        return false;
-    }
-    if nodes > 256 {
-        return false;
-    }
-    if branches > 256 {
-        return false;
-    }
-    arguments <= 256
+    publics <= 32
+        && bounds <= 32
+        && definitions <= 32
+        && 1 <= threads
+        && threads <= 8
+        && 1 <= nodes
+        && nodes <= 256
+        && branches <= 256
+        && arguments <= 256
 }
 
 // Cause 3: whether the offsets and the length are as the counts give. Sums of words do not wrap.
+#[tactic(auto, unfolding(lists::specs::Lists::same, crate::specs::Causes::is_layout_right))]
 fn layout_right(table: &[u16]) -> bool
     ensures { result ≡ is_layout_right table.now }
 {
@@ -136,23 +123,11 @@ fn layout_right(table: &[u16]) -> bool
     let nodes = word(table, 10);
     let branches = word(table, 11);
     let arguments = word(table, 12);
-    if names != 13 {
-        return false;
-    }
-    if definitions != names + word(table, 1) {
-        return false;
-    }
-    if threads != definitions + 4 * word(table, 2) {
-        return false;
-    }
-    if nodes != threads + word(table, 3) {
-        return false;
-    }
-    if branches != nodes + 3 * word(table, 4) {
-        return false;
-    }
-    if arguments != branches + 4 * word(table, 5) {
-        return false;
-    }
-    table.len() == arguments + word(table, 6)
+    names == 13
+        && definitions == names + word(table, 1)
+        && threads == definitions + 4 * word(table, 2)
+        && nodes == threads + word(table, 3)
+        && branches == nodes + 3 * word(table, 4)
+        && arguments == branches + 4 * word(table, 5)
+        && table.len() == arguments + word(table, 6)
 }

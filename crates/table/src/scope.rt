@@ -18,14 +18,7 @@ fn arguments_held(table: &[u16], node: usize, first: usize, end: usize, held: &[
     ensures { result ≡ every (λ a. usable table.now node (argument table.now a))
         (from first (end - first)) }
 {
-    let mut a = first;
-    while a < end {
-        if word(held, field1(table, 12, a)) == 0 {
-            return false;
-        }
-        a += 1;
-    }
-    true
+    (first..end).all(|a| word(held, field1(table, 12, a)) != 0)
 }
 
 // Whether a node and all below it use names that they hold.
@@ -54,13 +47,10 @@ fn node_scoped(table: &[u16], node: usize, held: [u8; 64]) -> bool
     if kind != 1 {
         return true;
     }
-    let end = first + second;
-    let mut b = first;
-    while b < end {
+    for b in first..first + second {
         if !branch_scoped(table, node, b, held) {
             return false;
         }
-        b += 1;
     }
     true
 }
@@ -107,13 +97,10 @@ pub(crate) fn scope_right(table: &[u16]) -> bool
     requires { Shaped table.now }
     ensures { result ≡ is_scope_right table.now }
 {
-    let count = word(table, 2);
-    let mut d = 0;
-    while d < count {
+    for d in 0..word(table, 2) {
         if !definition_scoped(table, d) {
             return false;
         }
-        d += 1;
     }
     true
 }

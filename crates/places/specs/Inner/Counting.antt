@@ -33,6 +33,10 @@ count_all f s (x ∷ xs) = count_all f (add_one s (f x)) xs
 abbrev pub add_times : Sums → ℕ → ℕ → ℕ → Sums
 add_times s times i o = sums (s.transitions + times) (s.inputs + times * i) (s.outputs + times * o)
 
+-- as many for public and for private values: the arcs of the latter are one number
+abbrev pub add_both : Sums → ℕ → ℕ → ℕ → ℕ → ℕ → Sums
+add_both s publics i o privates arcs = add_times (add_times s publics i o) privates arcs arcs
+
 -- a step for each number of a list
 unfoldable pub over : (Sums → ℕ → Sums) → Sums → List ℕ → Sums
 over step s [] = s
@@ -49,6 +53,10 @@ module _ (w : List ℕ) where
 
   abbrev pub private_count : List ℕ → ℕ
   private_count vs = length (keep (λ v. nat_le (publics w) v) vs)
+
+  -- a transition for each value of a name
+  abbrev pub value_sums : Sums → ℕ → ℕ → ℕ → ℕ → Sums
+  value_sums s x i o arcs = add_both s (public_count (values w x)) i o (private_count (values w x)) arcs
 
   -- the releases of a name
   unfoldable pub release_sums : Sums → ℕ → Sums

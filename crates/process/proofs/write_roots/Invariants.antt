@@ -8,7 +8,4 @@ use Rattle.scheme.specs.Words.{threads as thread_count, root, entry}
 use Rattle.process.proofs.write_roots.Given as goal
 
 abbrev pub invariant-loop-t : goal.invariant-loop-t
-invariant-loop-t l = (sets l.initial.out 0 (map (λ t. root l.table (entry l.table t)) (range (thread_count l.table))) ≡ sets l.out l.t (map (λ t. root l.table (entry l.table t)) (from l.t (l.threads - l.t)))) × (length l.out ≡ length l.initial.out)
-
-abbrev pub decreases-loop-t : goal.decreases-loop-t
-decreases-loop-t l = l.threads - l.t
+invariant-loop-t l = (sets l.initial.out 0 (map (λ t. root l.table (entry l.table t)) (range (thread_count l.table))) ≡ sets l.out l.t (map (λ t. root l.table (entry l.table t)) (from l.t (l.threads - l.t))))

@@ -1,5 +1,5 @@
 -- What the code's steps, bookkeeping and labels stand for.
-use Rattle.std.specs.Prelude.{true, ℕ, ◌<◌, ◌≡◌, List, [], ◌∷◌}
+use Rattle.std.specs.Prelude.{true, ℕ, ◌<◌, ◌≡◌, List, [], ◌∷◌, Option, Some, None}
 use Rattle.lists.specs.Lists.{pick}
 use Rattle.scheme.specs.Scheme.{Scheme, scheme}
 use Rattle.scheme.specs.Kinds.{is_new}
@@ -15,10 +15,8 @@ use Rattle.process.specs.declared.labels.Step.TheVariants.{New, Silent, Communic
 use Rattle.process.specs.declared.labels.Bookkeeping as code
 use Rattle.process.specs.declared.labels.Bookkeeping.TheVariants.{Copy, Release}
 use Rattle.process.specs.declared.labels.Named.{Named}
-use Rattle.process.specs.declared.labels.Named.TheVariants.{Bookkeeping, Process, Missing}
+use Rattle.process.specs.declared.labels.Named.TheVariants.{Bookkeeping, Process}
 use Rattle.process.specs.declared.labels.Label.{Label}
-use Rattle.process.specs.declared.labels.Open.{Open}
-use Rattle.process.specs.declared.labels.Open.TheVariants.{Taken, Closed}
 
 abbrev pub meant : Step → Steps.Step
 meant (New n) = new_step n
@@ -31,10 +29,10 @@ kept (Copy n x) = copy n x
 kept (Release n x) = release n x
 
 -- what a label names
-abbrev pub named : Named → Meaning
-named (Bookkeeping k) = bookkeeping (kept k)
-named (Process s) = step (meant s)
-named Missing = missing
+abbrev pub named : Option Named → Meaning
+named (Some (Bookkeeping k)) = bookkeeping (kept k)
+named (Some (Process s)) = step (meant s)
+named None = missing
 
 -- the words of a label
 abbrev pub label_words : Label → List ℕ
@@ -48,9 +46,9 @@ Labelled S (communication b c) = (b < 4294967296) × (c < 4294967296)
 Labelled S (step_call n) = n < 4294967296
 Labelled S no_step = ⊥
 
-abbrev pub opened : Open → Steps.Step
-opened (Taken s) = meant s
-opened Closed = no_step
+abbrev pub opened : Option Step → Steps.Step
+opened (Some s) = meant s
+opened None = no_step
 
 -- the step, if it is open
 abbrev pub if_open : Scheme → State → Steps.Step → Steps.Step

@@ -1,5 +1,6 @@
 -- Values as words: 65535 stands for none.
-use Rattle.std.specs.Prelude.{◌≡◌, List, ◌∷◌, ℕ, ◌+◌, ◌≤◌, ◌<◌, ltb, length}
+use Rattle.std.specs.Prelude
+use Rattle.std.specs.Prelude.{◌≡◌, List, ◌∷◌, ℕ, ◌+◌, ◌≤◌, ◌<◌, ltb, length, Some, None}
 use Rattle.std.proofs.Math.Option.{Option}
 use Rattle.std.proofs.Math.Seq.{slice}
 use Rattle.lists.specs.Lists.{pick, same}
@@ -11,10 +12,10 @@ pub record Valued (o : Option ℕ) (r : ℕ) : Type 0 where
   pub is : o ≡ value_at r
   pub small : r < 65536
 
--- how many private values have appeared once v has, where `seen` had before it and were numbered from P on; 65536 where v is numbered otherwise
-unfoldable pub next_seen_of : ℕ → ℕ → ℕ → ℕ
+-- how many private values have appeared once v has, where `seen` had before it and were numbered from P on; none where v is numbered otherwise
+unfoldable pub next_seen_of : ℕ → ℕ → ℕ → Prelude.Option ℕ
 next_seen_of P seen v =
-    pick (same v 65535) seen (pick (ltb v P) seen (pick (ltb v (P + seen)) seen (pick (same v (P + seen)) (seen + 1) 65536)))
+    pick (same v 65535) (Some seen) (pick (ltb v P) (Some seen) (pick (ltb v (P + seen)) (Some seen) (pick (same v (P + seen)) (Some (seen + 1)) None)))
 
 -- there is room to note a value, and all numbers are small
 pub record Numberable (P : ℕ) (seen : List ℕ) (count value : ℕ) : Type 0 where

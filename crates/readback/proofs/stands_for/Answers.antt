@@ -1,5 +1,5 @@
 use mathlib.Core.Path.{sym, ◌∙◌}
-use Rattle.readback.proofs.Settling.{no-spots, stand-at, no-values, values-once, not-opposed, settles}
+use Rattle.readback.proofs.Settling.{no-spots, stand-at, no-values, values-once, settles}
 use Rattle.places.proofs.Plans.{known}
 use Rattle.readback.proofs.stands_for.Goals as goal
 
@@ -17,25 +17,9 @@ mark_all-requires c = (
       (sym c.find_spots.ensures.0 ∙ c.if-not-find_spots.false) c.find_spots.ensures.1,
 )
 
-pub returns-then-not-find_values : goal.returns-then-not-find_values
-returns-then-not-find_values c =
-    no-values c.args.table.now c.args.index.now c.requires.seeking.laid
-    c.args.marking.now c.requires.marking _ _ (sym c.find_spots.ensures.0 ∙ c.if-not-find_spots.false)
-    c.find_spots.ensures.1
-    _ c.mark_all.ensures _ c.find_values.result c.find_values.ensures.0 c.if-not-find_values.true
-
-pub returns-then-not-opposed : goal.returns-then-not-opposed
-returns-then-not-opposed c =
-    not-opposed c.args.table.now c.args.index.now c.requires.seeking.laid
-    c.args.marking.now c.requires.marking _ _ (sym c.find_spots.ensures.0 ∙ c.if-not-find_spots.false)
-    c.find_spots.ensures.1
-    _ c.mark_all.ensures _ c.find_values.result c.opposed.result c.find_values.ensures.0
-    c.if-not-find_values.false
-    c.opposed.ensures c.if-not-opposed.true
-
 pub freed-requires : goal.freed-requires
 freed-requires c =
-    let found = c.if-not-find_values.false in (
+    let found = c.if-find_values.true in (
       c.requires.seeking.laid,
       values-once c.args.table.now c.args.index.now c.requires.seeking.laid
           c.args.marking.now c.requires.marking _ _ (sym c.find_spots.ensures.0 ∙ c.if-not-find_spots.false)
@@ -44,12 +28,17 @@ freed-requires c =
           (c.find_values.ensures.1 found),
     )
 
-pub returns : goal.returns
-returns c =
+pub returns-then-find_values : goal.returns-then-find_values
+returns-then-find_values c =
     settles c.args.table.now c.args.index.now c.requires.seeking.laid
     c.args.marking.now c.requires.marking _ _ (sym c.find_spots.ensures.0 ∙ c.if-not-find_spots.false)
     c.find_spots.ensures.1
-    _ c.mark_all.ensures _ c.find_values.result c.opposed.result c.freed.result
-    c.find_values.ensures.0 c.if-not-find_values.false
-    c.opposed.ensures c.if-not-opposed.false c.freed.ensures
-    (c.find_values.ensures.1 c.if-not-find_values.false)
+    _ c.mark_all.ensures _ c.find_values.result c.find_values.ensures.0 c.if-find_values.true
+    (c.find_values.ensures.1 c.if-find_values.true) c.freed.result c.freed.ensures
+
+pub returns-else-find_values : goal.returns-else-find_values
+returns-else-find_values c =
+    no-values c.args.table.now c.args.index.now c.requires.seeking.laid
+    c.args.marking.now c.requires.marking _ _ (sym c.find_spots.ensures.0 ∙ c.if-not-find_spots.false)
+    c.find_spots.ensures.1
+    _ c.mark_all.ensures _ c.find_values.result c.find_values.ensures.0 c.if-find_values.false

@@ -1,30 +1,38 @@
-use Rattle.std.proofs.Common.{◌+◌}
+use Rattle.std.proofs.Common.{◌-◌, map, sym, ◌∙◌, subst}
+use Rattle.lists.specs.Lists.{from}
+use Rattle.scheme.specs.Words.{argument}
 use Rattle.places.specs.Answers.{sums_of}
-use Rattle.places.specs.Inner.Counting.{copy_sums}
-use Rattle.places.proofs.NodeCounts.{Twice, first-few, second-few, both-added, copy_read}
-use Rattle.places.proofs.count.copies.Goals.{After-privates_of-privates}
+use Rattle.places.specs.Inner.Counting.{Few, over, copy_sums}
+use Rattle.places.proofs.Adding.{copy-grows, map-few, map_on, map-done}
+use Rattle.places.proofs.NodeCounts.{copy_read}
 use Rattle.places.proofs.count.copies.Goals as goal
 
--- the values, as they are counted
-read : (c : After-privates_of-privates) →
+pub for_values-r-requires : goal.for_values-r-requires
+for_values-r-requires c =
     let a = c.args in
-    let b = c.bound-read.result in
-    Twice (sums_of a.t) (copy_sums a.table.now (sums_of a.t) a.argument) c.publics_of-publics.result (b + 1) (b + 2) c.privates_of-privates.result
-    (b + 2) (b + 2)
-read c =
+    let w = a.table.now in
+    let l = c.loop-i in
+    let x = c.field1-name in (
+      c.requires.0,
+      subst Few (copy_read w (sums_of l.r) x.result c.bound-read.result c.bound-read.ensures)
+          (map-few (copy_sums w) (copy-grows w) (argument w) (over (copy_sums w) (sums_of a.t) (map (argument w) (from a.first (a.end - a.first))))
+          (sums_of l.r) l.i a.end x.result l.invariant c.loop-i-test.true x.ensures.is c.requires.1),
+    )
+
+pub loop-i-preserved : goal.loop-i-preserved
+loop-i-preserved c =
     let a = c.args in
-    copy_read a.table.now c.requires.0.accepted a.index.now c.requires.0 a.argument c.reach_of-values.result c.publics_of-publics.result
-    c.privates_of-privates.result c.reach_of-values.ensures c.publics_of-publics.ensures.0 c.privates_of-privates.ensures (sums_of a.t) c.bound-read.result
-    c.bound-read.ensures
-
-pub more-requires : goal.more-requires
-more-requires c =
-    first-few ((read (goal.at.more-requires c).After-privates_of-privates)) c.requires.1
-
-pub more-requires-2 : goal.more-requires-2
-more-requires-2 c =
-    second-few ((read (goal.at.more-requires-2 c).After-privates_of-privates)) _ c.more.ensures c.requires.1
+    let w = a.table.now in
+    let l = c.loop-i in
+    let x = c.field1-name in
+    let r = c.for_values-r in
+    map_on (copy_sums w) (argument w) (over (copy_sums w) (sums_of a.t) (map (argument w) (from a.first (a.end - a.first)))) (sums_of l.r)
+    (sums_of r.result) l.i a.end x.result l.invariant c.loop-i-test.true x.ensures.is
+    (r.ensures ∙ sym (copy_read w (sums_of l.r) x.result c.bound-read.result c.bound-read.ensures))
 
 pub returns : goal.returns
 returns c =
-    both-added ((read (goal.at.returns c).After-privates_of-privates)) _ _ c.more.ensures c.more-2.ensures
+    let a = c.args in
+    let w = a.table.now in
+    let l = c.loop-i in
+    sym (l.invariant ∙ map-done (copy_sums w) (argument w) (sums_of l.r) l.i a.end c.loop-i-test.false)

@@ -1,5 +1,5 @@
 -- `places::count::node` meets its contract. Where a Stop and a Call meet, what their releases add to is told.
-use Rattle.std.proofs.Common.{◌≡◌, ℕ, ◌+◌, ◌-◌, ◌≤◌, List, sym, ◌∙◌, subst, arith}
+use Rattle.std.proofs.Common.{◌≡◌, ℕ, ◌+◌, ◌-◌, ◌≤◌, List, length, sym, ◌∙◌, length-take-le, subst, arith}
 use Rattle.lists.specs.Lists.{from}
 use Rattle.table.specs.Causes.{cause}
 use Rattle.scheme.specs.Words.{node_kind, arguments_of}
@@ -10,7 +10,7 @@ use Rattle.places.specs.Inner.Plan.{read_names_word}
 use Rattle.places.proofs.Controls.{few-nodes, few-bounds}
 use Rattle.places.proofs.Tokens.{read-few}
 use Rattle.places.proofs.Plans.{known, privates-are}
-use Rattle.places.proofs.NodeCounts.{names-asks, names-gives, stopped, chosen, made, other-kind, call-sums, copied-few, called-few}
+use Rattle.places.proofs.NodeCounts.{names-fit, names-asks, names-gives, stopped, chosen, made, other-kind, call-sums, copied-few, called-few}
 use Rattle.places.proofs.NodeCounts.{arguments-are}
 use Rattle.places.proofs.count.node.Goals.{Then-kind-eq1, After-privates, Joined-kind-ne0, Else-kind-eq2, then-kind-ne0, else-kind-ne0}
 use Rattle.places.proofs.count.node.Goals as goal
@@ -61,7 +61,7 @@ met c o =
           arguments-are w n c.field3-first.result c.field3-second.result x.field4.result c.field3-first.ensures.is c.field3-second.ensures.is
           x.field4.ensures.is in
           let copied : sums_of c.if-kind-ne0.r ≡ over (copy_sums w) (add_times s 1 1 1) (arguments_of w n) =
-          rw x.r-is (x.all_copies-r.ensures ∙ rw (as', x.more-then-kind-ne0.ensures)) in
+          rw x.r-is (x.copies-r.ensures ∙ rw (as', x.more-then-kind-ne0.ensures)) in
           rw copied (call-sums w h n c.requires.2 s (o 0 x.if-kind-ne0.true) (o 1 c.if-kind-eq1.false) (o 2 c.if-kind-eq2.false))
       | else-kind-ne0 x ↦ rw x.r-is (stopped w h n c.requires.2 s _ c.field3-kind.ensures.is x.if-kind-ne0.false)
     ]
@@ -96,10 +96,10 @@ more-requires-then-kind-ne0 c =
     called-few c.args.table.now c.requires.0.accepted c.args.n c.requires.2 (sums_of c.args.t) (other e 0 c.if-kind-ne0.true) (no-choice e) (no-new e)
     c.requires.3
 
-pub all_copies-r-requires : goal.all_copies-r-requires
-all_copies-r-requires c =
+pub copies-r-requires : goal.copies-r-requires
+copies-r-requires c =
     let w = c.args.table.now in
-    let e = (goal.at.all_copies-r-requires c).Else-kind-eq2 in
+    let e = (goal.at.copies-r-requires c).Else-kind-eq2 in
     let as' =
     arguments-are w c.args.n c.field3-first.result c.field3-second.result c.field4.result c.field3-first.ensures.is c.field3-second.ensures.is
     c.field4.ensures.is in (
@@ -108,15 +108,28 @@ all_copies-r-requires c =
           (copied-few w c.requires.0.accepted c.args.n c.requires.2 (sums_of c.args.t) (other e 0 c.if-kind-ne0.true) (no-choice e) (no-new e) c.requires.3),
     )
 
-pub all_releases-requires : goal.all_releases-requires
-all_releases-requires c =
+-- the names have room in their buffer
+fit : (c : Joined-kind-ne0) → c.held_names-held.result ≤ length c.held_names-held.new.out
+fit c =
+    names-fit c.args.table.now c.args.index.now (known c.args.table.now c.args.index.now c.requires.0) c.args.n c.requires.2 _ c.held_names-held.result
+    c.held_names-held.new.out c.held_names-held.ensures (omega arith)
+
+pub slice_bounds-names-end : goal.slice_bounds-names-end
+slice_bounds-names-end c = fit (goal.at.slice_bounds-names-end c).Joined-kind-ne0
+
+pub slice_bounds-releases-end : goal.slice_bounds-releases-end
+slice_bounds-releases-end c =
+    sym (length-take-le c.held_names-held.result c.held_names-held.new.out (fit (goal.at.slice_bounds-releases-end c).Joined-kind-ne0))
+
+pub releases-requires : goal.releases-requires
+releases-requires c =
     let w = c.args.table.now in
-    let a = goal.at.all_releases-requires c in
+    let a = goal.at.releases-requires c in
     let q = c.held_names-held in
     let p =
     names-asks w c.args.index.now (known w c.args.index.now c.requires.0) c.args.n c.requires.2 _ q.result q.new.out q.ensures (omega arith)
     (sums_of c.if-kind-ne0.r) (subst Few (met a.Joined-kind-ne0 (other a.Else-kind-eq2)) c.requires.3) in
-    (c.requires.0, p.0, p.1)
+    (c.requires.0, p.1)
 
 pub returns : goal.returns
 returns c =
@@ -124,5 +137,5 @@ returns c =
     let a = goal.at.returns c in
     let q = c.held_names-held in
     names-gives w c.args.index.now (known w c.args.index.now c.requires.0) c.args.n c.requires.2 _ q.result q.new.out q.ensures (omega arith)
-    (sums_of c.if-kind-ne0.r) (sums_of c.all_releases.result) c.all_releases.ensures
+    (sums_of c.if-kind-ne0.r) (sums_of c.releases.result) c.releases.ensures
     ∙ sym (met a.Joined-kind-ne0 (other a.Else-kind-eq2))

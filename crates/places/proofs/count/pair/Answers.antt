@@ -1,17 +1,16 @@
 -- `places::count::pair` meets its contract: by what it has read of both branches, the sum is one of two.
-use Rattle.std.proofs.Common.{◌≡◌, ℕ, ◌+◌, ◌*◌, ◌≤◌, not, List, length, sym, refl, ap, ◌∙◌, mul-le-mul, arith}
+use Rattle.std.proofs.Common.{◌≡◌, ℕ, ◌+◌, ◌*◌, ◌≤◌, not, List, length, sym, refl, ap, ◌∙◌, subst, mul-le-mul, arith}
 use Rattle.lists.specs.Lists.{pick, same, word, range, keep}
 use Rattle.scheme.specs.Words.{publics, channel, branch_name}
 use Rattle.places.specs.Answers.{Sums, sums_of}
 use Rattle.places.specs.Sets.{bit_at}
 use Rattle.places.specs.Reaches.{common_reach}
 use Rattle.places.specs.Plan.{Laid, reach_in, privates_at}
-use Rattle.places.specs.Inner.Counting.{bound_bit, pair_sums, Sends}
+use Rattle.places.specs.Inner.Counting.{Few, add_both, bound_bit, pair_sums, Sends}
 use Rattle.places.specs.declared.count.Sending.{Sending}
 use Rattle.places.specs.declared.count.Side.{Side}
 use Rattle.places.specs.declared.reach.Reach.{Reach}
-use Rattle.places.proofs.NodeCounts.{Twice, Read, reads, privates-few, self-sums, other-sums, bound-few}
-use Rattle.places.proofs.NodeCounts.{first-few, second-few, both-added}
+use Rattle.places.proofs.NodeCounts.{Read, reads, privates-few, self-sums, other-sums, bound-few}
 use Rattle.places.proofs.count.pair.Goals.{After-privates_of-privates}
 use Rattle.places.proofs.count.pair.Goals as goal
 
@@ -57,14 +56,14 @@ module _ {w x : List ℕ} {s : Sending} {r : Side} {i : Reach} {be c v : ℕ} (d
 
   -- the sum, where both names are one
   self : (so_far : Sums) → s.name ≡ s.channel
-      → Twice so_far (pair_sums w s.branch so_far r.branch) c (s.channels + be + 2) (s.channels + be + 3) v (s.channels + be + 3) (s.channels + be + 3)
+      → pair_sums w s.branch so_far r.branch ≡ add_both so_far c (s.channels + be + 2) (s.channels + be + 3) v (s.channels + be + 3)
   self so_far q =
       self-sums w s.branch r.branch a z e i s.channels be c v read so_far (sym d.sends.name-is ∙ q ∙ d.sends.channel-is)
 
   -- and where they differ
   other : (so_far : Sums) → (s.name ≡ s.channel → ⊥)
-      → Twice so_far (pair_sums w s.branch so_far r.branch) ((c + v) * s.publics) (s.channels + be + s.names + 2) (s.channels + be + s.names + 3)
-      ((c + v) * s.privates) (s.channels + be + s.names + 3) (s.channels + be + s.names + 3)
+      → pair_sums w s.branch so_far r.branch
+      ≡ add_both so_far ((c + v) * s.publics) (s.channels + be + s.names + 2) (s.channels + be + s.names + 3) ((c + v) * s.privates) (s.channels + be + s.names + 3)
   other so_far n =
       other-sums w s.branch r.branch a z e i s.channels be c v read so_far s.names s.publics s.privates
       (λ k. n (d.sends.name-is ∙ k ∙ sym d.sends.channel-is)) d.sends.names-are d.sends.publics-are d.sends.privates-are
@@ -82,20 +81,15 @@ told c = record {
   privates-are = c.privates_of-privates.ensures;
 }
 
-pub more-requires : goal.more-requires
-more-requires c =
-    let d = told (goal.at.more-requires c).After-privates_of-privates in
-    first-few (self d (sums_of c.args.t) c.if-s.true) c.requires.4
-
-pub more-requires-then-s : goal.more-requires-then-s
-more-requires-then-s c =
-    let d = told (goal.at.more-requires-then-s c).After-privates_of-privates in
-    second-few (self d (sums_of c.args.t) c.if-s.true) _ c.more.ensures c.requires.4
+pub more_of_both-requires : goal.more_of_both-requires
+more_of_both-requires c =
+    let d = told (goal.at.more_of_both-requires c).After-privates_of-privates in
+    subst Few (self d (sums_of c.args.t) c.if-s.true) c.requires.4
 
 pub returns-then-s : goal.returns-then-s
 returns-then-s c =
     let d = told (goal.at.returns-then-s c).After-privates_of-privates in
-    both-added (self d (sums_of c.args.t) c.if-s.true) _ _ c.more.ensures c.more-then-s.ensures
+    c.more_of_both.ensures ∙ sym (self d (sums_of c.args.t) c.if-s.true)
 
 pub overflow_add-all : goal.overflow_add-all
 overflow_add-all c =
@@ -107,22 +101,17 @@ overflow_mul-all c =
     let d = told (goal.at.overflow_mul-all c).After-privates_of-privates in
     omega (arith, mul-le-mul (all-few d) c.requires.1.few-publics)
 
-pub more-requires-2 : goal.more-requires-2
-more-requires-2 c =
-    let d = told (goal.at.more-requires-2 c).After-privates_of-privates in
-    first-few (other d (sums_of c.args.t) c.if-s.false) c.requires.4
-
 pub overflow_mul-all-2 : goal.overflow_mul-all-2
 overflow_mul-all-2 c =
     let d = told (goal.at.overflow_mul-all-2 c).After-privates_of-privates in
     omega (arith, mul-le-mul (all-few d) c.requires.1.few-privates)
 
-pub more-requires-3 : goal.more-requires-3
-more-requires-3 c =
-    let d = told (goal.at.more-requires-3 c).After-privates_of-privates in
-    second-few (other d (sums_of c.args.t) c.if-s.false) _ c.more-2.ensures c.requires.4
+pub more_of_both-requires-2 : goal.more_of_both-requires-2
+more_of_both-requires-2 c =
+    let d = told (goal.at.more_of_both-requires-2 c).After-privates_of-privates in
+    subst Few (other d (sums_of c.args.t) c.if-s.false) c.requires.4
 
 pub returns : goal.returns
 returns c =
     let d = told (goal.at.returns c).After-privates_of-privates in
-    both-added (other d (sums_of c.args.t) c.if-s.false) _ _ c.more-2.ensures c.more-3.ensures
+    c.more_of_both-2.ensures ∙ sym (other d (sums_of c.args.t) c.if-s.false)

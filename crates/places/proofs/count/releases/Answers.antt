@@ -1,25 +1,34 @@
+use Rattle.std.proofs.Common.{sym, ◌∙◌, refl}
 use Rattle.places.specs.Answers.{sums_of}
-use Rattle.places.specs.Inner.Counting.{release_sums}
-use Rattle.places.proofs.NodeCounts.{Twice, first-few, second-few, both-added, release-read}
-use Rattle.places.proofs.count.releases.Goals.{After-privates_of-privates}
+use Rattle.places.specs.Inner.Counting.{over, release_sums}
+use Rattle.places.proofs.Adding.{release-grows, rest-few, rest-on, rest-done}
 use Rattle.places.proofs.count.releases.Goals as goal
 
--- the values, as they are counted
-read : (c : After-privates_of-privates) → let a = c.args in
-    Twice (sums_of a.t) (release_sums a.table.now (sums_of a.t) a.name) c.publics_of-publics.result 2 1 c.privates_of-privates.result 2 2
-read c =
+pub for_values-r-requires : goal.for_values-r-requires
+unfolding release_sums
+for_values-r-requires c =
     let a = c.args in
-    release-read a.table.now c.requires.0.accepted a.index.now c.requires.0 a.name c.reach_of-values.result c.publics_of-publics.result
-    c.privates_of-privates.result c.reach_of-values.ensures c.publics_of-publics.ensures.0 c.privates_of-privates.ensures (sums_of a.t)
+    let w = a.table.now in
+    let xs = a.names.now in
+    let l = c.loop-name in (
+      c.requires.0,
+      rest-few (release_sums w) (release-grows w) (over (release_sums w) (sums_of a.t) xs) (sums_of l.r) xs l.name-index _ l.invariant
+          c.loop-name-test.true refl c.requires.1,
+    )
 
-pub more-requires : goal.more-requires
-more-requires c =
-    first-few ((read (goal.at.more-requires c).After-privates_of-privates)) c.requires.1
-
-pub more-requires-2 : goal.more-requires-2
-more-requires-2 c =
-    second-few ((read (goal.at.more-requires-2 c).After-privates_of-privates)) _ c.more.ensures c.requires.1
+pub loop-name-preserved : goal.loop-name-preserved
+unfolding release_sums
+loop-name-preserved c =
+    let a = c.args in
+    let w = a.table.now in
+    let xs = a.names.now in
+    let l = c.loop-name in
+    let r = c.for_values-r in
+    rest-on (release_sums w) (over (release_sums w) (sums_of a.t) xs) (sums_of l.r) (sums_of r.result) xs l.name-index _ l.invariant
+    c.loop-name-test.true refl r.ensures
 
 pub returns : goal.returns
 returns c =
-    both-added ((read (goal.at.returns c).After-privates_of-privates)) _ _ c.more.ensures c.more-2.ensures
+    let a = c.args in
+    let l = c.loop-name in
+    sym (l.invariant ∙ rest-done (release_sums a.table.now) (sums_of l.r) a.names.now l.name-index c.loop-name-test.false)

@@ -35,13 +35,13 @@ loop-n-preserved c =
       u ∙ store-more (node_word w) c.args.index.now 960 l.n l.index l.invariant.1 l.at l.invariant.0,
     )
 
-pub slice_bounds-repeat-start : goal.slice_bounds-repeat-start
-slice_bounds-repeat-start c =
+pub slice_bounds-fill-start : goal.slice_bounds-fill-start
+slice_bounds-fill-start c =
     let nodes-few : c.word-count.result ≤ 256 = omega (arith, c.word-count.ensures.is, few-nodes c.args.table.now c.requires.0) in
     omega (arith, nodes-few)
 
-pub slice_bounds-repeat-count : goal.slice_bounds-repeat-count
-slice_bounds-repeat-count c = omega (arith, (nodes-few (goal.at.slice_bounds-repeat-count c).At-loop-n))
+pub slice_bounds-fill-count : goal.slice_bounds-fill-count
+slice_bounds-fill-count c = omega (arith, (nodes-few (goal.at.slice_bounds-fill-count c).At-loop-n))
 
 pub overflow_cast-at-2 : goal.overflow_cast-at-2
 overflow_cast-at-2 c =
@@ -60,5 +60,5 @@ returns c =
     let o = l.invariant.0 ∙ node-past w l.n (omega (arith, i, e)) in (
       o,
       rest-same (node_word w) c.args.index.now 960 n (1217 - (960 + n)) l.at (λ y u. node-past w y (omega (arith, i)) ∙ sym o)
-          (omega (arith, few, c.requires.3)) l.index _ (rw (← e) l.invariant.1) c.repeat.ensures ∙ rw q,
+          (omega (arith, few, c.requires.3)) l.index _ (rw (← e) l.invariant.1) (c.fill.ensures.after (λ y e. e)) ∙ rw q,
     )

@@ -1,31 +1,24 @@
-use Rattle.std.proofs.Common.{◌+◌, ◌<◌, ◌≤◌, ◌∙◌, arith}
-use Rattle.scheme.specs.Words.{publics, names}
-use Rattle.places.proofs.Names.{kind-restricted, kind-free, free_more, free-skip, free-done}
-use Rattle.places.proofs.layout.free_names.Goals.{then-name_kind-ne0, else-name_kind-ne0}
+use Rattle.std.proofs.Common.{◌≡◌, ◌+◌, rules, tests, not, eqb, ◌∙◌, arith}
+use Rattle.std.proofs.lemmas.Iterator.{YieldsList-from_range}
+use Rattle.std.proofs.lemmas.Iterator.Consumers.{count_from_yields_List, YieldsList-from_filter}
+use Rattle.lists.specs.Lists.{from}
+use Rattle.lists.proofs.Members.{keep-length}
+use Rattle.lists.proofs.Ranges.{from-length}
+use Rattle.scheme.specs.Words.{publics, bounds, name_kind_of}
+use Rattle.places.specs.Inner.Plan.{free_names_word}
+use Rattle.places.proofs.Chains.{kept_count}
+use Rattle.places.proofs.Names.{is_free, free-kinds}
 use Rattle.places.proofs.layout.free_names.Goals as goal
-
-pub loop-x-preserved : goal.loop-x-preserved
-loop-x-preserved c =
-    let a = c.args in
-    let l = c.loop-x in
-    let k = c.name_kind in
-    let p = c.word-publics in
-    let n = c.word in
-    let e = p.result + n.result in
-    let w = a.table.now in
-    let low : publics w ≤ l.x = omega (arith, p.ensures.is, l.invariant) in
-    let high : l.x < names w = omega (arith, p.ensures.is, n.ensures.is) in
-    elim c.if-name_kind-ne0.branch [
-      | then-name_kind-ne0 v ↦
-          let f = free_more w l.x e (omega arith) (kind-free w l.x k.result low high k.ensures.is v.if-name_kind-ne0.true) in
-          (l.invariant.0 ∙ omega (arith, v, f), omega (arith, v), omega arith)
-      | else-name_kind-ne0 v ↦
-          let f = free-skip w l.x e (omega arith) (kind-restricted w l.x k.result low high k.ensures.is v.if-name_kind-ne0.false) in
-          (l.invariant.0 ∙ omega (arith, v, f), omega (arith, v), omega arith)
-    ]
 
 pub returns : goal.returns
 returns c =
-    let l = c.loop-x in
-    let f = free-done c.args.table.now l.x (c.word-publics.result + c.word.result) c.loop-x-test.false in
-    (omega (arith, l.invariant, f), omega (arith, l.invariant, c.word-publics.ensures.is, c.word.ensures.is))
+    let w = c.args.table.now in
+    let p = c.word-publics.result in
+    let b = c.word.result in
+    let k =
+    count_from_yields_List c.filter.result c.count.result c.count.ensures.ran
+    (YieldsList-from_filter _ (λ x. not (eqb (name_kind_of w x) 0)) (YieldsList-from_range p (p + b) b c.filter.ensures.source (omega arith))
+    c.filter.ensures.closure (λ x r q k. search (rules, tests))) in
+    let e : c.count.result ≡ free_names_word w =
+    k ∙ kept_count (λ x. not (eqb (name_kind_of w x) 0)) p b ∙ rw (c.word-publics.ensures.is, c.word.ensures.is) (free-kinds w) in
+    (e, omega (arith, e, keep-length (is_free w) (from (publics w) (bounds w)), from-length (publics w) (bounds w)))

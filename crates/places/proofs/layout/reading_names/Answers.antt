@@ -1,28 +1,17 @@
-use Rattle.std.proofs.Common.{◌≡◌, ◌+◌, sym, ◌∙◌, arith}
+use Rattle.std.proofs.Common.{◌≡◌, ◌+◌, rules, tests, ◌∙◌, arith}
+use Rattle.std.proofs.lemmas.Iterator.{YieldsList-from_range}
+use Rattle.std.proofs.lemmas.Iterator.Consumers.{count_from_yields_List, YieldsList-from_filter}
 use Rattle.places.specs.Inner.Plan.{read_names_word}
-use Rattle.places.proofs.Names.{read_more, read-skip, read_done, read-tells}
+use Rattle.places.proofs.Chains.{kept_count}
+use Rattle.places.proofs.Names.{is_name_read, read-tells}
 use Rattle.places.proofs.Tokens.{read-few}
-use Rattle.places.proofs.layout.reading_names.Goals.{then-is_read, else-is_read}
 use Rattle.places.proofs.layout.reading_names.Goals as goal
-
-pub overflow_add-count : goal.overflow_add-count
-overflow_add-count c =
-    omega (arith, c.loop-x.invariant, read-few c.args.table.now c.requires.accepted, c.word.ensures.is, c.word.ensures.small)
-
-pub loop-x-preserved : goal.loop-x-preserved
-loop-x-preserved c =
-    let w = c.args.table.now in
-    let l = c.loop-x in
-    let e = c.word-publics.result + c.word.result in
-    let t = read-tells w c.requires.accepted c.args.index.now c.requires l.x c.is_read.result c.is_read.ensures in
-    elim c.if-is_read.branch [
-      | then-is_read u ↦ omega (arith, l.invariant, u.count-is, read_more w l.x e c.loop-x-test.true (sym t ∙ u.if-is_read.true))
-      | else-is_read u ↦ omega (arith, l.invariant, u.count-is, read-skip w l.x e c.loop-x-test.true (sym t ∙ u.if-is_read.false))
-    ]
 
 pub returns : goal.returns
 returns c =
     let w = c.args.table.now in
-    let e : c.loop-x.count ≡ read_names_word w =
-    omega (arith, c.loop-x.invariant, read_done w c.loop-x.x (c.word-publics.result + c.word.result) c.loop-x-test.false) in
+    let p = c.word-publics.result in
+    let b = c.word.result in
+    let k = count_from_yields_List c.filter.result c.count.result c.count.ensures.ran (YieldsList-from_filter _ (is_name_read w) (YieldsList-from_range p (p + b) b c.filter.ensures.source (omega arith)) c.filter.ensures.closure (λ x r q k. search (rules, tests, read-tells w c.requires.accepted c.args.index.now c.requires))) in
+    let e : c.count.result ≡ read_names_word w = k ∙ kept_count (is_name_read w) p b ∙ rw (c.word-publics.ensures.is, c.word.ensures.is) in
     (e, omega (arith, e, read-few w c.requires.accepted))

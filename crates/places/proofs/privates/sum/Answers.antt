@@ -1,19 +1,20 @@
-use Rattle.std.proofs.Common.{◌≡◌, ◌∙◌, arith}
-use Rattle.places.proofs.Holding.{words_left, sum_more, sum-whole, sum_done}
+use Rattle.std.proofs.Common.{rules, tests, map, sym, ◌∙◌, arith}
+use Rattle.std.proofs.lemmas.Iterator.{YieldsList-from_range, YieldsList-from_map}
+use Rattle.std.proofs.lemmas.Iterator.Consumers.{sum_from_yields_List}
+use Rattle.std.proofs.lemmas.Iterator.Adapters.{fits_from_length, at_most_from_yields_List}
+use Rattle.std.proofs.lemmas.List.FromFn.{length-range_with_len}
+use Rattle.std.specs.List.{range_with_len}
+use Rattle.lists.specs.Lists.{word}
+use Rattle.lists.proofs.Chains.{from_counted}
+use Rattle.places.proofs.Chains.{total_sum}
 use Rattle.places.proofs.privates.sum.Goals as goal
 
-pub loop-i-preserved : goal.loop-i-preserved
-loop-i-preserved c =
-    let a = c.args in
-    let t = c.loop-i-test.true in (
-      omega (arith, c.loop-i.invariant.0, c.word-s.ensures.is, sum_more a.words.now c.loop-i.i a.count t),
-      omega (arith, c.loop-i.invariant.1, c.word-s.ensures.small),
-      omega (arith, t),
-    )
+pub sum-requires-clause-fits : goal.sum-requires-clause-fits
+sum-requires-clause-fits c =
+    fits_from_length _ _ 8 _ (at_most_from_yields_List (YieldsList-from_range 0 c.args.count c.args.count c.map.ensures.source (omega arith)) (omega (arith, c.requires, length-range_with_len 0 c.args.count)))
+    c.map.ensures.closure (omega arith) (λ x r q k. search (rules, tests))
 
 pub returns : goal.returns
 returns c =
-    let a = c.args in
-    let e : c.loop-i.s ≡ words_left a.words.now 0 a.count =
-    omega (arith, c.loop-i.invariant.0, sum_done a.words.now c.loop-i.i a.count c.loop-i-test.false) in
-    e ∙ sum-whole a.words.now a.count
+    let s = sum_from_yields_List c.map.result c.sum.result c.sum.ensures.ran (YieldsList-from_map _ (word c.args.words.now) (YieldsList-from_range 0 c.args.count c.args.count c.map.ensures.source (omega arith)) c.map.ensures.closure (λ x r q k. search (rules, tests))) in
+    s ∙ sym (rw (from_counted 0 c.args.count) (total_sum (map (word c.args.words.now) (range_with_len 0 c.args.count))))

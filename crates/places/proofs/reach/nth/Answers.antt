@@ -1,26 +1,17 @@
-use Rattle.std.proofs.Common.{sym, ◌∙◌, arith}
-use Rattle.places.proofs.Bits.{nth_here, nth_on, nth-skip, nth-done}
-use Rattle.places.proofs.reach.nth.Goals.{then-has+else-left-eq0, else-has}
+use Rattle.std.proofs.Common.{◌≡◌, rules, tests, refl, ◌∙◌, arith}
+use Rattle.std.proofs.lemmas.Iterator.{YieldsList-from_range}
+use Rattle.std.proofs.lemmas.Iterator.Consumers.{nth_from_yields_List, YieldsList-from_filter}
+use Rattle.lists.specs.Lists.{word, keep, range}
+use Rattle.places.specs.Sets.{bit_at}
+use Rattle.places.proofs.Chains.{kept_nth, word-below}
 use Rattle.places.proofs.reach.nth.Goals as goal
-
-pub returns-then-left-eq0 : goal.returns-then-left-eq0
-returns-then-left-eq0 c =
-    let b = sym c.has.ensures ∙ c.if-has.true in
-    (sym (c.loop-v.invariant.0 ∙ rw c.if-left-eq0.true (nth_here c.args.set c.loop-v.v c.loop-v-test.true b)), c.loop-v-test.true)
-
-pub loop-v-preserved : goal.loop-v-preserved
-loop-v-preserved c =
-    let w = c.args.set in
-    let l = c.loop-v in
-    let h = c.loop-v-test.true in (
-      l.invariant.0
-          ∙ (elim c.if-has.branch [
-            | then-has+else-left-eq0 u ↦ nth_on w l.v l.left h (sym c.has.ensures ∙ u.if-has.true) u.if-left-eq0.false ∙ rw u.left-is
-            | else-has u ↦ nth-skip w l.v l.left h (sym c.has.ensures ∙ u.if-has.false) ∙ rw u.left-is
-          ]),
-      omega (arith, h),
-    )
 
 pub returns : goal.returns
 returns c =
-    (sym (c.loop-v.invariant.0 ∙ nth-done c.args.set c.loop-v.v c.loop-v.left c.loop-v-test.false), omega arith)
+    let p = bit_at c.args.set in
+    let k = c.args.k in
+    let n =
+    nth_from_yields_List c.nth.result c.nth.new.self k c.nth.ensures.ran
+    (YieldsList-from_filter _ p (YieldsList-from_range 0 64 64 c.filter.ensures.source refl) c.filter.ensures.closure (λ x b q k. search (rules, tests))) in
+    let e : c.unwrap_or.result ≡ word (keep p (range 64)) k = c.unwrap_or.ensures ∙ kept_nth p 0 64 k c.nth.result n in
+    (e, omega (arith, e, word-below p 64 0 64 k (omega arith) (omega arith)))

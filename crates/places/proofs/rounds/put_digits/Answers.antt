@@ -29,4 +29,4 @@ returns c =
     let q : a.n + (a.at + 64 - (a.at + a.n)) ≡ 64 = omega (arith, c.requires.0) in
     rest-same (λ x. word a.words.now x / 2 ^ a.first % 2 ^ a.size) a.index.now a.at a.n (a.at + 64 - (a.at + a.n)) 0
     (λ y u. rw (c.requires.1 y u, zero-div (2 ^ a.first)) (zero-mod (2 ^ a.size)))
-    (omega (arith, c.requires.0, c.requires.5)) l.index _ (rw (← e) l.invariant.0) c.repeat.ensures ∙ rw q
+    (omega (arith, c.requires.0, c.requires.5)) l.index _ (rw (← e) l.invariant.0) (c.fill.ensures.after (λ y e. e)) ∙ rw q

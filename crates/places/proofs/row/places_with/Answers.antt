@@ -11,7 +11,7 @@ loop-x-preserved c =
         arith,
         l.invariant.0,
         c.places_of-count.ensures.0,
-        total-more (places_in c.word-publics.result a.index.now a.privates) l.x c.smaller-last.result c.loop-x-test.true,
+        total-more (places_in c.word-publics.result a.index.now a.privates) l.x c.min-last.result c.loop-x-test.true,
       ),
       omega (arith, l.invariant.1, c.places_of-count.ensures.1),
       omega (arith, l.invariant.2),
@@ -24,7 +24,7 @@ returns c =
     omega (
       arith,
       l.invariant.0,
-      total-done (places_in c.word-publics.result a.index.now a.privates) l.x c.smaller-last.result c.loop-x-test.false,
-      span-told a.table.now a.index.now a.privates a.first a.end c.word-publics.result c.word.result c.larger-x.result
-          c.smaller-last.result c.word-publics.ensures.is c.word.ensures.is c.larger-x.ensures c.smaller-last.ensures,
+      total-done (places_in c.word-publics.result a.index.now a.privates) l.x c.min-last.result c.loop-x-test.false,
+      span-told a.table.now a.index.now a.privates a.first a.end c.word-publics.result c.word.result c.max-x.result
+          c.min-last.result c.word-publics.ensures.is c.word.ensures.is c.max-x.ensures c.min-last.ensures,
     )

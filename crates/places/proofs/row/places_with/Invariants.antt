@@ -7,6 +7,3 @@ abbrev pub invariant-loop-x : goal.invariant-loop-x
 invariant-loop-x l =
     (total (map (places_in l.publics l.index l.privates) (from l.initial.x (l.last - l.initial.x))) ≡ l.count + total (map (places_in l.publics l.index l.privates) (from l.x (l.last - l.x))))
     × (l.count ≤ l.x * 8589934654) × (l.publics ≤ l.x)
-
-abbrev pub decreases-loop-x : goal.decreases-loop-x
-decreases-loop-x l = l.last + 1 - l.x

@@ -1,9 +1,11 @@
-use mathlib.Core.Path.{sym, ◌∙◌}
-use Rattle.lists.proofs.Tests.{same-yes, same-no}
+use Rattle.std.proofs.Common.{rules}
+use Rattle.lists.specs.Lists.{same}
 use Rattle.process.proofs.formed.is_apart.Goals as goal
 
 pub returns-then-name-other : goal.returns-then-name-other
-returns-then-name-other c = rw (sym c.is_restricted.ensures ∙ c.if-not-is_restricted.false, same-yes _ _ c.if-name-other.true)
+unfolding same
+returns-then-name-other c = search rules
 
-pub returns : goal.returns
-returns c = rw (sym c.is_restricted.ensures ∙ c.if-not-is_restricted.false, same-no _ _ c.if-name-other.false, c.value_of.ensures.is, c.value_of-2.ensures.is, c.one_value.ensures)
+pub returns-else-name-other : goal.returns-else-name-other
+unfolding same
+returns-else-name-other c = search rules

@@ -1,13 +1,12 @@
-use mathlib.Core.Path.{sym, ◌∙◌}
+use native.Mathlib.Omega.{arith}
+use Rattle.std.proofs.lemmas.Grind.{common_steps}
 use Rattle.process.specs.StateWords.{state_of}
 use Rattle.process.proofs.formed.is_held.Goals as goal
 
-pub returns-then-is_stop : goal.returns-then-is_stop
+pub returns-then-not-is_stop : goal.returns-then-not-is_stop
 unfolding state_of
-returns-then-is_stop c =
-    rw (← c.name_thread.ensures, ← c.word-node.ensures.is, sym c.is_stop.ensures ∙ c.if-is_stop.true)
+returns-then-not-is_stop c = grind (arith, common_steps)
 
-pub returns : goal.returns
+pub returns-else-not-is_stop : goal.returns-else-not-is_stop
 unfolding state_of
-returns c =
-    rw (← c.name_thread.ensures, ← c.word-node.ensures.is, sym c.is_stop.ensures ∙ c.if-is_stop.false) c.holds.ensures
+returns-else-not-is_stop c = grind (arith, common_steps)

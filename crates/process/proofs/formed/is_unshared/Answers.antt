@@ -1,12 +1,11 @@
-use mathlib.Core.Path.{sym, ◌∙◌}
-use Rattle.lists.proofs.Ranges.{every_more, every-stop, every-done}
+use native.Mathlib.Omega.{arith}
+use Rattle.std.proofs.Common.{◌+◌, rules, refl, tests}
+use Rattle.std.proofs.lemmas.Iterator.{YieldsList-from_range}
+use Rattle.std.proofs.lemmas.Iterator.Search.{all_from_yields_List}
+use Rattle.lists.proofs.Chains.{every_all, from_counted}
 use Rattle.process.proofs.formed.is_unshared.Goals as goal
 
-pub returns-then-not-is_apart : goal.returns-then-not-is_apart
-returns-then-not-is_apart c = sym (c.loop-y.invariant ∙ every-stop _ _ _ c.loop-y-test.true (sym c.is_apart.ensures ∙ c.if-not-is_apart.true))
-
-pub loop-y-preserved : goal.loop-y-preserved
-loop-y-preserved c = c.loop-y.invariant ∙ every_more _ _ _ c.loop-y-test.true (sym c.is_apart.ensures ∙ c.if-not-is_apart.false)
-
 pub returns : goal.returns
-returns c = sym (c.loop-y.invariant ∙ every-done _ _ _ c.loop-y-test.false)
+returns c =
+    rw (every_all, from_counted, ← c.word-first.ensures.is, ← c.word.ensures.is)
+    (all_from_yields_List _ _ _ _ c.all.ensures.ran (YieldsList-from_range c.word-first.result (c.word-first.result + c.word.result) c.word.result refl (omega arith)) (λ x b q k. search (rules, tests)))

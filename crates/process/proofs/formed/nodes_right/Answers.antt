@@ -1,14 +1,11 @@
-use mathlib.Core.Path.{sym, ◌∙◌}
-use Rattle.lists.proofs.Ranges.{every_more, every-stop, every-done}
+use native.Mathlib.Omega.{arith}
+use Rattle.std.proofs.Common.{rules, refl, tests}
+use Rattle.std.proofs.lemmas.Iterator.{YieldsList-from_range}
+use Rattle.std.proofs.lemmas.Iterator.Search.{all_from_yields_List}
+use Rattle.lists.proofs.Chains.{every_all, from_counted}
 use Rattle.process.proofs.formed.nodes_right.Goals as goal
 
-pub returns-then-not-node_right : goal.returns-then-not-node_right
-returns-then-not-node_right c =
-    sym (c.loop-t.invariant ∙ every-stop _ _ _ c.loop-t-test.true (sym c.node_right.ensures ∙ c.if-not-node_right.true))
-
-pub loop-t-preserved : goal.loop-t-preserved
-loop-t-preserved c =
-    c.loop-t.invariant ∙ every_more _ _ _ c.loop-t-test.true (sym c.node_right.ensures ∙ c.if-not-node_right.false)
-
 pub returns : goal.returns
-returns c = sym (c.loop-t.invariant ∙ every-done _ _ _ c.loop-t-test.false)
+returns c =
+    rw (every_all, from_counted, ← c.word-threads.ensures.is)
+    (all_from_yields_List _ _ _ _ c.all.ensures.ran (YieldsList-from_range 0 c.word-threads.result c.word-threads.result refl (omega arith)) (λ x b q k. search (rules, tests)))

@@ -1,28 +1,13 @@
-use mathlib.Core.Path.{sym, ◌∙◌}
-use Rattle.lists.specs.Lists.{same}
 use Rattle.process.proofs.Decoding.{send-there, receive-there}
+use native.Mathlib.Omega.{arith}
+use Rattle.std.proofs.lemmas.Grind.{common_steps}
+use Rattle.lists.specs.Lists.{same}
 use Rattle.process.proofs.labels.are_partners.Goals as goal
 
 pub returns-then-not-branch_is : goal.returns-then-not-branch_is
-returns-then-not-branch_is c =
-    let a = c.args in
-    rw (send-there a.table.now a.send ∙ sym c.branch_is.ensures ∙ c.if-not-branch_is.true)
-
-pub returns-then-not-branch_is-2 : goal.returns-then-not-branch_is-2
-returns-then-not-branch_is-2 c =
-    let a = c.args in
-    rw (
-      send-there a.table.now a.send ∙ sym c.branch_is.ensures ∙ c.if-not-branch_is.false,
-      receive-there a.table.now a.receive ∙ sym c.branch_is-2.ensures ∙ c.if-not-branch_is-2.true,
-    )
+unfolding same
+returns-then-not-branch_is c = grind (arith, common_steps, send-there, receive-there)
 
 pub returns : goal.returns
 unfolding same
-returns c =
-    let a = c.args in
-    rw (
-      send-there a.table.now a.send ∙ sym c.branch_is.ensures ∙ c.if-not-branch_is.false,
-      receive-there a.table.now a.receive ∙ sym c.branch_is-2.ensures ∙ c.if-not-branch_is-2.false,
-      ← c.branch_thread-sender.ensures.is,
-      ← c.branch_thread-receiver.ensures.is,
-    )
+returns c = grind (arith, common_steps, send-there, receive-there)

@@ -1,44 +1,28 @@
-use mathlib.Core.Path.{sym, ◌∙◌}
+use Rattle.process.proofs.Decoding.{new-there, call-there, silent-there}
+use Rattle.std.proofs.Common.{rules}
 use Rattle.process.specs.Steps.{is_step_open}
-use Rattle.process.proofs.Decoding.{new-there, silent-there, call-there}
 use Rattle.process.proofs.labels.is_open.Goals as goal
 
-pub returns-then-not-node_is : goal.returns-then-not-node_is
+pub returns-then-node_is : goal.returns-then-node_is
 unfolding is_step_open
-returns-then-not-node_is c =
-    rw (c.in-New.is, new-there c.args.table.now c.in-New.n ∙ sym c.node_is.ensures ∙ c.if-not-node_is.true)
+returns-then-node_is c = search (rules, new-there, call-there, silent-there)
 
-pub returns-then-not-branch_is : goal.returns-then-not-branch_is
+pub returns-else-node_is : goal.returns-else-node_is
 unfolding is_step_open
-returns-then-not-branch_is c =
-    rw (c.in-Silent.is, silent-there c.args.table.now c.in-Silent.b ∙ sym c.branch_is.ensures ∙ c.if-not-branch_is.true)
+returns-else-node_is c = search (rules, new-there, call-there, silent-there)
 
-pub returns-then-not-node_is-2 : goal.returns-then-not-node_is-2
+pub returns-then-branch_is : goal.returns-then-branch_is
 unfolding is_step_open
-returns-then-not-node_is-2 c =
-    rw (c.in-Call.is, call-there c.args.table.now c.in-Call.n ∙ sym c.node_is-in-Call.ensures ∙ c.if-not-node_is-2.true)
+returns-then-branch_is c = search (rules, new-there, call-there, silent-there)
 
-pub returns-else-not-node_is : goal.returns-else-not-node_is
+pub returns-else-branch_is : goal.returns-else-branch_is
 unfolding is_step_open
-returns-else-not-node_is c =
-    rw (
-      c.in-New.is,
-      new-there c.args.table.now c.in-New.n ∙ sym c.node_is.ensures ∙ c.if-not-node_is.false,
-    ) c.stands.ensures
+returns-else-branch_is c = search (rules, new-there, call-there, silent-there)
 
-pub returns-else-not-branch_is : goal.returns-else-not-branch_is
+pub returns-then-node_is-2 : goal.returns-then-node_is-2
 unfolding is_step_open
-returns-else-not-branch_is c =
-    rw (
-      c.in-Silent.is,
-      silent-there c.args.table.now c.in-Silent.b ∙ sym c.branch_is.ensures ∙ c.if-not-branch_is.false,
-      ← c.home.ensures,
-    ) c.stands-in-Silent.ensures
+returns-then-node_is-2 c = search (rules, new-there, call-there, silent-there)
 
-pub returns-else-not-node_is-2 : goal.returns-else-not-node_is-2
+pub returns-else-node_is-2 : goal.returns-else-node_is-2
 unfolding is_step_open
-returns-else-not-node_is-2 c =
-    rw (
-      c.in-Call.is,
-      call-there c.args.table.now c.in-Call.n ∙ sym c.node_is-in-Call.ensures ∙ c.if-not-node_is-2.false,
-    ) c.stands-in-Call.ensures
+returns-else-node_is-2 c = search (rules, new-there, call-there, silent-there)

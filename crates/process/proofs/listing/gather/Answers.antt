@@ -16,7 +16,6 @@ loop-b-preserved c =
       left-more _ _ _ _ _ _ l.invariant.0 _ _ _ _ _
           (flat-more (standing w s a.kind) l.b _ c.loop-b-test.true) r.ensures,
       omega (arith, l.invariant.1, r.ensures.few),
-      omega (arith, c.loop-b-test.true),
     )
 
 pub returns : goal.returns
@@ -27,4 +26,4 @@ returns c =
     let s = state_of (scheme w) a.state.now in
     left_end _ _ _ _ _ _ l.invariant.0 _
     (flat-done (standing w s a.kind) l.b _ c.loop-b-test.false)
-    (omega (arith, l.invariant.1, l.invariant.2, c.word-branches.ensures.is))
+    (omega (arith, l.invariant.1, l.auto.b-end, c.word-branches.ensures.is))

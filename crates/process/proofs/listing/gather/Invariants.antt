@@ -11,7 +11,4 @@ abbrev pub invariant-loop-b : goal.invariant-loop-b
 invariant-loop-b l =
     Left (flat (standing l.table (state_of (scheme l.table) l.state) l.kind) (range (branch_count_of l.table))) l.initial.out 0
     (flat (standing l.table (state_of (scheme l.table) l.state) l.kind) (from l.b (l.branches - l.b))) l.out l.next ×
-    (l.next ≤ l.b) × (l.b ≤ l.branches)
-
-abbrev pub decreases-loop-b : goal.decreases-loop-b
-decreases-loop-b l = l.branches - l.b
+    (l.next ≤ l.b)

@@ -1,33 +1,30 @@
-use mathlib.Core.Path.{sym, ◌∙◌}
+use mathlib.Core.Path.{◌≡◌, sym, ◌∙◌}
+use mathlib.Core.List.{[]}
 use Rattle.scheme.specs.Scheme.{scheme}
 use Rattle.process.specs.StateWords.{state_of}
+use Rattle.process.specs.Inner.Listed.{standing}
 use Rattle.process.proofs.Labelling.{stand-there}
 use Rattle.process.proofs.Listed.{none-listed, one-listed, standing-other, standing-away, standing-there}
+use Rattle.process.proofs.listing.gather_branch.Goals.{else-branch_is-via-then-branch_is+else-stands, else-branch_is-via-else-branch_is}
 use Rattle.process.proofs.listing.gather_branch.Goals as goal
 
-pub returns-then-not-branch_is : goal.returns-then-not-branch_is
-returns-then-not-branch_is c =
-    let a = c.args in
-    let w = a.table.now in
-    let s = state_of (scheme w) a.state.now in
-    rw (standing-other w s a.kind a.branch (sym c.branch_is.ensures ∙ c.if-not-branch_is.true))
-    (none-listed _ _ _)
-
-pub returns-then-not-stands : goal.returns-then-not-stands
-returns-then-not-stands c =
+pub returns-then-stands : goal.returns-then-stands
+returns-then-stands c =
     let a = c.args in
     let w = a.table.now in
     let s = state_of (scheme w) a.state.now in
     let h = stand-there (scheme w) s _ _ _ c.home.ensures c.stands.ensures in
-    rw (standing-away w s a.kind a.branch (sym h ∙ c.if-not-stands.true))
-    (none-listed _ _ _)
+    rw (standing-there w s a.kind a.branch (sym c.branch_is.ensures ∙ c.if-branch_is.true) (sym h ∙ c.if-stands.true))
+    (one-listed _ _ _ _ c.store.ensures)
 
 pub returns : goal.returns
 returns c =
     let a = c.args in
     let w = a.table.now in
     let s = state_of (scheme w) a.state.now in
-    let h = stand-there (scheme w) s _ _ _ c.home.ensures c.stands.ensures in
-    rw (standing-there w s a.kind a.branch (sym c.branch_is.ensures ∙ c.if-not-branch_is.false)
-    (sym h ∙ c.if-not-stands.false))
-    (one-listed _ _ _ _ c.store.ensures)
+    let e : standing w s a.kind a.branch ≡ [] = elim c.else-branch_is.branch [
+      | else-branch_is-via-then-branch_is+else-stands p ↦
+          standing-away w s a.kind a.branch (sym (stand-there (scheme w) s _ _ _ p.home.ensures p.stands.ensures) ∙ p.if-stands.false)
+      | else-branch_is-via-else-branch_is p ↦ standing-other w s a.kind a.branch (sym c.branch_is.ensures ∙ p.if-branch_is.false)
+    ] in
+    rw e (none-listed _ _ _)

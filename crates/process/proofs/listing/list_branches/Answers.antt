@@ -12,7 +12,6 @@ loop-b-preserved c =
       left-more _ _ _ _ _ _ l.invariant.0 _ _ _ _ _
           (flat-more (silent_words (scheme c.args.table.now)) l.b _ c.loop-b-test.true) r.ensures,
       omega (arith, l.invariant.1, r.ensures.few),
-      omega (arith, c.loop-b-test.true),
     )
 
 pub returns : goal.returns
@@ -21,4 +20,4 @@ returns c =
     let p = c.requires in
     left_end _ _ _ _ _ _ l.invariant.0 _
     (flat-done (silent_words (scheme c.args.table.now)) l.b _ c.loop-b-test.false)
-    (omega (arith, p.0, p.1, l.invariant.1, l.invariant.2))
+    (omega (arith, p.0, p.1, l.invariant.1, l.auto.b-end (omega arith)))

@@ -8,7 +8,4 @@ use Rattle.process.proofs.listing.list_branches.Given as goal
 abbrev pub invariant-loop-b : goal.invariant-loop-b
 invariant-loop-b l =
     Left (flat (silent_words (scheme l.table)) (from l.first l.count)) l.initial.out l.at (flat (silent_words (scheme l.table)) (from l.b (l.end - l.b))) l.out l.next ×
-    (l.next + 3 * l.first ≤ l.at + 3 * l.b) × (l.b ≤ l.end)
-
-abbrev pub decreases-loop-b : goal.decreases-loop-b
-decreases-loop-b l = l.end - l.b
+    (l.next + 3 * l.first ≤ l.at + 3 * l.b)

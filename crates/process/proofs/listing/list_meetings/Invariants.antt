@@ -8,11 +8,8 @@ use Rattle.process.specs.Inner.Listed.{pairs_words, meeting_words}
 use Rattle.process.proofs.Listed.{Left}
 use Rattle.process.proofs.listing.list_meetings.Given as goal
 
-abbrev pub invariant-loop-i : goal.invariant-loop-i
-invariant-loop-i l =
+abbrev pub invariant-loop-send : goal.invariant-loop-send
+invariant-loop-send l =
     Left (meeting_words (scheme l.table) (state_of (scheme l.table) l.state) l.sends l.receives) l.initial.out l.at
-    (flat (pairs_words (scheme l.table) (state_of (scheme l.table) l.state) l.receives) (slice l.i (length l.sends) l.sends)) l.out l.next ×
-    (l.next ≤ l.at + 768 * l.i) × (l.i ≤ length l.sends)
-
-abbrev pub decreases-loop-i : goal.decreases-loop-i
-decreases-loop-i l = length l.sends - l.i
+    (flat (pairs_words (scheme l.table) (state_of (scheme l.table) l.state) l.receives) (slice l.send-index (length l.sends) l.sends)) l.out l.next ×
+    (l.next ≤ l.at + 768 * l.send-index)

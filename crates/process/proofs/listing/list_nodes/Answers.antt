@@ -16,7 +16,6 @@ loop-n-preserved c =
       left-more _ _ _ _ _ _ l.invariant.0 _ _ _ _ _
           (flat-more (node_words (scheme w) s) l.n _ c.loop-n-test.true) r.ensures,
       omega (arith, l.invariant.1, r.ensures.few),
-      omega (arith, c.loop-n-test.true),
     )
 
 pub returns : goal.returns
@@ -27,4 +26,4 @@ returns c =
     let s = state_of (scheme w) a.state.now in
     left_end _ _ _ _ _ _ l.invariant.0 _
     (flat-done (node_words (scheme w) s) l.n _ c.loop-n-test.false)
-    (omega (arith, l.invariant.1, l.invariant.2, c.word-nodes.ensures.small))
+    (omega (arith, l.invariant.1, l.auto.n-end, c.word-nodes.ensures.small))

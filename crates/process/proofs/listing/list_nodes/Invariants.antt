@@ -11,7 +11,4 @@ abbrev pub invariant-loop-n : goal.invariant-loop-n
 invariant-loop-n l =
     Left (flat (node_words (scheme l.table) (state_of (scheme l.table) l.state)) (range (node_count l.table))) l.initial.out 0
     (flat (node_words (scheme l.table) (state_of (scheme l.table) l.state)) (from l.n (l.nodes - l.n))) l.out l.next ×
-    (l.next ≤ 196608 * l.n) × (l.n ≤ l.nodes)
-
-abbrev pub decreases-loop-n : goal.decreases-loop-n
-decreases-loop-n l = l.nodes - l.n
+    (l.next ≤ 196608 * l.n)

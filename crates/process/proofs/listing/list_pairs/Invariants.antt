@@ -8,11 +8,8 @@ use Rattle.process.specs.Inner.Listed.{pair_words, pairs_words}
 use Rattle.process.proofs.Listed.{Left}
 use Rattle.process.proofs.listing.list_pairs.Given as goal
 
-abbrev pub invariant-loop-i : goal.invariant-loop-i
-invariant-loop-i l =
+abbrev pub invariant-loop-receive : goal.invariant-loop-receive
+invariant-loop-receive l =
     Left (pairs_words (scheme l.table) (state_of (scheme l.table) l.state) l.receives l.send) l.initial.out l.at
-    (flat (pair_words (scheme l.table) (state_of (scheme l.table) l.state) l.send) (slice l.i (length l.receives) l.receives)) l.out l.next ×
-    (l.next ≤ l.at + 3 * l.i) × (l.i ≤ length l.receives)
-
-abbrev pub decreases-loop-i : goal.decreases-loop-i
-decreases-loop-i l = length l.receives - l.i
+    (flat (pair_words (scheme l.table) (state_of (scheme l.table) l.state) l.send) (slice l.receive-index (length l.receives) l.receives)) l.out l.next ×
+    (l.next ≤ l.at + 3 * l.receive-index)

@@ -1,7 +1,5 @@
 use mathlib.Core.Path.{◌≡◌}
-use Prim.Native.Nat.{◌-◌, ◌≤◌}
 use mathlib.Core.List.{map}
-use lib.ListN.{length}
 use lib.Seq.{slice}
 use Rattle.lists.specs.Lists.{from}
 use Rattle.scheme.specs.Scheme.{scheme}
@@ -13,8 +11,4 @@ use Rattle.process.proofs.next.fill_values.Given as goal
 
 abbrev pub invariant-loop-i : goal.invariant-loop-i
 invariant-loop-i l =
-    (map value_at (slice 0 l.i l.values) ≡ map (take (scheme l.table) (meant l.step) (state_of (scheme l.table) l.state)).value (from l.publics l.i))
-    × ((length l.values ≡ length l.initial.values) × (l.i ≤ l.bounds))
-
-abbrev pub decreases-loop-i : goal.decreases-loop-i
-decreases-loop-i l = l.bounds - l.i
+    map value_at (slice 0 l.i l.values) ≡ map (take (scheme l.table) (meant l.step) (state_of (scheme l.table) l.state)).value (from l.publics l.i)

@@ -1,5 +1,4 @@
 use mathlib.Core.Path.{sym, ◌∙◌}
-use lib.ListN.{length-set}
 use Rattle.scheme.specs.Scheme.{scheme}
 use Rattle.process.specs.Steps.{take}
 use Rattle.process.specs.StateWords.{state_of}
@@ -10,19 +9,13 @@ use Rattle.process.proofs.next.write_nodes.Goals as goal
 pub loop-t-preserved : goal.loop-t-preserved
 loop-t-preserved c =
     let l = c.loop-t in
-    let s = c.store in (
-      l.invariant.0 ∙ sets-map-more
-          (take (scheme c.args.table.now) (meant c.args.step) (state_of (scheme c.args.table.now) c.args.state.now)).node
-          l.out l.t l.t _ c.loop-t-test.true ∙ rw (
-            s.ensures,
-            c.node_after.ensures.is,
-          ),
-      rw s.ensures (length-set l.out l.t c.node_after.result ∙ l.invariant.1),
-    )
+    l.invariant ∙ sets-map-more
+    (take (scheme c.args.table.now) (meant c.args.step) (state_of (scheme c.args.table.now) c.args.state.now)).node
+    l.out l.t l.t _ c.loop-t-test.true ∙ rw (c.store.ensures, c.node_after.ensures.is)
 
 pub returns : goal.returns
 returns c =
     let l = c.loop-t in
-    sym (l.invariant.0 ∙ sets-map-done
+    sym (l.invariant ∙ sets-map-done
     (take (scheme c.args.table.now) (meant c.args.step) (state_of (scheme c.args.table.now) c.args.state.now)).node
     l.out l.t l.t _ c.loop-t-test.false)

@@ -1,20 +1,13 @@
-use mathlib.Core.Path.{sym, ◌∙◌}
-use Rattle.scheme.specs.Scheme.{scheme}
 use Rattle.process.proofs.Decoding.{stop-choice, stop-new, stop-call, stop-else}
+use native.Mathlib.Omega.{arith}
+use Rattle.std.proofs.lemmas.Grind.{common_steps}
+use Rattle.scheme.specs.Scheme.{scheme}
 use Rattle.process.proofs.threads.is_stop.Goals as goal
 
-pub returns-then-node_is : goal.returns-then-node_is
+pub returns-then-not-node_is-2 : goal.returns-then-not-node_is-2
 unfolding scheme
-returns-then-node_is c = sym (stop-choice _ _ (sym c.node_is.ensures ∙ c.if-node_is.true))
+returns-then-not-node_is-2 c = grind (arith, common_steps, stop-choice, stop-new, stop-call, stop-else)
 
-pub returns-then-node_is-2 : goal.returns-then-node_is-2
+pub returns-else-not-node_is-2 : goal.returns-else-not-node_is-2
 unfolding scheme
-returns-then-node_is-2 c = sym (stop-new _ _ (sym c.node_is-2.ensures ∙ c.if-node_is-2.true))
-
-pub returns-then-node_is-3 : goal.returns-then-node_is-3
-unfolding scheme
-returns-then-node_is-3 c = sym (stop-call _ _ (sym c.node_is-3.ensures ∙ c.if-node_is-3.true))
-
-pub returns : goal.returns
-unfolding scheme
-returns c = sym (stop-else _ _ (sym c.node_is.ensures ∙ c.if-node_is.false) (sym c.node_is-2.ensures ∙ c.if-node_is-2.false) (sym c.node_is-3.ensures ∙ c.if-node_is-3.false))
+returns-else-not-node_is-2 c = grind (arith, common_steps, stop-choice, stop-new, stop-call, stop-else)

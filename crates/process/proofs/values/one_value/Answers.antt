@@ -1,8 +1,11 @@
-use Rattle.process.proofs.NameValues.{one-missing, one-there}
+use Rattle.std.proofs.Common.{rules}
+use Rattle.lists.specs.Lists.{same}
 use Rattle.process.proofs.values.one_value.Goals as goal
 
-pub returns-then-first-eq65535 : goal.returns-then-first-eq65535
-returns-then-first-eq65535 c = one-missing _ _ c.if-first-eq65535.true
+pub returns-then-first-ne65535 : goal.returns-then-first-ne65535
+unfolding same
+returns-then-first-ne65535 c = search rules
 
-pub returns : goal.returns
-returns c = one-there _ _ c.if-first-eq65535.false
+pub returns-else-first-ne65535 : goal.returns-else-first-ne65535
+unfolding same
+returns-else-first-ne65535 c = search rules

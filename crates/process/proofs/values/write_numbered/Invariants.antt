@@ -1,5 +1,5 @@
 use mathlib.Core.Path.{◌≡◌}
-use Prim.Native.Nat.{◌-◌, ◌≤◌}
+use Prim.Native.Nat.{◌≤◌}
 use mathlib.Core.List.{[], map}
 use lib.ListN.{length, take}
 use lib.Seq.{sets}
@@ -11,6 +11,3 @@ abbrev pub invariant-loop-i : goal.invariant-loop-i
 invariant-loop-i l =
     (sets l.initial.out l.at (value_words l.publics [] (map value_at (take l.count l.values))) ≡ values_left l.values l.publics l.at l.count l.i l.noted l.out l.seen) ×
     ((length l.out ≡ length l.initial.out) × ((l.noted ≤ l.i) × (length l.seen ≡ 32)))
-
-abbrev pub decreases-loop-i : goal.decreases-loop-i
-decreases-loop-i l = l.count - l.i

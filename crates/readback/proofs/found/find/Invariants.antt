@@ -1,9 +1,5 @@
-use Prim.Native.Nat.{◌-◌, ◌≤◌}
 use Rattle.readback.specs.Inner.Hits.{hits, FoundOf}
 use Rattle.readback.proofs.found.find.Given as goal
 
 abbrev pub invariant-loop-i : goal.invariant-loop-i
-invariant-loop-i l = FoundOf (hits l.marking l.start l.i) l.found × (l.i ≤ l.count)
-
-abbrev pub decreases-loop-i : goal.decreases-loop-i
-decreases-loop-i l = l.count - l.i
+invariant-loop-i l = FoundOf (hits l.marking l.start l.i) l.found

@@ -18,7 +18,7 @@ told : (c : After-private_value-n) →
     × (c.private_value-n.result < 64 → c.private_value-n.result < privates_word w)
 told c =
     let nm = is_name c.args.table.now c.args.marking.now c.word-publics.result c.word.result c.word-publics.ensures.is
-    c.word.ensures.is c.loop-x.x c.loop-x.invariant.1 c.loop-x-test.true in (
+    c.word.ensures.is c.loop-x.x c.loop-x.auto.x c.loop-x-test.true in (
       taken c.args.table.now c.args.marking.now c.args.values.now c.requires.0.accepted c.requires.1 c.loop-x.x nm
           c.private_value-n.result c.private_value-n.ensures,
       taken-inside c.args.table.now c.args.marking.now c.args.values.now c.requires.0.accepted c.requires.1 c.loop-x.x nm
@@ -30,16 +30,14 @@ free_values-set-requires c =
     omega (arith, few-counted c.args.table.now c.args.index.now c.requires.0)
 
 pub loop-x-init : goal.loop-x-init
-loop-x-init c = (
-  counting-start c.args.table.now c.args.index.now c.args.marking.now c.requires.0 c.word-publics.result c.word.result
-      c.word-publics.ensures.is c.word.ensures.is c.free_values-set.result c.free_values-set.ensures,
-  omega arith,
-)
+loop-x-init c =
+    counting-start c.args.table.now c.args.index.now c.args.marking.now c.requires.0 c.word-publics.result c.word.result
+    c.word-publics.ensures.is c.word.ensures.is c.free_values-set.result c.free_values-set.ensures
 
 pub private_value-n-requires : goal.private_value-n-requires
 private_value-n-requires c =
     let nm = is_name c.args.table.now c.args.marking.now c.word-publics.result c.word.result c.word-publics.ensures.is
-    c.word.ensures.is c.loop-x.x c.loop-x.invariant.1 c.loop-x-test.true in (
+    c.word.ensures.is c.loop-x.x c.loop-x.auto.x c.loop-x-test.true in (
       nm,
       private-word c.args.table.now c.args.marking.now c.args.values.now c.requires.0.accepted c.requires.1 c.loop-x.x nm,
     )
@@ -47,20 +45,18 @@ private_value-n-requires c =
 pub returns-then-has : goal.returns-then-has
 returns-then-has c =
     let l = c.loop-x in
-    sym (counting-twice c.args.table.now c.args.marking.now c.requires.0.accepted l.set l.x _ l.invariant.0 c.loop-x-test.true
+    sym (counting-twice c.args.table.now c.args.marking.now c.requires.0.accepted l.set l.x _ l.invariant c.loop-x-test.true
     c.private_value-n.result ((told (goal.at.returns-then-has c).After-private_value-n)).0 (sym c.has.ensures ∙ c.if-has.true))
 
 pub loop-x-preserved : goal.loop-x-preserved
 loop-x-preserved c =
-    let l = c.loop-x in (
-      counting_more c.args.table.now c.args.marking.now c.requires.0.accepted l.set l.x _ l.invariant.0 c.loop-x-test.true
-          c.private_value-n.result ((told (goal.at.loop-x-preserved c).After-private_value-n)).0 _ (sym c.has.ensures ∙ c.if-has.false) ((told (goal.at.loop-x-preserved c).After-private_value-n)).1
-          c.with_number-set.ensures,
-      omega (arith, l.invariant.1),
-    )
+    let l = c.loop-x in
+    counting_more c.args.table.now c.args.marking.now c.requires.0.accepted l.set l.x _ l.invariant c.loop-x-test.true
+    c.private_value-n.result ((told (goal.at.loop-x-preserved c).After-private_value-n)).0 _ (sym c.has.ensures ∙ c.if-has.false) ((told (goal.at.loop-x-preserved c).After-private_value-n)).1
+    c.with_number-set.ensures
 
 pub returns : goal.returns
 returns c =
     let l = c.loop-x in
-    counting-done c.args.table.now c.args.index.now c.args.marking.now c.requires.0 l.set l.x _ l.invariant.0
+    counting-done c.args.table.now c.args.index.now c.args.marking.now c.requires.0 l.set l.x _ l.invariant
     c.loop-x-test.false c.rank.result c.privates-count.result c.rank.ensures.0 c.privates-count.ensures.is

@@ -1,9 +1,5 @@
-use Prim.Native.Nat.{◌-◌, ◌≤◌}
 use Rattle.readback.proofs.Freeing.{Counting}
 use Rattle.readback.proofs.names.freed.Given as goal
 
 abbrev pub invariant-loop-x : goal.invariant-loop-x
-invariant-loop-x l = Counting l.table l.marking l.set l.x l.end × (l.initial.x ≤ l.x)
-
-abbrev pub decreases-loop-x : goal.decreases-loop-x
-decreases-loop-x l = l.end - l.x
+invariant-loop-x l = Counting l.table l.marking l.set l.x l.end

@@ -1,6 +1,5 @@
 use mathlib.Core.Path.{◌≡◌}
 use Prim.Native.Nat.{◌-◌}
-use lib.ListN.{length}
 use Rattle.lists.specs.Lists.{from, flat}
 use Rattle.scheme.specs.Scheme.{scheme}
 use Rattle.net.specs.Firing.{put}
@@ -11,8 +10,4 @@ use Rattle.readback.proofs.names.mark_all.Given as goal
 
 abbrev pub invariant-loop-t : goal.invariant-loop-t
 invariant-loop-t l =
-    (put 1 l.initial.held (held_all l.table l.places l.indexes) ≡ put 1 l.held (flat (λ k. held_here (scheme l.table) (spot_at l.places l.indexes k)) (from l.t (l.threads - l.t)))) ×
-    (length l.held ≡ length l.initial.held)
-
-abbrev pub decreases-loop-t : goal.decreases-loop-t
-decreases-loop-t l = l.threads - l.t
+    (put 1 l.initial.held (held_all l.table l.places l.indexes) ≡ put 1 l.held (flat (λ k. held_here (scheme l.table) (spot_at l.places l.indexes k)) (from l.t (l.threads - l.t))))

@@ -1,12 +1,8 @@
 use mathlib.Core.Path.{◌≡◌}
 use Prim.Native.Nat.{◌+◌, ◌-◌}
-use lib.ListN.{length}
 use Rattle.lists.specs.Lists.{from}
 use Rattle.net.specs.Firing.{put}
 use Rattle.readback.proofs.names.mark_span.Given as goal
 
 abbrev pub invariant-loop-i : goal.invariant-loop-i
-invariant-loop-i l = (put 1 l.initial.held (from l.first l.count) ≡ put 1 l.held (from (l.first + l.i) (l.count - l.i))) × (length l.held ≡ length l.initial.held)
-
-abbrev pub decreases-loop-i : goal.decreases-loop-i
-decreases-loop-i l = l.count - l.i
+invariant-loop-i l = (put 1 l.initial.held (from l.first l.count) ≡ put 1 l.held (from (l.first + l.i) (l.count - l.i)))

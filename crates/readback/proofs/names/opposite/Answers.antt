@@ -1,26 +1,12 @@
-use mathlib.Core.Path.{sym, ◌∙◌}
-use Prim.Native.Nat.{◌+◌}
-use Rattle.lists.proofs.Ranges.{every_more, every-stop, every-done}
-use Rattle.readback.specs.Inner.Hits.{token}
-use Rattle.readback.specs.Inner.Standing.{is_just_one}
+use native.Mathlib.Omega.{arith}
+use Rattle.std.proofs.Common.{rules, refl, tests}
+use Rattle.std.proofs.lemmas.Iterator.{YieldsList-from_range}
+use Rattle.std.proofs.lemmas.Iterator.Search.{all_from_yields_List}
+use Rattle.std.proofs.lemmas.Grind.{common_steps}
+use Rattle.lists.proofs.Chains.{every_all, from_counted}
 use Rattle.readback.proofs.names.opposite.Goals as goal
-
-pub returns-then-not-just_one : goal.returns-then-not-just_one
-returns-then-not-just_one c =
-    let l = c.loop-i in
-    sym (l.invariant ∙ every-stop (λ k. is_just_one (token c.args.marking.now (c.args.first + k))
-    (token c.args.marking.now (c.args.second + k))) l.i c.args.count c.loop-i-test.true
-    (rw (← c.is_marked.ensures, ← c.is_marked-in-loop-i.ensures) (sym c.just_one.ensures ∙ c.if-not-just_one.true)))
-
-pub loop-i-preserved : goal.loop-i-preserved
-loop-i-preserved c =
-    let l = c.loop-i in
-    l.invariant ∙ every_more (λ k. is_just_one (token c.args.marking.now (c.args.first + k)) (token c.args.marking.now (c.args.second + k)))
-    l.i c.args.count c.loop-i-test.true
-    (rw (← c.is_marked.ensures, ← c.is_marked-in-loop-i.ensures) (sym c.just_one.ensures ∙ c.if-not-just_one.false))
 
 pub returns : goal.returns
 returns c =
-    let l = c.loop-i in
-    sym (l.invariant ∙ every-done (λ k. is_just_one (token c.args.marking.now (c.args.first + k))
-    (token c.args.marking.now (c.args.second + k))) l.i c.args.count c.loop-i-test.false)
+    rw (every_all, from_counted)
+    (all_from_yields_List _ _ _ _ c.all.ensures.ran (YieldsList-from_range 0 c.args.count c.args.count refl (omega arith)) (λ x b q k. grind (arith, common_steps, tests)))

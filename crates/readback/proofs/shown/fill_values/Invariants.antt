@@ -1,7 +1,5 @@
 use mathlib.Core.Path.{◌≡◌}
 use mathlib.Core.List.{map}
-use Prim.Native.Nat.{◌-◌, ◌≤◌}
-use lib.ListN.{length}
 use lib.Seq.{slice}
 use Rattle.lists.specs.Lists.{from}
 use Rattle.process.specs.Inner.Values.{value_at}
@@ -9,7 +7,4 @@ use Rattle.readback.proofs.Showing.{shown_value}
 use Rattle.readback.proofs.shown.fill_values.Given as goal
 
 abbrev pub invariant-loop-i : goal.invariant-loop-i
-invariant-loop-i l = (map value_at (slice 0 l.i l.list) ≡ map (shown_value l.table l.nodes l.indexes l.values) (from l.publics l.i)) × ((length l.list ≡ length l.initial.list) × (l.i ≤ l.bounds))
-
-abbrev pub decreases-loop-i : goal.decreases-loop-i
-decreases-loop-i l = l.bounds - l.i
+invariant-loop-i l = (map value_at (slice 0 l.i l.list) ≡ map (shown_value l.table l.nodes l.indexes l.values) (from l.publics l.i))

@@ -1,7 +1,6 @@
 use mathlib.Core.Path.{◌≡◌}
 use mathlib.Core.List.{map}
 use Prim.Native.Nat.{◌-◌}
-use lib.ListN.{length}
 use lib.Seq.{sets}
 use Rattle.lists.specs.Lists.{from, range}
 use Rattle.scheme.specs.Words.{threads as thread_count}
@@ -11,7 +10,4 @@ use Rattle.readback.proofs.shown.write_nodes.Given as goal
 abbrev pub invariant-loop-t : goal.invariant-loop-t
 invariant-loop-t l =
     (sets l.initial.state 0 (map (shown_node l.table l.nodes l.indexes) (range (thread_count l.table))) ≡ sets l.state l.t (map (shown_node l.table l.nodes l.indexes) (from l.t
-    (l.threads - l.t)))) × (length l.state ≡ length l.initial.state)
-
-abbrev pub decreases-loop-t : goal.decreases-loop-t
-decreases-loop-t l = l.threads - l.t
+    (l.threads - l.t))))

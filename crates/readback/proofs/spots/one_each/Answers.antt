@@ -1,25 +1,13 @@
-use mathlib.Core.Path.{sym, ◌∙◌}
-use Rattle.lists.specs.Lists.{word, same}
-use Rattle.lists.proofs.Tests.{same-yes, same-no}
-use Rattle.lists.proofs.Ranges.{every_more, every-stop, every-done}
+use native.Mathlib.Omega.{arith}
+use Rattle.lists.specs.Lists.{same}
+use Rattle.std.proofs.Common.{rules, refl, tests}
+use Rattle.std.proofs.lemmas.Iterator.{YieldsList-from_range}
+use Rattle.std.proofs.lemmas.Iterator.Search.{all_from_yields_List}
+use Rattle.lists.proofs.Chains.{every_all, from_counted}
 use Rattle.readback.proofs.spots.one_each.Goals as goal
 
-pub returns-then-word-ne-MARKED : goal.returns-then-word-ne-MARKED
-returns-then-word-ne-MARKED c =
-    let a = c.args in
-    let l = c.loop-t in
-    sym (l.invariant ∙ every-stop (λ k. same (word a.counts.now k) 1) l.t a.threads c.loop-t-test.true
-    (same-no (word a.counts.now l.t) 1 (λ q. c.if-word-ne-MARKED.true (c.word.ensures.is ∙ q))))
-
-pub loop-t-preserved : goal.loop-t-preserved
-loop-t-preserved c =
-    let a = c.args in
-    let l = c.loop-t in
-    l.invariant ∙ every_more (λ k. same (word a.counts.now k) 1) l.t a.threads c.loop-t-test.true
-    (same-yes (word a.counts.now l.t) 1 (sym c.word.ensures.is ∙ c.if-word-ne-MARKED.false))
-
 pub returns : goal.returns
+unfolding same
 returns c =
-    let a = c.args in
-    let l = c.loop-t in
-    sym (l.invariant ∙ every-done (λ k. same (word a.counts.now k) 1) l.t a.threads c.loop-t-test.false)
+    rw (every_all, from_counted)
+    (all_from_yields_List _ _ _ _ c.all.ensures.ran (YieldsList-from_range 0 c.args.threads c.args.threads refl (omega arith)) (λ x b q k. search (rules, tests)))

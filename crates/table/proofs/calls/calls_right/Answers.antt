@@ -4,14 +4,14 @@ use mathlib.Core.List.{List}
 use Prim.Native.Nat.{ℕ, ◌≤◌}
 use native.Mathlib.Omega.{arith}
 use borrow.Author.Tests.{not-true}
-use Rattle.lists.specs.Lists.{word, range, every}
+use Rattle.lists.specs.Lists.{same, word, range, every}
 use Rattle.lists.proofs.Ranges.{every-same, every-below, below-every, from_member}
-use Rattle.scheme.specs.Words.{definitions, nodes, branches, is_call_node}
-use Rattle.table.specs.Causes.{call_right_in, is_call_right, are_calls_right}
+use Rattle.scheme.specs.Words.{definitions, threads, nodes, branches, is_call_node}
+use Rattle.table.specs.Causes.{is_entry_right, call_right_in, is_call_right, are_calls_right}
 use Rattle.scheme.specs.Index.{definitions_in, HasBodies}
-use Rattle.table.specs.declared.tests.Item.TheVariants.{EntryRight}
 use Rattle.scheme.proofs.Joined.{filled-bodies, definition-told}
-use Rattle.table.proofs.Parts.{part}
+use Rattle.table.proofs.Chains.{all_in}
+use Rattle.std.proofs.Common.{rules, tests, refl}
 use Rattle.table.proofs.calls.calls_right.Goals as goal
 
 -- the definitions that the index gives, at every node
@@ -31,20 +31,27 @@ no-calls w spared h = below-every (is_call_right w spared) (nodes w) (λ n l. ri
     right : (n : ℕ) → not (is_call_node w n) ≡ true → is_call_right w spared n ≡ true
     right n e = rw (not-true (is_call_node w n) e)
 
-pub returns-then-not-all_pass : goal.returns-then-not-all_pass
+pub returns-then-not-all : goal.returns-then-not-all
 unfolding are_calls_right
-returns-then-not-all_pass c = rw (part _ EntryRight _ _ _ _ c.word.ensures.is c.all_pass.ensures c.if-not-all_pass.true)
+returns-then-not-all c =
+    let w = c.args.table.now in
+    rw (all_in (is_entry_right w) 0 (threads w) refl (omega arith) c.all.ensures.ran (λ x b q k. search (rules, tests)) ∙ c.if-not-all.true)
 
-pub returns-then-has_no_call : goal.returns-then-has_no_call
-unfolding are_calls_right
-returns-then-has_no_call c =
+pub returns-then-all : goal.returns-then-all
+unfolding are_calls_right same
+returns-then-all c =
+    let w = c.args.table.now in
     rw (
-      part _ EntryRight _ _ _ _ c.word.ensures.is c.all_pass.ensures c.if-not-all_pass.false,
-      no-calls _ c.args.spared (sym c.has_no_call.ensures ∙ c.if-has_no_call.true),
+      all_in (is_entry_right w) 0 (threads w) refl (omega arith) c.all.ensures.ran (λ x b q k. search (rules, tests)) ∙ c.if-not-all.false,
+      no-calls w c.args.spared (all_in (λ n. not (is_call_node w n)) 0 (nodes w) refl (omega arith) c.all-2.ensures.ran (λ x b q k. search (rules, tests)) ∙ c.if-all.true),
     )
 
 pub returns : goal.returns
 unfolding are_calls_right
 returns c =
-    rw (part _ EntryRight _ _ _ _ c.word.ensures.is c.all_pass.ensures c.if-not-all_pass.false)
-    (all-calls _ _ c.requires (filled-bodies _ _ _ _ c.fill_bodies.ensures (omega arith)) _ _ c.all_calls_right.ensures)
+    let a = c.args in
+    let w = a.table.now in
+    let index = c.fill_bodies.new.index in
+    rw (all_in (is_entry_right w) 0 (threads w) refl (omega arith) c.all.ensures.ran (λ x b q k. search (rules, tests)) ∙ c.if-not-all.false)
+    (all-calls w index c.requires (filled-bodies _ _ _ _ c.fill_bodies.ensures (omega arith)) a.spared _
+    (sym (all_in (λ n. call_right_in w a.spared (word (definitions_in index) n) n) 0 (nodes w) refl (omega arith) c.all-3.ensures.ran (λ x b q k. search (rules, tests)))))

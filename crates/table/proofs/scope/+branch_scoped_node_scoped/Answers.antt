@@ -49,13 +49,13 @@ pub node_scoped-returns-then-kind-ne1 : goal.node_scoped-returns-then-kind-ne1
 node_scoped-returns-then-kind-ne1 t c = stop-body _ c.requires.0 _ c.requires.1 _ c.requires.2 _ _ _ c.field3-kind.ensures.is c.field3-first.ensures.is c.field3-second.ensures.is c.if-kind-eq2.false c.if-kind-eq3.false c.if-kind-ne1.true
 
 pub node_scoped-branch_scoped-requires : goal.node_scoped-branch_scoped-requires
-node_scoped-branch_scoped-requires t c = (omega (arith, c.decreases, c.requires.1), (c.requires.0, branch-of _ c.requires.0 _ c.requires.1 _ c.requires.2 _ _ _ c.field3-kind.ensures.is c.field3-first.ensures.is c.field3-second.ensures.is c.if-kind-ne1.false _ c.loop-b.invariant.0 c.loop-b-test.true, c.requires.2))
+node_scoped-branch_scoped-requires t c = (omega (arith, c.decreases, c.requires.1), (c.requires.0, branch-of _ c.requires.0 _ c.requires.1 _ c.requires.2 _ _ _ c.field3-kind.ensures.is c.field3-first.ensures.is c.field3-second.ensures.is c.if-kind-ne1.false _ c.loop-b.auto.b c.loop-b-test.true, c.requires.2))
 
 pub node_scoped-returns-then-not-branch_scoped : goal.node_scoped-returns-then-not-branch_scoped
-node_scoped-returns-then-not-branch_scoped t c = sym (choice-body _ c.requires.0 _ c.requires.1 _ c.requires.2 _ _ _ c.field3-kind.ensures.is c.field3-first.ensures.is c.field3-second.ensures.is c.if-kind-ne1.false ∙ (c.loop-b.invariant.1 ∙ every-stop _ _ _ c.loop-b-test.true (sym c.branch_scoped.ensures ∙ c.if-not-branch_scoped.true)))
+node_scoped-returns-then-not-branch_scoped t c = sym (choice-body _ c.requires.0 _ c.requires.1 _ c.requires.2 _ _ _ c.field3-kind.ensures.is c.field3-first.ensures.is c.field3-second.ensures.is c.if-kind-ne1.false ∙ (c.loop-b.invariant ∙ every-stop _ _ _ c.loop-b-test.true (sym c.branch_scoped.ensures ∙ c.if-not-branch_scoped.true)))
 
 pub node_scoped-loop-b-preserved : goal.node_scoped-loop-b-preserved
-node_scoped-loop-b-preserved t c = (omega arith, c.loop-b.invariant.1 ∙ every_more _ _ _ c.loop-b-test.true (sym c.branch_scoped.ensures ∙ c.if-not-branch_scoped.false))
+node_scoped-loop-b-preserved t c = c.loop-b.invariant ∙ every_more _ _ _ c.loop-b-test.true (sym c.branch_scoped.ensures ∙ c.if-not-branch_scoped.false)
 
 pub node_scoped-returns : goal.node_scoped-returns
-node_scoped-returns t c = sym (choice-body _ c.requires.0 _ c.requires.1 _ c.requires.2 _ _ _ c.field3-kind.ensures.is c.field3-first.ensures.is c.field3-second.ensures.is c.if-kind-ne1.false ∙ (c.loop-b.invariant.1 ∙ every-done _ _ _ c.loop-b-test.false))
+node_scoped-returns t c = sym (choice-body _ c.requires.0 _ c.requires.1 _ c.requires.2 _ _ _ c.field3-kind.ensures.is c.field3-first.ensures.is c.field3-second.ensures.is c.if-kind-ne1.false ∙ (c.loop-b.invariant ∙ every-done _ _ _ c.loop-b-test.false))

@@ -1,5 +1,5 @@
--- Measure: twice the nodes left above, one less at a branch. Loop: the branches left decide; measure: branches left.
-use Rattle.std.proofs.Common.{◌≡◌, ◌-◌, ◌*◌, ◌≤◌}
+-- Measure: twice the nodes left above, one less at a branch. Loop: the branches left decide.
+use Rattle.std.proofs.Common.{◌≡◌, ◌-◌, ◌*◌}
 use Rattle.lists.specs.Lists.{from, every}
 use Rattle.scheme.specs.Words.{nodes}
 use Rattle.table.specs.Inner.Scope.{branch_body_scoped}
@@ -13,9 +13,5 @@ decreases-node_scoped l = 2 * (nodes l.table.now - l.node)
 
 abbrev pub invariant-node_scoped-loop-b : goal.invariant-node_scoped-loop-b
 invariant-node_scoped-loop-b l =
-    (l.first ≤ l.b)
-    × (every (branch_body_scoped l.table l.node) (from l.first (l.end - l.first))
-    ≡ every (branch_body_scoped l.table l.node) (from l.b (l.end - l.b)))
-
-abbrev pub decreases-node_scoped-loop-b : goal.decreases-node_scoped-loop-b
-decreases-node_scoped-loop-b l = l.end - l.b
+    every (branch_body_scoped l.table l.node) (from l.first (l.b-end - l.first))
+    ≡ every (branch_body_scoped l.table l.node) (from l.b (l.b-end - l.b))

@@ -1,14 +1,19 @@
-use mathlib.Core.Path.{sym, ◌∙◌}
-use native.Mathlib.Omega.{arith}
-use Rattle.lists.proofs.Ranges.{every_more, every-stop, every-done}
-use Rattle.table.proofs.Walk.{unheld, holds}
+use Rattle.std.proofs.Common.{rules, tests, refl, sym, ◌∙◌, ◌-◌, not, arith}
+use Rattle.lists.specs.Lists.{same, word, from}
+use Rattle.lists.proofs.Ranges.{every-same, from_member}
+use Rattle.scheme.specs.Words.{argument}
+use Rattle.table.specs.Causes.{usable}
+use Rattle.table.proofs.Bodies.{held_some}
+use Rattle.table.proofs.Chains.{all_in}
 use Rattle.table.proofs.scope.arguments_held.Goals as goal
 
-pub returns-then-word-eq0 : goal.returns-then-word-eq0
-returns-then-word-eq0 c = sym (c.loop-a.invariant.1 ∙ every-stop _ _ _ c.loop-a-test.true (unheld _ _ _ _ _ _ c.requires.0 c.field1.ensures.is (c.requires.1 _ c.loop-a.invariant.0 c.loop-a-test.true) c.word.ensures.is c.if-word-eq0.true))
-
-pub loop-a-preserved : goal.loop-a-preserved
-loop-a-preserved c = (omega arith, c.loop-a.invariant.1 ∙ every_more _ _ _ c.loop-a-test.true (holds _ _ _ _ _ _ c.requires.0 c.field1.ensures.is (c.requires.1 _ c.loop-a.invariant.0 c.loop-a-test.true) c.word.ensures.is c.if-word-eq0.false))
-
 pub returns : goal.returns
-returns c = sym (c.loop-a.invariant.1 ∙ every-done _ _ _ c.loop-a-test.false)
+unfolding same
+returns c =
+    let a = c.args in
+    let w = a.table.now in
+    sym (all_in (λ x. not (same (word a.held.now (argument w x)) 0)) a.first (a.end - a.first) refl refl c.all.ensures.ran (λ x b q k. search (rules, tests))) ∙
+    every-same (λ x. not (same (word a.held.now (argument w x)) 0)) (λ x. usable w a.node (argument w x)) (from a.first (a.end - a.first))
+    (λ x m.
+    let i = from_member x a.first (a.end - a.first) m in
+    rw c.requires.0 (held_some w a.node (argument w x) (c.requires.1 x (omega (arith, i)) (omega (arith, i)))))

@@ -1,37 +1,50 @@
-use mathlib.Core.Path.{◌≡◌, refl, sym, ◌∙◌}
-use mathlib.Core.Bool.{Bool}
-use mathlib.Core.List.{List}
-use Prim.Native.Nat.{ℕ}
-use Rattle.lists.specs.Lists.{range}
-use Rattle.scheme.specs.Words.{nodes, branches, arguments, node_first, node_second}
-use Rattle.table.specs.Causes.{consecutive, is_shape_right}
-use Rattle.scheme.specs.Words.{branch_count_of, argument_count_of}
-use Rattle.table.specs.declared.tests.Item.TheVariants.{ChildrenAbove}
-use Rattle.table.proofs.Parts.{part}
+use Rattle.std.proofs.Common.{rules, refl, tests, sym, ◌≡◌, Bool, ◌&&◌, arith, List, ℕ}
+use Rattle.lists.specs.Lists.{every, range}
+use Rattle.scheme.specs.Words.{nodes, branches, arguments, node_first, node_second, branch_count_of, argument_count_of}
+use Rattle.table.specs.Causes.{consecutive, is_owned_once, are_children_above, is_shape_right}
+use Rattle.table.proofs.Chains.{all_in, and_then, and_else, and_assoc}
+use Rattle.table.proofs.shape.shape_right.Goals.{Joined-spans_consecutive-2, then-spans_consecutive, else-spans_consecutive, then-spans_consecutive-2, else-spans_consecutive-2}
 use Rattle.table.proofs.shape.shape_right.Goals as goal
 
--- the ranges of branches, and of arguments, are consecutive, or not
-module _ (w : List ℕ) (e : ℕ) (r b : Bool) where
-  branch-ranges : e ≡ branches w → r ≡ consecutive w (node_first w) (branch_count_of w) e 0 (range (nodes w)) → r ≡ b
-      → consecutive w (node_first w) (branch_count_of w) (branches w) 0 (range (nodes w)) ≡ b
-  branch-ranges p h q = rw (← p) (sym h ∙ q)
+abbrev ranges_consecutive : List ℕ → Bool
+ranges_consecutive w =
+    consecutive w (node_first w) (branch_count_of w) (branches w) 0 (range (nodes w))
+    && consecutive w (node_second w) (argument_count_of w) (arguments w) 0 (range (nodes w))
 
-  argument-ranges : e ≡ arguments w → r ≡ consecutive w (node_second w) (argument_count_of w) e 0 (range (nodes w)) → r ≡ b
-      → consecutive w (node_second w) (argument_count_of w) (arguments w) 0 (range (nodes w)) ≡ b
-  argument-ranges p h q = rw (← p) (sym h ∙ q)
+abbrev three_right : List ℕ → Bool
+three_right w = ranges_consecutive w && every (is_owned_once w) (range (nodes w))
 
-pub returns-then-not-spans_consecutive : goal.returns-then-not-spans_consecutive
+abbrev four_right : List ℕ → Bool
+four_right w = three_right w && every (are_children_above w) (range (nodes w))
+
+first_two : (c : Joined-spans_consecutive-2) → c.if-spans_consecutive.value ≡ ranges_consecutive c.args.table.now
+first_two c =
+    let a = rw c.word.ensures.is at (sym c.spans_consecutive.ensures) in
+    elim c.if-spans_consecutive.branch [
+      | then-spans_consecutive u ↦ and_then a u.if-spans_consecutive.true
+          (rw u.word-then-spans_consecutive.ensures.is at (sym u.spans_consecutive-then-spans_consecutive.ensures)) u.value-is
+      | else-spans_consecutive u ↦ and_else _ a u.if-spans_consecutive.false u.value-is
+    ]
+
+first_three : (c : Joined-spans_consecutive-2) → c.if-spans_consecutive-2.value ≡ three_right c.args.table.now
+first_three c =
+    elim c.if-spans_consecutive-2.branch [
+      | then-spans_consecutive-2 u ↦ and_then (sym (first_two c)) u.if-spans_consecutive-2.true (sym u.owned_once.ensures) u.value-is
+      | else-spans_consecutive-2 u ↦ and_else _ (sym (first_two c)) u.if-spans_consecutive-2.false u.value-is
+    ]
+
+pub returns-then-owned_once : goal.returns-then-owned_once
 unfolding is_shape_right
-returns-then-not-spans_consecutive c = rw (branch-ranges _ _ _ _ c.word.ensures.is c.spans_consecutive.ensures c.if-not-spans_consecutive.true)
+returns-then-owned_once c =
+    let w = c.args.table.now in
+    let d : c.all.result ≡ four_right w =
+    and_then (sym (first_three (goal.at.returns-then-owned_once c).Joined-spans_consecutive-2)) c.if-owned_once.true
+    (all_in (are_children_above w) 0 (nodes w) refl (omega arith) c.all.ensures.ran (λ x b q k. search (rules, tests))) refl in
+    simp and_assoc at d
 
-pub returns-then-not-spans_consecutive-2 : goal.returns-then-not-spans_consecutive-2
+pub returns-else-owned_once : goal.returns-else-owned_once
 unfolding is_shape_right
-returns-then-not-spans_consecutive-2 c = rw (branch-ranges _ _ _ _ c.word.ensures.is c.spans_consecutive.ensures c.if-not-spans_consecutive.false, argument-ranges _ _ _ _ c.word-2.ensures.is c.spans_consecutive-2.ensures c.if-not-spans_consecutive-2.true)
-
-pub returns-then-not-owned_once : goal.returns-then-not-owned_once
-unfolding is_shape_right
-returns-then-not-owned_once c = rw (branch-ranges _ _ _ _ c.word.ensures.is c.spans_consecutive.ensures c.if-not-spans_consecutive.false, argument-ranges _ _ _ _ c.word-2.ensures.is c.spans_consecutive-2.ensures c.if-not-spans_consecutive-2.false, sym c.owned_once.ensures ∙ c.if-not-owned_once.true)
-
-pub returns : goal.returns
-unfolding is_shape_right
-returns c = rw (branch-ranges _ _ _ _ c.word.ensures.is c.spans_consecutive.ensures c.if-not-spans_consecutive.false, argument-ranges _ _ _ _ c.word-2.ensures.is c.spans_consecutive-2.ensures c.if-not-spans_consecutive-2.false, sym c.owned_once.ensures ∙ c.if-not-owned_once.false) (sym (part _ ChildrenAbove _ _ _ _ c.word-3.ensures.is c.all_pass.ensures refl))
+returns-else-owned_once c =
+    let d : c.if-spans_consecutive-2.value ≡ four_right c.args.table.now =
+    and_else _ (sym (first_three (goal.at.returns-else-owned_once c).Joined-spans_consecutive-2)) c.if-owned_once.false refl in
+    simp and_assoc at d

@@ -3,7 +3,7 @@ use Rattle.lists.specs.Lists.{from}
 use Rattle.scheme.specs.Words.{argument}
 use Rattle.places.specs.Answers.{sums_of}
 use Rattle.places.specs.Inner.Counting.{over, copy_sums}
-use Rattle.places.proofs.count.all_copies.Given as goal
+use Rattle.places.proofs.count.copies.Given as goal
 
 abbrev pub invariant-loop-i : goal.invariant-loop-i
 invariant-loop-i l =
