@@ -5,3 +5,4 @@ pub mod Kinds
 pub mod Index
 pub mod Spans
 pub mod Inner
+pub mod Numbers

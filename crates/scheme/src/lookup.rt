@@ -11,7 +11,7 @@ ghost use Rattle.scheme.specs.Words.{Number};
 ghost use Rattle.scheme.specs.Index.{owners_in, homes_in, definitions_in, binders_in, parent_at, held_at, thread_at};
 ghost use Rattle.scheme.specs.Index.{branch_thread_at, name_thread_at, HeldNames};
 
-use crate::fields::{field3, field4};
+use crate::fields::{BranchKind, branch_kind, field3, field4};
 use crate::index::{BINDERS, DEFINITIONS, HOMES, SIZE};
 use lists::{store, word};
 
@@ -134,7 +134,7 @@ pub fn held_names(table: &[u16], index: &[u32], node: u8, out: &mut [u32]) -> us
         }
         Parent::Branch(b, m) => {
             let count = held_names(table, index, m as u8, out);
-            if field4(table, 11, b, 0) == 2 {
+            if branch_kind(table, b) == Some(BranchKind::Receive) {
                 store(out, count, field4(table, 11, b, 2) as u32);
                 return count + 1;
             }

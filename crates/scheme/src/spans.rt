@@ -10,7 +10,7 @@ ghost use Rattle.scheme.specs.Spans.{span_first_of, span_count_of, span_of, tall
 ghost use Rattle.scheme.specs.Inner.Scatter.{put_all};
 ghost use Rattle.scheme.specs.Inner.Scatter.{scatter};
 
-use crate::fields::{field3, field4};
+use crate::fields::{BranchKind, NodeKind, branch_kind, field3, field4, node_kind};
 use lists::{store, word};
 
 // What an entry names: a definition its root or its formals, a New its child or its name, a branch its next node or the
@@ -31,21 +31,21 @@ pub enum Source {
 fn new_count(table: &[u16], node: usize) -> usize
     ensures { Number (bit (is_new table.now node)) result }
 {
-    usize::from(field3(table, 10, node, 0) == 2)
+    usize::from(node_kind(table, node) == Some(NodeKind::New))
 }
 
 // 1 for a receive, 0 for another branch.
 fn received_count(table: &[u16], branch: usize) -> usize
     ensures { Number (bit (is_receive table.now branch)) result }
 {
-    usize::from(field4(table, 11, branch, 0) == 2)
+    usize::from(branch_kind(table, branch) == Some(BranchKind::Receive))
 }
 
 // How many branches a node has.
 fn branch_count(table: &[u16], node: usize) -> usize
     ensures { Number (branch_count_of table.now node) result }
 {
-    if field3(table, 10, node, 0) == 1 {
+    if node_kind(table, node) == Some(NodeKind::Choice) {
         field3(table, 10, node, 2)
     } else {
         0
@@ -56,7 +56,7 @@ fn branch_count(table: &[u16], node: usize) -> usize
 fn argument_count(table: &[u16], node: usize) -> usize
     ensures { Number (argument_count_of table.now node) result }
 {
-    if field3(table, 10, node, 0) == 3 {
+    if node_kind(table, node) == Some(NodeKind::Call) {
         field4(table, 8, field3(table, 10, node, 1), 3)
     } else {
         0

@@ -9,7 +9,7 @@ ghost use Rattle.lists.specs.Lists.{word, range, every};
 ghost use Rattle.table.specs.Causes.{is_entry_right, call_right_in, are_calls_right};
 
 use lists::word;
-use scheme::fields::{field1, field3, field4};
+use scheme::fields::{NodeKind, field1, field3, field4, node_kind};
 use scheme::index::{BINDERS, fill_bodies};
 use scheme::lookup::definition;
 
@@ -24,7 +24,7 @@ fn entry_right(table: &[u16], thread: usize) -> bool
 fn call_right(table: &[u16], node: usize, own: usize, spared: bool) -> bool
     ensures { result ≡ call_right_in table.now spared own node }
 {
-    if field3(table, 10, node, 0) != 3 {
+    if node_kind(table, node) != Some(NodeKind::Call) {
         return true;
     }
     let called = field3(table, 10, node, 1);
@@ -40,7 +40,7 @@ pub(crate) fn calls_right(table: &[u16], spared: bool) -> bool
         return false;
     }
     let nodes = word(table, 4);
-    if (0..nodes).all(|n| field3(table, 10, n, 0) != 3) {
+    if (0..nodes).all(|n| node_kind(table, n) != Some(NodeKind::Call)) {
         return true;
     }
     let mut index = [0u32; BINDERS];

@@ -6,7 +6,7 @@ ghost use Rattle.table.specs.Causes.{is_name_kind_right, are_formals_zero, is_ca
 ghost use Rattle.table.specs.Causes.{are_kinds_right};
 
 use lists::word;
-use scheme::fields::{field3, field4, name_kind};
+use scheme::fields::{BranchKind, NodeKind, branch_kind, field3, field4, name_kind, node_kind};
 
 fn name_kind_right(table: &[u16], name: usize) -> bool
     ensures { result ≡ is_name_kind_right table.now name }
@@ -31,21 +31,23 @@ fn call_zero(table: &[u16], node: usize) -> bool
 fn node_kind_right(table: &[u16], node: usize) -> bool
     ensures { result ≡ is_node_kind_right table.now node }
 {
-    match field3(table, 10, node, 0) {
-        0 => field3(table, 10, node, 1) == 0 && field3(table, 10, node, 2) == 0,
-        1 => field3(table, 10, node, 2) != 0,
-        2 => true,
-        3 => call_zero(table, node),
-        _ => false,
+    match node_kind(table, node) {
+        Some(NodeKind::Stop) => field3(table, 10, node, 1) == 0 && field3(table, 10, node, 2) == 0,
+        Some(NodeKind::Choice) => field3(table, 10, node, 2) != 0,
+        Some(NodeKind::New) => true,
+        Some(NodeKind::Call) => call_zero(table, node),
+        None => false,
     }
 }
 
 fn branch_kind_right(table: &[u16], branch: usize) -> bool
     ensures { result ≡ is_branch_kind_right table.now branch }
 {
-    match field4(table, 11, branch, 0) {
-        0 => field4(table, 11, branch, 1) == 0 && field4(table, 11, branch, 2) == 0,
-        kind => kind <= 2,
+    match branch_kind(table, branch) {
+        Some(BranchKind::Silent) => field4(table, 11, branch, 1) == 0
+            && field4(table, 11, branch, 2) == 0,
+        Some(BranchKind::Send | BranchKind::Receive) => true,
+        None => false,
     }
 }
 

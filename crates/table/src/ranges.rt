@@ -7,7 +7,7 @@ ghost use Rattle.table.specs.Causes.{are_formals_inside, is_definition_inside, i
 ghost use Rattle.table.specs.Causes.{is_argument_inside, are_ranges_right};
 
 use lists::word;
-use scheme::fields::{field1, field3, field4};
+use scheme::fields::{BranchKind, NodeKind, branch_kind, field1, field3, field4, node_kind};
 
 // Whether a number is that of a bound name.
 fn is_bound(table: &[u16], name: usize) -> bool
@@ -45,11 +45,12 @@ fn node_inside(table: &[u16], node: usize) -> bool
 {
     let first = field3(table, 10, node, 1);
     let second = field3(table, 10, node, 2);
-    match field3(table, 10, node, 0) {
-        1 => first + second <= word(table, 5),
-        2 => is_bound(table, first) && second < word(table, 4),
-        3 => first < word(table, 2) && second + field4(table, 8, first, 3) <= word(table, 6),
-        _ => true,
+    match node_kind(table, node) {
+        Some(NodeKind::Choice) => first + second <= word(table, 5),
+        Some(NodeKind::New) => is_bound(table, first) && second < word(table, 4),
+        Some(NodeKind::Call) => first < word(table, 2)
+            && second + field4(table, 8, first, 3) <= word(table, 6),
+        Some(NodeKind::Stop) | None => true,
     }
 }
 
@@ -62,10 +63,10 @@ fn branch_inside(table: &[u16], branch: usize) -> bool
     let channel = field4(table, 11, branch, 1);
     let name = field4(table, 11, branch, 2);
     let names = word(table, 0) + word(table, 1);
-    match field4(table, 11, branch, 0) {
-        0 => true,
-        2 => channel < names && is_bound(table, name),
-        _ => channel < names && name < names,
+    match branch_kind(table, branch) {
+        Some(BranchKind::Silent) => true,
+        Some(BranchKind::Receive) => channel < names && is_bound(table, name),
+        Some(BranchKind::Send) | None => channel < names && name < names,
     }
 }
 

@@ -8,7 +8,7 @@ ghost use Rattle.table.specs.Inner.Shaped.{Shaped, BranchOf};
 ghost use Rattle.table.specs.Inner.Scope.{held_tally, body_scoped, branch_body_scoped};
 
 use lists::word;
-use scheme::fields::{field1, field3, field4};
+use scheme::fields::{BranchKind, NodeKind, branch_kind, field1, field3, field4, node_kind};
 use scheme::spans::{tally, tally_span};
 
 // Whether the arguments from `first` up to `end` are all held.
@@ -27,32 +27,29 @@ fn node_scoped(table: &[u16], node: usize, held: [u8; 64]) -> bool
     requires { Shaped table.now × (node < nodes table.now) × (held ≡ held_tally table.now node) }
     ensures { result ≡ body_scoped table.now node }
 {
-    let kind = field3(table, 10, node, 0);
     let first = field3(table, 10, node, 1);
     let second = field3(table, 10, node, 2);
-    if kind == 2 {
-        let mut inner = held;
-        tally(&mut inner, first);
-        return node_scoped(table, second, inner);
-    }
-    if kind == 3 {
-        return arguments_held(
-            table,
-            node,
-            second,
-            second + field4(table, 8, first, 3),
-            &held,
-        );
-    }
-    if kind != 1 {
-        return true;
-    }
-    for b in first..first + second {
-        if !branch_scoped(table, node, b, held) {
-            return false;
+    match node_kind(table, node) {
+        Some(NodeKind::Choice) => {
+            for b in first..first + second {
+                if !branch_scoped(table, node, b, held) {
+                    return false;
+                }
+            }
+            true
         }
+        Some(NodeKind::New) => {
+            let mut inner = held;
+            tally(&mut inner, first);
+            node_scoped(table, second, inner)
+        }
+        Some(NodeKind::Call) => {
+            let end = second + field4(table, 8, first, 3);
+            arguments_held(table, node, second, end, &held)
+        }
+        Some(NodeKind::Stop) => true,
+        None => true,
     }
-    true
 }
 
 // Whether a branch of a node, and all below it, use names that they hold.
@@ -61,16 +58,16 @@ fn branch_scoped(table: &[u16], node: usize, branch: usize, held: [u8; 64]) -> b
     requires { Shaped table.now × BranchOf table.now node branch × (held ≡ held_tally table.now node) }
     ensures { result ≡ branch_body_scoped table.now node branch }
 {
-    let kind = field4(table, 11, branch, 0);
+    let kind = branch_kind(table, branch);
     let name = field4(table, 11, branch, 2);
     let next = field4(table, 11, branch, 3);
-    if kind == 0 {
+    if kind == Some(BranchKind::Silent) {
         return node_scoped(table, next, held);
     }
     if word(&held, field4(table, 11, branch, 1)) == 0 {
         return false;
     }
-    if kind == 2 {
+    if kind == Some(BranchKind::Receive) {
         let mut inner = held;
         tally(&mut inner, name);
         return node_scoped(table, next, inner);

@@ -6,7 +6,7 @@ ghost use Rattle.table.specs.Causes.{consecutive, is_owned_once, are_children_ab
 ghost use Rattle.scheme.specs.Spans.{span_first_of, span_count_of};
 
 use lists::word;
-use scheme::fields::{field3, field4};
+use scheme::fields::{NodeKind, field3, field4, node_kind};
 use scheme::spans::{Source, span_count, span_first, tally_source};
 
 #[tactic(auto, unfolding(lists::specs::Lists::same, lists::specs::Lists::every, scheme::specs::Words::branches_of, crate::specs::Causes::are_children_above))]
@@ -15,10 +15,10 @@ fn children_above(table: &[u16], node: usize) -> bool
 {
     let first = field3(table, 10, node, 1);
     let second = field3(table, 10, node, 2);
-    match field3(table, 10, node, 0) {
-        1 => (first..first + second).all(|b| node < field4(table, 11, b, 3)),
-        2 => node < second,
-        _ => true,
+    match node_kind(table, node) {
+        Some(NodeKind::Choice) => (first..first + second).all(|b| node < field4(table, 11, b, 3)),
+        Some(NodeKind::New) => node < second,
+        Some(NodeKind::Stop | NodeKind::Call) | None => true,
     }
 }
 

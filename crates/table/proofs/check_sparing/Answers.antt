@@ -1,7 +1,5 @@
 use mathlib.Core.Path.{sym, ◌∙◌}
 use native.Mathlib.Omega.{arith}
-use borrow.Author.Tests.{le-leb, lt-leb}
-use Rattle.table.specs.Causes.{cause_sparing, first_failed, long_enough}
 use Rattle.table.proofs.Inside.{counted}
 use Rattle.table.proofs.Shaped.{shaped}
 use Rattle.table.proofs.check_sparing.Goals as goal

@@ -1,6 +1,8 @@
 -- `scheme::lookup::held_names` meets its contract, by recursion to the owner. The names are at most a definition's formals and one more for each
 -- step, so their count does not wrap.
 use native.Mathlib.Omega.{arith}
+use Rattle.std.proofs.Common.{rules, tests, refl}
+use Rattle.std.proofs.lemmas.Grind.{common_steps}
 use Rattle.scheme.specs.Index.{owners_in, homes_in}
 use Rattle.scheme.proofs.Indexed.{new-below, branch-below, held-count, held-at-root, held-at-new, held-at-receive, held-at-branch, held-at-nobody}
 use Rattle.scheme.proofs.lookup.+held_names.Goals as goal
@@ -12,17 +14,17 @@ overflow_add-result t c = omega (
   held-count _ _ _ _ _ _ _ c.held_names-count.ensures (λ i. omega (arith, c.type_inv.table i)),
 )
 
-pub overflow_add-result-then-field4-eq2 : goal.overflow_add-result-then-field4-eq2
-overflow_add-result-then-field4-eq2 t c = omega (
+pub overflow_add-result-then-eq : goal.overflow_add-result-then-eq
+overflow_add-result-then-eq t c = omega (
   arith,
   branch-below (owners_in c.args.index.now) (homes_in c.args.index.now) _ _ _ _ c.step_up.ensures c.in-Branch.is,
   held-count _ _ _ _ _ _ _ c.held_names-count-in-Branch.ensures (λ i. omega (arith, c.type_inv.table i)),
 )
 
-pub returns-then-field4-eq2 : goal.returns-then-field4-eq2
-returns-then-field4-eq2 t c =
+pub returns-then-eq : goal.returns-then-eq
+returns-then-eq t c =
     held-at-receive _ _ _ _ _ c.step_up.ensures _ _ _ _ _ _ _ _ c.in-Branch.is c.held_names-count-in-Branch.ensures
-    c.field4-in-Branch.ensures.is c.if-field4-eq2.true c.field4-then-field4-eq2.ensures.is c.store-then-field4-eq2.ensures
+    refl (search (rules, tests)) c.field4-then-eq.ensures.is c.store-then-eq.ensures
 
 pub returns-in-Definition : goal.returns-in-Definition
 returns-in-Definition t c =
@@ -34,10 +36,10 @@ returns-in-New t c =
     held-at-new _ _ _ _ _ c.step_up.ensures _ _ _ _ _ _ c.in-New.is c.held_names-count.ensures
     c.field3.ensures.is c.store.ensures
 
-pub returns-else-field4-eq2 : goal.returns-else-field4-eq2
-returns-else-field4-eq2 t c =
+pub returns-else-eq : goal.returns-else-eq
+returns-else-eq t c =
     held-at-branch _ _ _ _ _ c.step_up.ensures _ _ _ _ _ _ c.in-Branch.is c.held_names-count-in-Branch.ensures
-    c.field4-in-Branch.ensures.is c.if-field4-eq2.false
+    refl (λ q. grind (arith, common_steps))
 
 pub returns-in-Nobody : goal.returns-in-Nobody
 returns-in-Nobody t c = held-at-nobody _ _ _ _ _ c.step_up.ensures _ c.in-Nobody.is
