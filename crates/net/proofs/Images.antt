@@ -1,20 +1,20 @@
 -- What a right header and a right record tell of an image.
-use mathlib.Core.Path.{◌≡◌, sym, ap, ◌∙◌}
-use mathlib.Core.Bool.{true, false, ◌&&◌}
+use mathlib.Core.Path.{◌≡◌, refl, ap, ◌∙◌}
+use mathlib.Core.Bool.{Bool, true, false, ◌&&◌}
 use mathlib.Core.List.{List}
-use Prim.Native.Nat.{ℕ, ◌-◌, ◌≤◌, ◌<◌}
+use Prim.Native.Nat.{ℕ, ◌+◌, ◌-◌, ◌≤◌, ◌<◌}
 use native.Mathlib.Omega.{arith}
 use lib.Dec.{leb}
-use lib.ListN.{length}
+use lib.ListN.{length, take, drop}
 use lib.Seq.{slice}
 use borrow.Author.Tests.{le-leb, lt-leb, leb-true}
 use Rattle.lists.specs.Lists.{same, word, from, every, ascends}
-use Rattle.lists.proofs.Tests.{and_left, and_right, same-yes, same-no, same_true, went-first, went-second}
+use Rattle.lists.proofs.Tests.{and_left, and_right, same-yes, same-no, same_true}
+use Rattle.lists.proofs.Slices.{lent-part}
 use Rattle.lists.proofs.Ranges.{every-start, every-below}
-use Rattle.net.specs.declared.arcs.Record.TheVariants.{Arcs, Wrong}
 use Rattle.net.specs.Image.{place_count_of, transition_count, records_start, arcs_offset, given_length, initial_places, is_header_right}
 use Rattle.net.specs.Image.{inputs_start, outputs_start, outputs_end, inputs_at, outputs_at, record_right, are_records_right}
-use Rattle.net.specs.Inner.Arcs.{Header, decoded, Listed, Offsets}
+use Rattle.net.specs.Inner.Arcs.{Header, Offsets, ArcsOf}
 
 -- ---- the header, test by test
 
@@ -90,16 +90,15 @@ module _ (w : List ℕ) (h : is_header_right w ≡ true) where
         exact = same_true (length w) (given_length w) (and_left (same (length w) (given_length w)) (ascends (place_count_of w) 0 (initial_places w)) after-offsets);
       }
 
-  -- the initial places
-  pub initial-listed : Listed w 8 (records_start w) (place_count_of w)
-  initial-listed = let s = header in record {
-    ordered = omega arith;
-    within = omega arith;
-    rising = and_right (same (length w) (given_length w))
-        (ascends (place_count_of w) 0 (initial_places w)) after-offsets;
-  }
+  -- the initial places lie within the image, and ascend
+  pub initial-ascend : ascends (place_count_of w) 0 (initial_places w) ≡ true
+  initial-ascend = and_right (same (length w) (given_length w)) (ascends (place_count_of w) 0 (initial_places w)) after-offsets
 
 -- ---- a record
+
+-- a part as it is lent
+pub part : (w : List ℕ) (a e : ℕ) → a ≤ e → take (e - a) (drop a w) ≡ slice a e w
+part w a e h = let q : a + (e - a) ≡ e = omega arith in lent-part w a (e - a) ∙ ap (λ (k : ℕ). slice a k w) q
 
 slices : (w : List ℕ) (a b i e : ℕ) → a ≡ i → b ≡ e → slice a b w ≡ slice i e w
 slices w a b i e p q = cc
@@ -127,88 +126,44 @@ module _ (w : List ℕ) (t f c e : ℕ) (o : Offsets w t f c e) where
       to_end : leb (outputs_end w t) (length w) ≡ true
       to_end = le-leb (outputs_end w t) (length w) (omega arith)
 
-      pub inputs-wrong : ascends (place_count_of w) 0 (slice f c w) ≡ false → record_right w t ≡ false
+      pub all_right : ascends (place_count_of w) 0 (slice f c w) ≡ true → ascends (place_count_of w) 0 (slice c e w) ≡ true → record_right w t ≡ true
       unfolding record_right
-      inputs-wrong a = rw (from-arcs, to_end, ← inputs_are, a)
+      all_right a b = rw (from-arcs, to_end, ← inputs_are, a, ← outputs-are, b)
 
-      module _ (a : ascends (place_count_of w) 0 (slice f c w) ≡ true) where
-        pub outputs-wrong : ascends (place_count_of w) 0 (slice c e w) ≡ false → record_right w t ≡ false
-        unfolding record_right
-        outputs-wrong b = rw (from-arcs, to_end, ← inputs_are, a, ← outputs-are, b)
+      -- by what the two lists tell as they are lent
+      pub lists_right : (a b : Bool) → a ≡ ascends (place_count_of w) 0 (take (c - f) (drop f w)) → b ≡ ascends (place_count_of w) 0 (take (e - c) (drop c w))
+          → (a && b) ≡ record_right w t
+      unfolding record_right
+      lists_right a b x y =
+          let i : take (c - f) (drop f w) ≡ inputs_at w t = part w f c (omega (arith, o.inputs_are, o.outputs-are)) ∙ inputs_are in
+          let u : take (e - c) (drop c w) ≡ outputs_at w t = part w c e (omega (arith, o.outputs-are, o.end_is)) ∙ outputs-are in
+          rw (x, y, from-arcs, to_end, i, u) refl
 
-        pub all_right : ascends (place_count_of w) 0 (slice c e w) ≡ true → record_right w t ≡ true
-        unfolding record_right
-        all_right b = rw (from-arcs, to_end, ← inputs_are, a, ← outputs-are, b)
+-- ---- a right record
 
-  pub decoded-right : record_right w t ≡ true → Arcs f c e ≡ decoded w t
-  unfolding decoded
-  decoded-right p = rw (p, o.inputs_are, o.outputs-are, o.end_is)
+module _ (w : List ℕ) (t : ℕ) (p : record_right w t ≡ true) where
+  after-start : (leb (outputs_end w t) (length w) && (ascends (place_count_of w) 0 (inputs_at w t) && ascends (place_count_of w) 0 (outputs_at w t))) ≡ true
+  unfolding record_right
+  after-start = and_right (leb (arcs_offset w) (inputs_start w t))
+      (leb (outputs_end w t) (length w) && (ascends (place_count_of w) 0 (inputs_at w t) && ascends (place_count_of w) 0 (outputs_at w t))) p
 
-pub decoded-wrong : (w : List ℕ) (t : ℕ) → record_right w t ≡ false → Wrong ≡ decoded w t
-unfolding decoded
-decoded-wrong w t p = rw p
+  lists : (ascends (place_count_of w) 0 (inputs_at w t) && ascends (place_count_of w) 0 (outputs_at w t)) ≡ true
+  lists = and_right (leb (outputs_end w t) (length w)) (ascends (place_count_of w) 0 (inputs_at w t) && ascends (place_count_of w) 0 (outputs_at w t)) after-start
 
--- the record's parts, from what was decoded
-apart : (f c e : ℕ) → Arcs f c e ≡ Wrong → ⊥
-apart f c e p = let z : ◌≡◌ {A = ℕ} 0 1 = cc in omega arith
+  pub arcs_within : outputs_end w t ≤ length w
+  arcs_within = leb-true (outputs_end w t) (length w)
+      (and_left (leb (outputs_end w t) (length w)) (ascends (place_count_of w) 0 (inputs_at w t) && ascends (place_count_of w) 0 (outputs_at w t)) after-start)
 
-pub was-wrong : (w : List ℕ) (t : ℕ) → decoded w t ≡ Wrong → record_right w t ≡ false
-unfolding decoded
-was-wrong w t p = (went-second p (apart (inputs_start w t) (outputs_start w t) (outputs_end w t))).0
+  pub inputs_ascend : ascends (place_count_of w) 0 (inputs_at w t) ≡ true
+  inputs_ascend = and_left (ascends (place_count_of w) 0 (inputs_at w t)) (ascends (place_count_of w) 0 (outputs_at w t)) lists
 
--- what a right record tells
-pub record Good (w : List ℕ) (t f c e : ℕ) : Type 0 where
-  pub right : record_right w t ≡ true
-  pub inputs : slice f c w ≡ inputs_at w t
-  pub outputs : slice c e w ≡ outputs_at w t
-  pub listed-inputs : Listed w f c (place_count_of w)
-  pub listed-outputs : Listed w c e (place_count_of w)
+  pub outputs_ascend : ascends (place_count_of w) 0 (outputs_at w t) ≡ true
+  outputs_ascend = and_right (ascends (place_count_of w) 0 (inputs_at w t)) (ascends (place_count_of w) 0 (outputs_at w t)) lists
 
-pub good : (w : List ℕ) (t f c e : ℕ) → record_right w t ≡ true → Offsets w t f c e → Good w t f c e
-unfolding record_right
-good w t f c e p o =
-    let a = and_right (leb (arcs_offset w) (inputs_start w t))
-    (leb (outputs_end w t) (length w) && (ascends (place_count_of w) 0 (inputs_at w t) && ascends (place_count_of w) 0 (outputs_at w t))) p in
-    let l = leb-true (outputs_end w t) (length w)
-    (and_left (leb (outputs_end w t) (length w)) (ascends (place_count_of w) 0 (inputs_at w t) && ascends (place_count_of w) 0 (outputs_at w t)) a) in
-    let b = and_right (leb (outputs_end w t) (length w)) (ascends (place_count_of w) 0 (inputs_at w t) && ascends (place_count_of w) 0 (outputs_at w t)) a in
-    let i = inputs_are w t f c e o in
-    let u = outputs-are w t f c e o in
-    record {
-      right = p;
-      inputs = i;
-      outputs = u;
-      listed-inputs = record {
-        ordered = omega arith;
-        within = omega arith;
-        rising = ap (ascends (place_count_of w) 0) i
-            ∙ and_left (ascends (place_count_of w) 0 (inputs_at w t)) (ascends (place_count_of w) 0 (outputs_at w t)) b;
-      };
-      listed-outputs = record {
-        ordered = omega arith;
-        within = omega arith;
-        rising = ap (ascends (place_count_of w) 0) u
-            ∙ and_right (ascends (place_count_of w) 0 (inputs_at w t)) (ascends (place_count_of w) 0 (outputs_at w t)) b;
-      };
-    }
-
-pub was-right : (w : List ℕ) (t f c e : ℕ) → decoded w t ≡ Arcs f c e → Good w t f c e
-unfolding decoded
-was-right w t f c e p =
-    let s = went-first p (λ q. apart f c e (sym q)) in
-    let q : Arcs (inputs_start w t) (outputs_start w t) (outputs_end w t) ≡ Arcs f c e = s.1 in
-    let i : f ≡ inputs_start w t = cc in
-    let u : c ≡ outputs_start w t = cc in
-    let n : e ≡ outputs_end w t = cc in
-    good w t f c e s.0 (record { inputs_are = i; outputs-are = u; end_is = n })
-
-pub listed-for : (w : List ℕ) (f c n k : ℕ) → k ≡ n → Listed w f c n → Listed w f c k
-listed-for w f c n k e l = record { ordered = l.ordered; within = l.within; rising = ap (λ (x : ℕ). ascends x 0 (slice f c w)) e ∙ l.rising }
-
--- both lists of a right record, for a marking of the places
-pub both_listed : (w : List ℕ) (t f c e k : ℕ) → Good w t f c e → k ≡ place_count_of w → Listed w f c k × Listed w c e k
-both_listed w t f c e k g l =
-    (listed-for w f c (place_count_of w) k l g.listed-inputs, listed-for w c e (place_count_of w) k l g.listed-outputs)
+-- both lists of its arcs, for a marking of the places
+pub both_ascend : (w : List ℕ) (t : ℕ) (ins outs : List ℕ) (k : ℕ) → ArcsOf w t ins outs → k ≡ place_count_of w → (ascends k 0 ins ≡ true) × (ascends k 0 outs ≡ true)
+both_ascend w t ins outs k a e =
+    (rw (e, a.inputs-are) (inputs_ascend w t a.right), rw (e, a.outputs-are) (outputs_ascend w t a.right))
 
 -- ---- all records
 

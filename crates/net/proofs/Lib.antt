@@ -1,6 +1,7 @@
 -- Laws that the proofs of `net` share.
 pub mod Marks
 pub mod Images
+pub mod Lent
 pub mod Puts
 pub mod Steps
 pub mod Looks

@@ -1,6 +1,5 @@
 -- What a look gives, case by case.
 use mathlib.Core.Path.{◌≡◌, refl, ap, ◌∙◌}
-use mathlib.Core.Bool.{true, false}
 use mathlib.Core.List.{List, [], ◌∷◌, ◌++◌}
 use Prim.Native.Nat.{ℕ, ◌≤◌, ◌<◌}
 use native.Mathlib.Omega.{arith}
@@ -9,21 +8,13 @@ use lib.Seq.{take_at, drop_at}
 use borrow.Author.Tests.{lt-ltb, le-ltb}
 use Rattle.lists.proofs.Tests.{same_self, same-no}
 use Rattle.net.specs.declared.Cause.{Cause}
-use Rattle.net.specs.declared.Cause.TheVariants.{ImageWrong, RecordWrong, MarkingWrong, NoTransition, NotEnabled, Contact}
-use Rattle.net.specs.Image.{place_count_of, is_header_right}
-use Rattle.net.specs.Firing.{is_marking, moved, made, refused, step, in_turn}
+use Rattle.net.specs.Image.{place_count_of}
+use Rattle.net.specs.Firing.{moved, made, refused, step, in_turn}
 use Rattle.net.specs.Looking.{looked, shown, look}
 use Rattle.net.specs.Answers.{cause_number}
-use Rattle.net.proofs.Steps.{turn-refused, turn_last, fire-no-image, fire-no-marking, fire-as}
-
--- a cause has a number
-cause-some : (x : Cause) → cause_number x ≡ 0 → ⊥
-cause-some ImageWrong e = omega arith
-cause-some RecordWrong e = omega arith
-cause-some MarkingWrong e = omega arith
-cause-some NoTransition e = omega arith
-cause-some NotEnabled e = omega arith
-cause-some Contact e = omega arith
+use Rattle.net.specs.Inner.Lent.{lent_cause}
+use Rattle.net.proofs.Lent.{Right, cause-some}
+use Rattle.net.proofs.Steps.{turn-refused, turn_last, fire_refused, fire-as}
 
 module _ (w m : List ℕ) (t : ℕ) (next : List ℕ) where
   -- ---- a look on a right image, at a right marking
@@ -54,15 +45,10 @@ module _ (w m : List ℕ) (t : ℕ) (next : List ℕ) where
 
   -- ---- any look
 
-  pub look-no-image : is_header_right w ≡ false → looked 11 0 next ≡ look w m t next
+  pub look_refused : (x : Cause) → cause_number x ≡ lent_cause w m → looked (cause_number x) 0 next ≡ look w m t next
   unfolding look shown
-  look-no-image a = rw (fire-no-image w m t a, same-no 11 0 (λ e. omega arith))
+  look_refused x e = rw (← fire_refused w m t x e, same-no (cause_number x) 0 (cause-some x))
 
-  module _ (a : is_header_right w ≡ true) where
-    pub look-no-marking : is_marking (place_count_of w) m ≡ false → looked 13 0 next ≡ look w m t next
-    unfolding look shown
-    look-no-marking b = rw (fire-no-marking w m t a b, same-no 13 0 (λ e. omega arith))
-
-    pub look-as : is_marking (place_count_of w) m ≡ true → look w m t next ≡ shown (place_count_of w) (in_turn w m (t ∷ [])) next
-    unfolding look
-    look-as b = rw (fire-as w m t a b)
+  pub look-as : Right w m → look w m t next ≡ shown (place_count_of w) (in_turn w m (t ∷ [])) next
+  unfolding look
+  look-as r = rw (fire-as w m t r.header r.marking)

@@ -1,111 +1,102 @@
 -- Laws of tests and writes over listed places: what one turn of a loop over a part of the image does.
-use mathlib.Core.Path.{◌≡◌, refl, ap, ◌∙◌}
+use Rattle.std.specs.Prelude.{◌==◌, max}
+use mathlib.Core.Path.{◌≡◌, refl, sym, ap, ◌∙◌}
 use mathlib.Core.Bool.{Bool, true, false, ◌&&◌, ◌||◌}
 use mathlib.Core.List.{List, [], ◌∷◌}
-use Prim.Native.Nat.{ℕ, ◌+◌, ◌≤◌, ◌<◌}
+use Prim.Native.Nat.{ℕ, suc, ◌+◌, ◌≤◌, ◌<◌}
 use native.Mathlib.Omega.{arith}
 use native.Mathlib.Decide.{dec_lt}
 use lib.Dec.{leb, ltb}
 use lib.ListN.{length, get_or, set, drop, length-set}
-use lib.Seq.{slice}
 use borrow.Author.Tests.{le-leb, lt-leb, lt-ltb, le-ltb}
+use Rattle.std.proofs.lemmas.List.{get_or_default}
 use Rattle.lists.specs.Lists.{same, every, some, member, ascends}
-use Rattle.lists.proofs.Tests.{and-true, and-false, or-none, same-yes, same_self, same-no, same-sym}
-use Rattle.lists.proofs.Slices.{slice-step, slice-none, drop-step, drop-none}
-use Rattle.lists.proofs.Ascending.{ascends-rest, not-below, rising-first}
-use Rattle.net.specs.Firing.{is_place_marked, is_enabled, has_contact, put}
+use Rattle.lists.proofs.Tests.{false-true, and-true, and-false, or-none, same-yes, same_self, same-no, same-sym}
+use Rattle.lists.proofs.Slices.{drop-step, drop-none}
+use Rattle.lists.proofs.Ascending.{ascends-rest, ascends-below, ascends-cons, ascends-lower, not-below, element-below}
+use Rattle.net.specs.Firing.{is_place_marked, has_contact, put}
 
 -- ---- bytes of a marking
 
 -- the higher of two numbers tells whether one is above 1
-higher-tells : (a b : ℕ) (r : Bool) → a ≤ b → (leb a 1 && (leb b 1 && r)) ≡ (leb b 1 && r)
-higher-tells a b r p = go (dec_lt 1 b)
+higher-tells : (a b n : ℕ) (r : Bool) → n ≡ max a b → (leb a 1 && (leb b 1 && r)) ≡ (leb n 1 && r)
+higher-tells a b n r e = go (dec_lt 1 a) (dec_lt 1 b)
   where
-    go : Dec (1 < b) → (leb a 1 && (leb b 1 && r)) ≡ (leb b 1 && r)
-    go (yes q) = rw (lt-leb b 1 q) (and-false (leb a 1))
-    go (no q) = let u : b ≤ 1 = omega arith in rw (le-leb a 1 (omega arith), le-leb b 1 u) refl
-
-lower-adds-nothing : (a b : ℕ) (r : Bool) → b ≤ a → (leb a 1 && (leb b 1 && r)) ≡ (leb a 1 && r)
-lower-adds-nothing a b r p = go (dec_lt 1 a)
-  where
-    go : Dec (1 < a) → (leb a 1 && (leb b 1 && r)) ≡ (leb a 1 && r)
-    go (yes q) = rw (lt-leb a 1 q) refl
-    go (no q) = let u : a ≤ 1 = omega arith in rw (le-leb a 1 u, le-leb b 1 (omega arith)) refl
+    go : Dec (1 < a) → Dec (1 < b) → (leb a 1 && (leb b 1 && r)) ≡ (leb n 1 && r)
+    go (yes p) q = rw (lt-leb a 1 p, lt-leb n 1 (omega arith)) refl
+    go (no p) (yes q) = let u : a ≤ 1 = omega arith in rw (le-leb a 1 u, lt-leb b 1 q, lt-leb n 1 (omega arith)) refl
+    go (no p) (no q) =
+        let u : a ≤ 1 = omega arith in
+        let v : b ≤ 1 = omega arith in
+        rw (le-leb a 1 u, le-leb b 1 v, le-leb n 1 (omega arith)) refl
 
 -- no byte is above 1, of the highest seen and those from i on
 abbrev pub low_from : ℕ → List ℕ → ℕ → Bool
 low_from highest m i = leb highest 1 && every (λ byte. leb byte 1) (drop i m)
 
-module _ (m : List ℕ) (i : ℕ) (h : i < length m) (highest next : ℕ) where
-  pub highest-rises : next ≡ get_or m i 0 → highest < get_or m i 0 → low_from highest m i ≡ low_from next m (i + 1)
-  unfolding every
-  highest-rises e p = rw (e, drop-step m i h) (higher-tells highest (get_or m i 0) (every (λ byte. leb byte 1) (drop (i + 1) m)) (omega arith))
-
-  pub highest-stays : next ≡ highest → get_or m i 0 ≤ highest → low_from highest m i ≡ low_from next m (i + 1)
-  unfolding every
-  highest-stays e p = rw (e, drop-step m i h) (lower-adds-nothing highest (get_or m i 0) (every (λ byte. leb byte 1) (drop (i + 1) m)) p)
+pub highest-more : (m : List ℕ) (i : ℕ) → i < length m → (highest next : ℕ) → next ≡ max highest (get_or m i 0)
+    → low_from highest m i ≡ low_from next m (i + 1)
+unfolding every
+highest-more m i h highest next e =
+    rw (drop-step m i h) (higher-tells highest (get_or m i 0) next (every (λ byte. leb byte 1) (drop (i + 1) m)) e)
 
 pub highest-last : (m : List ℕ) (i highest : ℕ) → length m ≤ i → low_from highest m i ≡ leb highest 1
 unfolding every
 highest-last m i highest h = rw (drop-none m i h) (and-true (leb highest 1))
 
--- ---- neighbours in a part of the words that ends at e
+-- ---- neighbours
 
 -- the word at i lies below n, and what follows it ascends from there
-abbrev pub rises_on : List ℕ → ℕ → ℕ → ℕ → Bool
-rises_on w n i e = ltb (get_or w i 0) n && ascends n (get_or w i 0 + 1) (slice (i + 1) e w)
+abbrev pub rises_on : List ℕ → ℕ → ℕ → Bool
+rises_on w n i = ltb (get_or w i 0) n && ascends n (get_or w i 0 + 1) (drop (i + 1) w)
 
-pub rises-first : (w : List ℕ) (n i e : ℕ) → i < e → e ≤ length w → ascends n 0 (slice i e w) ≡ rises_on w n i e
+pub rises-none : (w : List ℕ) (n : ℕ) → true ≡ (length w == 0) → true ≡ ascends n 0 w
+unfolding ascends same
+rises-none [] n h = refl
+rises-none (x ∷ xs) n h = false-true (same-no (suc (length xs)) 0 (λ e. omega arith)) (sym h)
+
+pub not_empty : (w : List ℕ) → false ≡ (length w == 0) → 0 < length w
+not_empty [] h = false-true (sym h) refl
+not_empty (x ∷ xs) h = omega arith
+
+pub rises-first : (w : List ℕ) (n : ℕ) → 0 < length w → ascends n 0 w ≡ rises_on w n 0
 unfolding ascends
-rises-first w n i e h k = rw (slice-step w i e h k, le-leb 0 (get_or w i 0) (omega arith)) refl
+rises-first [] n h = absurd (omega arith)
+rises-first (x ∷ xs) n h = rw (le-leb 0 x (omega arith)) refl
 
-module _ (w : List ℕ) (n i e : ℕ) (h : i + 1 < e) (k : e ≤ length w) (right next : Bool) where
-  pub rises_next : next ≡ right → get_or w i 0 < get_or w (i + 1) 0 → (right && rises_on w n i e) ≡ (next && rises_on w n (i + 1) e)
+module _ (w : List ℕ) (n i : ℕ) (h : i + 1 < length w) (right next : Bool) where
+  pub rises_next : next ≡ right → get_or w i 0 < get_or w (i + 1) 0 → (right && rises_on w n i) ≡ (next && rises_on w n (i + 1))
   unfolding ascends
   rises_next q p =
-      rw (q, slice-step w (i + 1) e h k, le-leb (get_or w i 0 + 1) (get_or w (i + 1) 0) (omega arith)) (ap (λ (b : Bool). right && b) (go (dec_lt (get_or w (i + 1) 0) n)))
+      rw (q, drop-step w (i + 1) h, le-leb (get_or w i 0 + 1) (get_or w (i + 1) 0) (omega arith)) (ap (λ (b : Bool). right && b) (go (dec_lt (get_or w (i + 1) 0) n)))
     where
-      go : Dec (get_or w (i + 1) 0 < n) → (ltb (get_or w i 0) n && rises_on w n (i + 1) e) ≡ rises_on w n (i + 1) e
+      go : Dec (get_or w (i + 1) 0 < n) → (ltb (get_or w i 0) n && rises_on w n (i + 1)) ≡ rises_on w n (i + 1)
       go (yes l) = rw (lt-ltb (get_or w i 0) n (omega arith)) refl
       go (no l) = rw (le-ltb (get_or w (i + 1) 0) n (omega arith)) (and-false (ltb (get_or w i 0) n))
 
-  pub rises-no-more : next ≡ false → get_or w (i + 1) 0 ≤ get_or w i 0 → (right && rises_on w n i e) ≡ (next && rises_on w n (i + 1) e)
+  pub rises-no-more : next ≡ false → get_or w (i + 1) 0 ≤ get_or w i 0 → (right && rises_on w n i) ≡ (next && rises_on w n (i + 1))
   unfolding ascends
   rises-no-more q p =
-      rw (q, slice-step w (i + 1) e h k, lt-leb (get_or w i 0 + 1) (get_or w (i + 1) 0) (omega arith), and-false (ltb (get_or w i 0) n)) (and-false right)
+      rw (q, drop-step w (i + 1) h, lt-leb (get_or w i 0 + 1) (get_or w (i + 1) 0) (omega arith), and-false (ltb (get_or w i 0) n)) (and-false right)
 
-pub rises-last : (w : List ℕ) (n i e : ℕ) → e ≤ i + 1 → rises_on w n i e ≡ ltb (get_or w i 0) n
+-- at the last word
+pub rises-whole : (w : List ℕ) (n i last : ℕ) (right : Bool) → right ≡ true → i ≤ last → last ≤ i → length w ≤ last + 1
+    → (right && rises_on w n i) ≡ ltb (get_or w last 0) n
 unfolding ascends
-rises-last w n i e h = rw (slice-none w (i + 1) e h) (and-true (ltb (get_or w i 0) n))
-
-pub rises-whole : (w : List ℕ) (n i last e : ℕ) (right : Bool) → i ≤ last → last ≤ i → e ≤ last + 1 → right ≡ true
-    → (right && rises_on w n i e) ≡ ltb (get_or w last 0) n
-rises-whole w n i last e right a b h q =
+rises-whole w n i last right q a b h =
     let p : i ≡ last = omega arith in
-    rw (q, p) (rises-last w n last e h)
+    rw (q, p, drop-none w (last + 1) h) (and-true (ltb (get_or w last 0) n))
 
--- ---- the places that the words from i to e list
+-- ---- listed places, from the i-th on
 
-module _ (w : List ℕ) (i e : ℕ) (h : i < e) (k : e ≤ length w) where
-  pub enabled-not : (m : List ℕ) → (get_or m (get_or w i 0) 0 ≡ 1 → ⊥) → is_enabled m (slice i e w) ≡ false
-  unfolding is_enabled every
-  enabled-not m p = rw (slice-step w i e, same-no (get_or m (get_or w i 0) 0) 1)
-
-  pub enabled-more : (m : List ℕ) → get_or m (get_or w i 0) 0 ≡ 1 → is_enabled m (slice i e w) ≡ is_enabled m (slice (i + 1) e w)
-  unfolding is_enabled every
-  enabled-more m p = rw (slice-step w i e, same-yes (get_or m (get_or w i 0) 0) 1)
-
-  pub put-more : (v : ℕ) (m : List ℕ) → put v m (slice i e w) ≡ put v (set m (get_or w i 0) v) (slice (i + 1) e w)
+module _ (w : List ℕ) (i : ℕ) (h : i < length w) where
+  pub put-more : (v : ℕ) (m : List ℕ) → put v m (drop i w) ≡ put v (set m (get_or w i 0) v) (drop (i + 1) w)
   unfolding put
-  put-more v m = rw (slice-step w i e)
+  put-more v m = rw (drop-step w i)
 
-pub enabled-none : (w : List ℕ) (i e : ℕ) → e ≤ i → (m : List ℕ) → is_enabled m (slice i e w) ≡ true
-unfolding is_enabled every
-enabled-none w i e h m = rw (slice-none w i e h)
-
-pub put-none : (w : List ℕ) (i e : ℕ) → e ≤ i → (v : ℕ) (m : List ℕ) → put v m (slice i e w) ≡ m
+pub put-none : (w : List ℕ) (i : ℕ) → length w ≤ i → (v : ℕ) (m : List ℕ) → put v m (drop i w) ≡ m
 unfolding put
-put-none w i e h v m = rw (slice-none w i e h)
+put-none w i h v m = rw (drop-none w i h)
 
 pub length-put : (v : ℕ) (m places : List ℕ) → length (put v m places) ≡ length m
 unfolding put
@@ -133,42 +124,55 @@ contact-skip m output inputs outputs = rw (same_self output) (skip (is_place_mar
     skip true = refl
     skip false = refl
 
-module _ (w m : List ℕ) (n j e : ℕ) (l : j < e) (f : e ≤ length w) (up : ascends n 0 (slice j e w) ≡ true) where
-  rest_up : ascends n (get_or w j 0 + 1) (slice (j + 1) e w) ≡ true
-  rest_up = ascends-rest n 0 (get_or w j 0) (slice (j + 1) e w) (rw (slice-step w j e l f) at up)
+module _ (w m : List ℕ) (n j : ℕ) (l : j < length w) (up : ascends n 0 (drop j w) ≡ true) where
+  rest_up : ascends n (get_or w j 0 + 1) (drop (j + 1) w) ≡ true
+  rest_up = ascends-rest n 0 (get_or w j 0) (drop (j + 1) w) (rw (drop-step w j l) at up)
 
-  from_up : ascends n (get_or w j 0) (slice j e w) ≡ true
-  from_up = rising-first w j e l f n 0 up
+  -- what is left ascends, and from its first word on
+  pub later_up : ascends n 0 (drop (j + 1) w) ≡ true
+  later_up = ascends-lower n (get_or w j 0 + 1) 0 (drop (j + 1) w) (omega arith) rest_up
 
-  module _ (i c : ℕ) (h : i < c) (g : c ≤ length w) where
-    pub contact-less : get_or w i 0 < get_or w j 0 → has_contact m (slice i c w) (slice j e w) ≡ has_contact m (slice (i + 1) c w) (slice j e w)
-    contact-less p = rw (slice-step w i c h g)
-        (contact-drop m (get_or w i 0) (slice (i + 1) c w) (slice j e w) (not-below n (get_or w j 0) (get_or w i 0) (slice j e w) from_up p))
+  pub from_up : ascends n (get_or w j 0) (drop j w) ≡ true
+  from_up =
+      let q : ascends n 0 (get_or w j 0 ∷ drop (j + 1) w) ≡ true = rw (drop-step w j l) at up in
+      rw (drop-step w j l) (ascends-cons n (get_or w j 0) (get_or w j 0) (drop (j + 1) w) (omega arith) (ascends-below n 0 (get_or w j 0) (drop (j + 1) w) q) ∙ rest_up)
 
-    pub contact-both : get_or w i 0 ≡ get_or w j 0 → has_contact m (slice i c w) (slice j e w) ≡ has_contact m (slice (i + 1) c w) (slice (j + 1) e w)
+  pub first_below : get_or w j 0 < n
+  first_below = ascends-below n 0 (get_or w j 0) (drop (j + 1) w) (rw (drop-step w j l) at up)
+
+  module _ (v : List ℕ) (i : ℕ) (h : i < length v) where
+    pub contact-less : get_or v i 0 < get_or w j 0 → has_contact m (drop i v) (drop j w) ≡ has_contact m (drop (i + 1) v) (drop j w)
+    contact-less p = rw (drop-step v i h)
+        (contact-drop m (get_or v i 0) (drop (i + 1) v) (drop j w) (not-below n (get_or w j 0) (get_or v i 0) (drop j w) from_up p))
+
+    pub contact-both : get_or v i 0 ≡ get_or w j 0 → has_contact m (drop i v) (drop j w) ≡ has_contact m (drop (i + 1) v) (drop (j + 1) w)
     contact-both p =
-        rw (slice-step w i c h g, slice-step w j e l f, p)
-        (contact-skip m (get_or w j 0) (slice (i + 1) c w) (slice (j + 1) e w)
-        ∙ contact-drop m (get_or w j 0) (slice (i + 1) c w) (slice (j + 1) e w)
-        (not-below n (get_or w j 0 + 1) (get_or w j 0) (slice (j + 1) e w) rest_up (omega arith)))
+        rw (drop-step v i h, drop-step w j l, p)
+        (contact-skip m (get_or w j 0) (drop (i + 1) v) (drop (j + 1) w)
+        ∙ contact-drop m (get_or w j 0) (drop (i + 1) v) (drop (j + 1) w)
+        (not-below n (get_or w j 0 + 1) (get_or w j 0) (drop (j + 1) w) rest_up (omega arith)))
 
   module _ (inputs : List ℕ) (a : member (get_or w j 0) inputs ≡ false) where
-    pub contact-here : get_or m (get_or w j 0) 0 ≡ 1 → has_contact m inputs (slice j e w) ≡ true
+    pub contact-here : get_or m (get_or w j 0) 0 ≡ 1 → has_contact m inputs (drop j w) ≡ true
     unfolding has_contact some
-    contact-here p = rw (slice-step w j e l f, same-yes (get_or m (get_or w j 0) 0) 1, a)
+    contact-here p = rw (drop-step w j l, same-yes (get_or m (get_or w j 0) 0) 1, a)
 
-    pub contact-free : (get_or m (get_or w j 0) 0 ≡ 1 → ⊥) → has_contact m inputs (slice j e w) ≡ has_contact m inputs (slice (j + 1) e w)
+    pub contact-free : (get_or m (get_or w j 0) 0 ≡ 1 → ⊥) → has_contact m inputs (drop j w) ≡ has_contact m inputs (drop (j + 1) w)
     unfolding has_contact some
-    contact-free p = rw (slice-step w j e l f, same-no (get_or m (get_or w j 0) 0) 1)
+    contact-free p = rw (drop-step w j l, same-no (get_or m (get_or w j 0) 0) 1)
 
-pub contact-none : (w m inputs : List ℕ) (j e : ℕ) → e ≤ j → has_contact m inputs (slice j e w) ≡ false
+pub contact-none : (w m inputs : List ℕ) (j : ℕ) → length w ≤ j → has_contact m inputs (drop j w) ≡ false
 unfolding has_contact some
-contact-none w m inputs j e h = rw (slice-none w j e h)
+contact-none w m inputs j h = rw (drop-none w j h)
 
 -- an output below the first input that is left, or after the last, is no input
-pub no-input-above : (w : List ℕ) (n i c x : ℕ) → i < c → c ≤ length w → ascends n 0 (slice i c w) ≡ true → x < get_or w i 0 → member x (slice i c w) ≡ false
-no-input-above w n i c x h g up p = not-below n (get_or w i 0) x (slice i c w) (rising-first w i c h g n 0 up) p
+pub no-input-above : (v : List ℕ) (n i x : ℕ) → i < length v → ascends n 0 (drop i v) ≡ true → x < get_or v i 0 → member x (drop i v) ≡ false
+no-input-above v n i x h up p = not-below n (get_or v i 0) x (drop i v) (from_up v [] n i h up) p
 
-pub no-input-left : (w : List ℕ) (i c x : ℕ) → c ≤ i → member x (slice i c w) ≡ false
+pub no-input-left : (v : List ℕ) (i x : ℕ) → length v ≤ i → member x (drop i v) ≡ false
 unfolding member
-no-input-left w i c x h = rw (slice-none w i c h)
+no-input-left v i x h = rw (drop-none v i h)
+
+-- each item of ascending places, as a closure over them gets it
+pub each_below : (n : ℕ) (w rest : List ℕ) → ascends n 0 w ≡ true → rest ≡ w → (k d : ℕ) → k < length rest → get_or rest k d < n
+each_below n w rest up e k d h = rw (get_or_default rest k d 0 h) (element-below n 0 rest (ap (ascends n 0) e ∙ up) k h)

@@ -5,12 +5,14 @@ use mathlib.Core.List.{List}
 use Prim.Native.Nat.{ℕ, zero, suc, ◌+◌, ◌-◌, ◌≤◌, ◌<◌}
 use native.Mathlib.Decide.{dec_lt}
 use native.Mathlib.Omega.{arith}
-use lib.Dec.{ltb}
-use borrow.Author.Tests.{lt-ltb, le-ltb}
+use Rattle.std.specs.Prelude.{Option, Some, None, Ok}
+use Rattle.std.specs.Prelude.{max}
+use Rattle.std.specs.Option.{option_or}
 use Rattle.lists.specs.Lists.{pick}
 use Rattle.net.specs.Image.{transition_count, label_at, is_bookkeeping, record_right, inputs_at}
 use Rattle.net.specs.Firing.{is_enabled, Search, lowest, malformed, nothing, search_from, lowest_enabled, quiet_from, or_else, settle_first}
-use Rattle.net.specs.Inner.Passes.{rule_of, is_end_at, pass_from, kept_as}
+use Rattle.net.specs.Inner.Passes.{rule_of, is_end_at, pass_from, kept_as, Chosen, Finds}
+use Rattle.net.specs.Inner.Arcs.{ArcsOf}
 
 module _ (w m : List ℕ) where
   -- by the old rule nothing is kept
@@ -56,161 +58,117 @@ module _ (w m : List ℕ) where
   one-pass true = sym (settling-pass (transition_count w) 0)
   one-pass false = sym (lowest-pass (transition_count w) 0)
 
--- ---- the pass over n transitions, at transition t, with `best` kept
+-- ---- the pass at transition t, with something kept
 
-kept-none : (n : ℕ) → kept_as n n ≡ nothing
-kept-none n = rw (le-ltb n n (omega arith)) refl
+or_kept : (kept : Option ℕ) (t : ℕ) → or_else (kept_as kept) (lowest t) ≡ kept_as (option_or kept (Some t))
+or_kept None t = refl
+or_kept (Some best) t = refl
 
-pub kept-found : (n t : ℕ) → t < n → lowest t ≡ kept_as n t
-kept-found n t h = rw (lt-ltb t n h) refl
+module _ (w m : List ℕ) (settle : Bool) (t : ℕ) (kept : Search) where
+  pub pass-end : transition_count w ≤ t → pass_from w m settle kept (transition_count w - t) t ≡ kept
+  unfolding pass_from
+  pass-end h = let e : transition_count w - t ≡ 0 = omega arith in rw e
 
-pub kept-nothing : (n t : ℕ) → n ≤ t → nothing ≡ kept_as n t
-kept-nothing n t h = rw (le-ltb t n h) refl
+  module _ (h : t < transition_count w) where
+    left_over : transition_count w - t ≡ suc (transition_count w - (t + 1))
+    left_over = omega arith
 
--- the lower of what is kept and an enabled transition
-pub kept-lower : (n best t r : ℕ) → t < n → (best < n → best < t) → best ≤ n → r ≡ pick (ltb best t) best t → or_else (kept_as n best) (lowest t) ≡ kept_as n r
-kept-lower n best t r h f l e = go (dec_lt best n)
-  where
-    go : Dec (best < n) → or_else (kept_as n best) (lowest t) ≡ kept_as n r
-    go (yes k) =
-        let q : r ≡ best = e ∙ rw (lt-ltb best t (f k)) refl in
-        rw (q, lt-ltb best n k) refl
-    go (no k) =
-        let q : r ≡ t = e ∙ rw (le-ltb best t (omega arith)) refl in
-        rw (q, le-ltb best n (omega arith), lt-ltb t n h) refl
-
-module _ (w m : List ℕ) (settle : Bool) (n : ℕ) where
-  pub pass-start : transition_count w ≡ n → rule_of settle w m ≡ pass_from w m settle (kept_as n n) (n - 0) 0
-  pass-start e = let z : transition_count w ≡ n - 0 = omega arith in one-pass w m settle ∙ rw (z, kept-none n) refl
-
-  module _ (t : ℕ) (kept : Search) where
-    pub pass-end : n ≤ t → pass_from w m settle kept (n - t) t ≡ kept
+    pub pass-wrong : record_right w t ≡ false → pass_from w m settle kept (transition_count w - t) t ≡ malformed
     unfolding pass_from
-    pass-end h = let e : n - t ≡ 0 = omega arith in rw e
+    pass-wrong a = rw (left_over, a)
 
-    module _ (h : t < n) where
-      left_over : n - t ≡ suc (n - (t + 1))
-      left_over = omega arith
-
-      pub pass-wrong : record_right w t ≡ false → pass_from w m settle kept (n - t) t ≡ malformed
+    module _ (a : record_right w t ≡ true) where
+      pub pass-off : is_enabled m (inputs_at w t) ≡ false
+          → pass_from w m settle kept (transition_count w - t) t ≡ pass_from w m settle kept (transition_count w - (t + 1)) (t + 1)
       unfolding pass_from
-      pass-wrong a = rw (left_over, a)
+      pass-off p = rw (left_over, a, p)
 
-      module _ (a : record_right w t ≡ true) (ins : List ℕ) (i : ins ≡ inputs_at w t) where
-        pub pass-off : is_enabled m ins ≡ false → pass_from w m settle kept (n - t) t ≡ pass_from w m settle kept (n - (t + 1)) (t + 1)
+      module _ (p : is_enabled m (inputs_at w t) ≡ true) where
+        pub pass-stop : is_end_at w settle t ≡ true → pass_from w m settle kept (transition_count w - t) t ≡ lowest t
         unfolding pass_from
-        pass-off p = rw (left_over, a, ← i, p)
+        pass-stop q = rw (left_over, a, p, q)
 
-        pub pass-stop : is_enabled m ins ≡ true → is_end_at w settle t ≡ true → pass_from w m settle kept (n - t) t ≡ lowest t
+        pub pass_on : is_end_at w settle t ≡ false
+            → pass_from w m settle kept (transition_count w - t) t ≡ pass_from w m settle (or_else kept (lowest t)) (transition_count w - (t + 1)) (t + 1)
         unfolding pass_from
-        pass-stop p q = rw (left_over, a, ← i, p, q)
+        pass_on q = rw (left_over, a, p, q)
 
-        pub pass_on : is_enabled m ins ≡ true → is_end_at w settle t ≡ false
-            → pass_from w m settle kept (n - t) t ≡ pass_from w m settle (or_else kept (lowest t)) (n - (t + 1)) (t + 1)
-        unfolding pass_from
-        pass_on p q = rw (left_over, a, ← i, p, q)
-
--- ---- what a pass has come to at transition t, with `best` kept
-
-pub record Passed (w m : List ℕ) (settle : Bool) (n best t : ℕ) : Type 0 where
-  pub inside : t ≤ n
-  pub best-inside : best ≤ n
-  pub before : best < n → best < t
-  pub finds : rule_of settle w m ≡ pass_from w m settle (kept_as n best) (n - t) t
+-- what a pass has come to at transition t: the records met are right, and so is what it kept
+pub record Passed (w m : List ℕ) (settle : Bool) (kept : Option ℕ) (t : ℕ) : Type 0 where
+  pub finds : rule_of settle w m ≡ pass_from w m settle (kept_as kept) (transition_count w - t) t
   pub right : (k : ℕ) → k < t → record_right w k ≡ true
-  pub enabled : best < n → is_enabled m (inputs_at w best) ≡ true
+  pub keeps : (b : ℕ) → kept ≡ Some b → Chosen w m b
 
--- what the search has found where it ends: `best`, or nothing if that is n; the records below t, and that of `best`, are right
-pub record Searched (w m : List ℕ) (settle : Bool) (n best t : ℕ) : Type 0 where
-  pub finds : rule_of settle w m ≡ kept_as n best
-  pub below : best < n → best ≤ t
-  pub right : (k : ℕ) → k < t → record_right w k ≡ true
-  pub best-right : best < n → record_right w best ≡ true
-  pub enabled : best < n → is_enabled m (inputs_at w best) ≡ true
-
-module _ (w m : List ℕ) (settle : Bool) (n : ℕ) where
-  pub passed_start : transition_count w ≡ n → Passed w m settle n n 0
-  passed_start e =
-      record {
-        inside = omega arith;
-        best-inside = omega arith;
-        before = λ h. absurd (omega arith);
-        finds = pass-start w m settle n e;
+module _ (w m : List ℕ) (settle : Bool) where
+  pub passed_start : Passed w m settle None 0
+  passed_start =
+      let z : transition_count w - 0 ≡ transition_count w = omega arith in record {
+        finds = one-pass w m settle ∙ rw z refl;
         right = λ k h. absurd (omega arith);
-        enabled = λ h. absurd (omega arith);
+        keeps = λ b e. absurd (none_some b e);
       }
+    where
+      none_some : (b : ℕ) → None ≡ Some b → ⊥
+      none_some b e = cc
 
-  module _ (best t : ℕ) (P : Passed w m settle n best t) where
-    pub searched-end : n ≤ t → Searched w m settle n best t
-    searched-end h =
-        record {
-          finds = P.finds ∙ pass-end w m settle n t (kept_as n best) h;
-          below = λ k. omega (arith, P.before k);
-          right = P.right;
-          best-right = λ k. P.right best (P.before k);
-          enabled = P.enabled;
-        }
+  module _ (kept : Option ℕ) (t : ℕ) (P : Passed w m settle kept t) where
+    -- the search ends with what was kept
+    pub passed-end : transition_count w ≤ t → Finds w m settle (Ok kept)
+    passed-end h = go kept refl
+      where
+        go : (k : Option ℕ) → kept ≡ k → Finds w m settle (Ok k)
+        go None e = P.finds ∙ pass-end w m settle t (kept_as kept) h ∙ ap kept_as e
+        go (Some b) e = (P.finds ∙ pass-end w m settle t (kept_as kept) h ∙ ap kept_as e, P.keeps b e)
 
-    module _ (h : t < n) where
+    module _ (h : t < transition_count w) where
       pub passed-wrong : record_right w t ≡ false → rule_of settle w m ≡ malformed
-      passed-wrong a = P.finds ∙ pass-wrong w m settle n t (kept_as n best) h a
+      passed-wrong a = P.finds ∙ pass-wrong w m settle t (kept_as kept) h a
 
-      module _ (a : record_right w t ≡ true) (ins : List ℕ) (i : ins ≡ inputs_at w t) where
+      module _ (ins outs : List ℕ) (a : ArcsOf w t ins outs) where
         all_right : (k : ℕ) → k < t + 1 → record_right w k ≡ true
         all_right k l = go (dec_lt k t)
           where
             go : Dec (k < t) → record_right w k ≡ true
             go (yes d) = P.right k d
-            go (no d) = let e : k ≡ t = omega arith in ap (record_right w) e ∙ a
+            go (no d) = let e : k ≡ t = omega arith in ap (record_right w) e ∙ a.right
 
-        pub passed-off : is_enabled m ins ≡ false → Passed w m settle n best (t + 1)
+        pub passed-off : is_enabled m ins ≡ false → Passed w m settle kept (t + 1)
         passed-off p =
             record {
-              inside = omega arith;
-              best-inside = P.best-inside;
-              before = λ k. omega (arith, P.before k);
-              finds = P.finds ∙ pass-off w m settle n t (kept_as n best) h a ins i p;
+              finds = P.finds ∙ pass-off w m settle t (kept_as kept) h a.right (ap (is_enabled m) (sym a.inputs-are) ∙ p);
               right = all_right;
-              enabled = P.enabled;
+              keeps = P.keeps;
             }
 
-        pub passed_on : is_enabled m ins ≡ true → is_end_at w settle t ≡ false → (r : ℕ) → r ≡ pick (ltb best t) best t → Passed w m settle n r (t + 1)
-        passed_on p q r e =
-            record {
-              inside = omega arith;
-              best-inside = low.0;
-              before = λ k. omega (arith, low.1);
-              finds = P.finds ∙ pass_on w m settle n t (kept_as n best) h a ins i p q
-                  ∙ ap (λ (s : Search). pass_from w m settle s (n - (t + 1)) (t + 1)) (kept-lower n best t r h P.before P.best-inside e);
-              right = all_right;
-              enabled = λ k. on (dec_lt best t) e;
-            }
-          where
-            low : (r ≤ n) × (r ≤ t)
-            low = go (dec_lt best t)
-              where
-                go : Dec (best < t) → (r ≤ n) × (r ≤ t)
-                go (yes d) = let z : r ≡ best = e ∙ rw (lt-ltb best t d) refl in (omega arith, omega arith)
-                go (no d) = let z : r ≡ t = e ∙ rw (le-ltb best t (omega arith)) refl in (omega arith, omega arith)
+        module _ (p : is_enabled m ins ≡ true) where
+          here : Chosen w m t
+          here = record { below = h; right = a.right; enabled = ap (is_enabled m) (sym a.inputs-are) ∙ p }
 
-            on : Dec (best < t) → r ≡ pick (ltb best t) best t → is_enabled m (inputs_at w r) ≡ true
-            on (yes d) e = let z : r ≡ best = e ∙ rw (lt-ltb best t d) refl in rw z (P.enabled (omega arith))
-            on (no d) e = let z : r ≡ t = e ∙ rw (le-ltb best t (omega arith)) refl in rw (z, ← i) p
+          pub passed_on : is_end_at w settle t ≡ false → (next : Option ℕ) → next ≡ option_or kept (Some t) → Passed w m settle next (t + 1)
+          passed_on q next e =
+              record {
+                finds = P.finds ∙ pass_on w m settle t (kept_as kept) h a.right here.enabled q
+                    ∙ ap (λ (s : Search). pass_from w m settle s (transition_count w - (t + 1)) (t + 1)) (or_kept kept t ∙ ap kept_as (sym e));
+                right = all_right;
+                keeps = λ b f. go kept refl b (sym e ∙ f);
+              }
+            where
+              same_some : (x y : ℕ) → Some x ≡ Some y → y ≡ x
+              same_some x y f = cc
 
-        pub searched-stop : is_enabled m ins ≡ true → is_end_at w settle t ≡ true → Searched w m settle n t t
-        searched-stop p q =
-            record {
-              finds = P.finds ∙ pass-stop w m settle n t (kept_as n best) h a ins i p q ∙ kept-found n t h;
-              below = λ k. omega arith;
-              right = P.right;
-              best-right = λ k. a;
-              enabled = λ k. ap (is_enabled m) (sym i) ∙ p;
-            }
+              go : (k : Option ℕ) → kept ≡ k → (b : ℕ) → option_or k (Some t) ≡ Some b → Chosen w m b
+              go None i b f = rw (same_some t b f) here
+              go (Some x) i b f = P.keeps b (i ∙ f)
 
--- the records up to the one found are right
-pub found_right : (w m : List ℕ) (settle : Bool) (n best t : ℕ) → Searched w m settle n best t → best < n → (k : ℕ) → k < best + 1 → record_right w k ≡ true
-found_right w m settle n best t S h k l = go (dec_lt k best)
+          pub passed-stop : is_end_at w settle t ≡ true → Finds w m settle (Ok (Some t))
+          passed-stop q = (P.finds ∙ pass-stop w m settle t (kept_as kept) h a.right here.enabled q, here)
+
+-- the records met, and those met before, are right
+pub seen_more : (w : List ℕ) (t seen n : ℕ) → ((k : ℕ) → k < t → record_right w k ≡ true) → record_right w t ≡ true
+    → ((k : ℕ) → k < seen → record_right w k ≡ true) → n ≡ max seen (t + 1) → (k : ℕ) → k < n → record_right w k ≡ true
+seen_more w t seen n f r g e k h = go (dec_lt k seen) (dec_lt k t)
   where
-    go : Dec (k < best) → record_right w k ≡ true
-    go (yes d) = S.right k (omega (arith, S.below h))
-    go (no d) = let e : k ≡ best = omega arith in ap (record_right w) e ∙ S.best-right h
+    go : Dec (k < seen) → Dec (k < t) → record_right w k ≡ true
+    go (yes p) q = g k p
+    go (no p) (yes q) = f k q
+    go (no p) (no q) = let i : k ≡ t = omega (arith, e, h) in ap (record_right w) i ∙ r

@@ -13,7 +13,17 @@ use Rattle.net.specs.declared.Ran.{Ran}
 use Rattle.net.specs.Image.{place_count_of, transition_count, is_header_right, inputs_at, record_right}
 use Rattle.net.specs.Firing.{is_marking, is_enabled, Step, made, refused, step, Search, lowest, malformed, nothing, search_from}
 use Rattle.net.specs.Firing.{lowest_enabled, Ending, limit_reached, history_full, nothing_enabled, stopped, RunOutcome, ended, preceded, run_by, run_of}
-use Rattle.net.specs.Answers.{ending, Leaves}
+use Rattle.net.specs.declared.Cause.{Cause}
+use Rattle.net.specs.Answers.{cause_number, ending, Leaves}
+use Rattle.net.specs.declared.Cause.TheVariants.{RecordWrong}
+use Rattle.net.specs.declared.Reason.{Reason}
+use Rattle.net.specs.declared.Reason.TheVariants.{Stopped}
+use Rattle.std.specs.Prelude.{Result, Err}
+use Rattle.std.specs.Result.{IsErrAnd}
+use Rattle.std.proofs.lemmas.Result.{err_from_is_err_and}
+use Rattle.net.specs.Inner.Lent.{lent_cause}
+use Rattle.net.specs.Inner.Passes.{rule_of, Turned}
+use Rattle.net.proofs.Lent.{refused_first}
 
 -- ---- what a search of the old rule found
 
@@ -98,20 +108,70 @@ none-enabled w m e k h = none_from w m (transition_count w) 0 e k (omega arith) 
 -- ---- a run
 
 module _ (w : List ℕ) (rule : List ℕ → Search) (m : List ℕ) (limit room : ℕ) where
-  pub run-no-image : is_header_right w ≡ false → run_of w rule m limit room ≡ ended (stopped 11) m
+  pub run_refused : (x : Cause) → cause_number x ≡ lent_cause w m → run_of w rule m limit room ≡ ended (stopped (cause_number x)) m
   unfolding run_of
-  run-no-image a = rw a
+  run_refused x e = sym (refused_first w m x e (λ c. ended (stopped c) m) (run_by w rule limit room m))
 
-  module _ (a : is_header_right w ≡ true) where
-    pub run-no-marking : is_marking (place_count_of w) m ≡ false → run_of w rule m limit room ≡ ended (stopped 13) m
-    unfolding run_of
-    run-no-marking b = rw (a, b)
+  pub run-as : is_header_right w ≡ true → is_marking (place_count_of w) m ≡ true → run_of w rule m limit room ≡ run_by w rule limit room m
+  unfolding run_of
+  run-as a b = rw (a, b)
 
-    pub run-as : is_marking (place_count_of w) m ≡ true → run_of w rule m limit room ≡ run_by w rule limit room m
-    unfolding run_of
-    run-as b = rw (a, b)
+-- a turn that neither limit nor history ends
+module _ (w : List ℕ) (rule : List ℕ → Search) (m : List ℕ) (limit room : ℕ) where
+  abbrev go_on : Step → ℕ → RunOutcome
+  go_on (made next) t = preceded (t ∷ []) (run_by w rule limit room next)
+  go_on (refused cause) t = ended (stopped cause) m
 
--- a turn, k firings made
+  abbrev found : Search → RunOutcome
+  found nothing = ended nothing_enabled m
+  found malformed = ended (stopped 12) m
+  found (lowest t) = go_on (step w m t) t
+
+  by-search : run_by w rule (suc limit) (suc room) m ≡ found (rule m)
+  unfolding run_by
+  by-search = same (rule m)
+    where
+      same2 : (s : Step) (t : ℕ) → elim s [ made next ↦ preceded (t ∷ []) (run_by w rule limit room next) | refused cause ↦ ended (stopped cause) m ] ≡ go_on s t
+      same2 (made next) t = refl
+      same2 (refused cause) t = refl
+
+      same : (s : Search) → elim s [
+        | nothing ↦ ended nothing_enabled m
+        | malformed ↦ ended (stopped 12) m
+        | lowest t ↦ elim
+            (step w m t) [ made next ↦ preceded (t ∷ []) (run_by w rule limit room next) | refused cause ↦ ended (stopped cause) m ]
+      ] ≡ found s
+      same nothing = refl
+      same malformed = refl
+      same (lowest t) = same2 (step w m t) t
+
+  pub run-nothing : rule m ≡ nothing → run_by w rule (suc limit) (suc room) m ≡ ended nothing_enabled m
+  run-nothing e = by-search ∙ ap found e
+
+  pub run-malformed : rule m ≡ malformed → run_by w rule (suc limit) (suc room) m ≡ ended (stopped 12) m
+  run-malformed e = by-search ∙ ap found e
+
+  pub run-refused : (t c : ℕ) → rule m ≡ lowest t → step w m t ≡ refused c → run_by w rule (suc limit) (suc room) m ≡ ended (stopped c) m
+  run-refused t c e s = by-search ∙ ap found e ∙ ap (λ (x : Step). go_on x t) s
+
+  pub run-made : (t : ℕ) (next : List ℕ) → rule m ≡ lowest t → step w m t ≡ made next
+      → run_by w rule (suc limit) (suc room) m ≡ preceded (t ∷ []) (run_by w rule limit room next)
+  run-made t next e s = by-search ∙ ap found e ∙ ap (λ (x : Step). go_on x t) s
+
+-- why a turn ends a run
+module _ (w : List ℕ) (settle : Bool) (m after : List ℕ) where
+  pub turned-err : (r : Result ℕ Reason) (e : Reason) → IsErrAnd r (λ x. x ≡ e) → Turned w settle m after (Err e) → Turned w settle m after r
+  turned-err r e h t = let x = err_from_is_err_and r h in subst (λ (q : Result ℕ Reason). Turned w settle m after q) (sym (x.1 ∙ ap Err x.2)) t
+
+  pub turned-malformed : (c : Cause) → (rule_of settle w m ≡ malformed) × (c ≡ RecordWrong) → after ≡ m → Turned w settle m after (Err (Stopped c))
+  turned-malformed c h e =
+      λ limit room. run-malformed w (rule_of settle w) m limit room h.0 ∙ rw (h.1, e) refl
+
+  pub turned-refused : (t : ℕ) (c : Cause) → rule_of settle w m ≡ lowest t → step w m t ≡ refused (cause_number c) → after ≡ m
+      → Turned w settle m after (Err (Stopped c))
+  turned-refused t c f s e = λ limit room. run-refused w (rule_of settle w) m limit room t (cause_number c) f s ∙ rw e refl
+
+-- what is left, k firings made
 module _ (w : List ℕ) (rule : List ℕ → Search) (m : List ℕ) (limit room k : ℕ) where
   pub run-limit : limit ≤ k → run_by w rule (limit - k) (room - k) m ≡ ended limit_reached m
   unfolding run_by
@@ -125,60 +185,8 @@ module _ (w : List ℕ) (rule : List ℕ → Search) (m : List ℕ) (limit room 
     unfolding run_by
     run-full h = let e : room - k ≡ 0 = omega arith in rw (more, e)
 
-    module _ (r : k < room) where
-      more_room : room - k ≡ suc (room - (k + 1))
-      more_room = omega arith
-
-      turn : run_by w rule (limit - k) (room - k) m ≡ run_by w rule (suc (limit - (k + 1))) (suc (room - (k + 1))) m
-      turn = rw (more, more_room)
-
-      abbrev go_on : Step → ℕ → RunOutcome
-      go_on (made next) t = preceded (t ∷ []) (run_by w rule (limit - (k + 1)) (room - (k + 1)) next)
-      go_on (refused cause) t = ended (stopped cause) m
-
-      abbrev found : Search → RunOutcome
-      found nothing = ended nothing_enabled m
-      found malformed = ended (stopped 12) m
-      found (lowest t) = go_on (step w m t) t
-
-      by-search : run_by w rule (limit - k) (room - k) m ≡ found (rule m)
-      unfolding run_by
-      by-search = turn ∙ same (rule m)
-        where
-          same2 : (s : Step) (t : ℕ) → elim s [
-            | made next ↦ preceded (t ∷ []) (run_by w rule (limit - (k + 1)) (room - (k + 1)) next)
-            | refused cause ↦ ended
-                (stopped cause) m
-          ] ≡ go_on s t
-          same2 (made next) t = refl
-          same2 (refused cause) t = refl
-
-          same : (s : Search) → elim s [
-            | nothing ↦ ended nothing_enabled m
-            | malformed ↦ ended (stopped 12) m
-            | lowest t ↦ elim
-                (step w m t) [
-                  | made next ↦ preceded (t ∷ []) (run_by w rule (limit - (k + 1)) (room - (k + 1)) next)
-                  | refused cause ↦ ended
-                      (stopped cause) m
-                ]
-          ] ≡ found s
-          same nothing = refl
-          same malformed = refl
-          same (lowest t) = same2 (step w m t) t
-
-      pub run-nothing : rule m ≡ nothing → run_by w rule (limit - k) (room - k) m ≡ ended nothing_enabled m
-      run-nothing e = by-search ∙ ap found e
-
-      pub run-malformed : rule m ≡ malformed → run_by w rule (limit - k) (room - k) m ≡ ended (stopped 12) m
-      run-malformed e = by-search ∙ ap found e
-
-      pub run-refused : (t c : ℕ) → rule m ≡ lowest t → step w m t ≡ refused c → run_by w rule (limit - k) (room - k) m ≡ ended (stopped c) m
-      run-refused t c e s = by-search ∙ ap found e ∙ ap (λ (x : Step). go_on x t) s
-
-      pub run-made : (t : ℕ) (next : List ℕ) → rule m ≡ lowest t → step w m t ≡ made next
-          → run_by w rule (limit - k) (room - k) m ≡ preceded (t ∷ []) (run_by w rule (limit - (k + 1)) (room - (k + 1)) next)
-      run-made t next e s = by-search ∙ ap found e ∙ ap (λ (x : Step). go_on x t) s
+    pub run-turn : k < room → run_by w rule (limit - k) (room - k) m ≡ run_by w rule (suc (limit - (k + 1))) (suc (room - (k + 1))) m
+    run-turn r = let e : room - k ≡ suc (room - (k + 1)) = omega arith in rw (more, e)
 
 -- ---- the run from its beginning, k numbers made
 
@@ -208,7 +216,7 @@ pub run_on : (w : List ℕ) (rule : List ℕ → Search) (m h : List ℕ) (limit
 run_on w rule m h limit room k o e l r len t next s p =
     let x = run_by w rule (limit - (k + 1)) (room - (k + 1)) next in
     let d : take (k + 1) (set h k t) ≡ take k h ++ (t ∷ []) = rw add-one (take-suc-set h k t (omega arith)) in
-    e ∙ ap (preceded (take k h)) (run-made w rule m limit room k l r t next s p) ∙ preceded-more (take k h) t x ∙ ap (λ (y : List ℕ). preceded y x) (sym d)
+    e ∙ ap (preceded (take k h)) (run-turn w rule m limit room k l r ∙ run-made w rule m (limit - (k + 1)) (room - (k + 1)) t next s p) ∙ preceded-more (take k h) t x ∙ ap (λ (y : List ℕ). preceded y x) (sym d)
 
 -- the rest of the history stays as it was
 pub rest-kept : (h lent : List ℕ) (k t : ℕ) → drop k h ≡ drop k lent → drop (k + 1) (set h k t) ≡ drop (k + 1) lent

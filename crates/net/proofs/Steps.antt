@@ -1,20 +1,22 @@
 -- What one firing gives, case by case, and what it gives to numbers fired in turn.
 use mathlib.Core.Path.{◌≡◌, refl, sym, ap, ◌∙◌}
-use mathlib.Core.Bool.{Bool, true, false, not}
+use mathlib.Core.Bool.{true, false}
 use mathlib.Core.List.{List, [], ◌∷◌}
 use Prim.Native.Nat.{ℕ, ◌+◌, ◌≤◌, ◌<◌}
 use native.Mathlib.Nat.{zero-add}
 use native.Mathlib.Omega.{arith}
 use lib.Dec.{leb}
 use lib.ListN.{length, get_or, drop, replicate, length-replicate}
-use lib.Seq.{slice}
 use borrow.Author.Tests.{lt-ltb, le-ltb}
-use Rattle.lists.specs.Lists.{pick, same, every}
+use Rattle.lists.specs.Lists.{same, every}
 use Rattle.lists.proofs.Tests.{and_left, same-yes, same-no, same_true}
 use Rattle.lists.proofs.Slices.{drop-step, drop-none}
 use Rattle.net.proofs.Marks.{length-put}
-use Rattle.net.proofs.Images.{Good}
-use Rattle.net.specs.Inner.Arcs.{Fired}
+use Rattle.net.specs.declared.Cause.{Cause}
+use Rattle.net.specs.Answers.{cause_number}
+use Rattle.net.specs.Inner.Arcs.{ArcsOf}
+use Rattle.net.specs.Inner.Lent.{lent_cause}
+use Rattle.net.proofs.Lent.{refused_first}
 use Rattle.net.specs.Image.{place_count_of, transition_count, initial_places, is_header_right, inputs_at, outputs_at, record_right}
 use Rattle.net.specs.Firing.{is_marking, is_enabled, has_contact, put, moved, initial_marking, Step, made, refused}
 use Rattle.net.specs.Firing.{step_of, step, Outcome, outcome, after, in_turn, fire, replay}
@@ -48,9 +50,9 @@ module _ (w m : List ℕ) (t : ℕ) where
     unfolding step
     step-as a ins outs p q = rw (lt-ltb t (transition_count w), a, p, q)
 
-    -- by the arcs that were decoded
-    pub step-good : (f c e : ℕ) → Good w t f c e → step w m t ≡ step_of m (slice f c w) (slice c e w)
-    step-good f c e g = step-as g.right (slice f c w) (slice c e w) g.inputs g.outputs
+    -- by the arcs of a right record
+    pub step-arcs : (ins outs : List ℕ) → ArcsOf w t ins outs → step w m t ≡ step_of m ins outs
+    step-arcs ins outs a = step-as a.right ins outs a.inputs-are a.outputs-are
 
   -- ---- a number at the head of those fired in turn
 
@@ -94,34 +96,13 @@ unfolding is_marking
 marking-length n m h = same_true (length m) n (and_left (same (length m) n) (every (λ byte. leb byte 1) m) h)
 
 module _ (w m : List ℕ) (t : ℕ) where
-  pub fire-no-image : is_header_right w ≡ false → fire w m t ≡ outcome 11 0 m
+  pub fire_refused : (x : Cause) → cause_number x ≡ lent_cause w m → outcome (cause_number x) 0 m ≡ fire w m t
   unfolding fire
-  fire-no-image a = rw a
+  fire_refused x e = refused_first w m x e (λ c. outcome c 0 m) (in_turn w m (t ∷ []))
 
-  module _ (a : is_header_right w ≡ true) where
-    pub fire-no-marking : is_marking (place_count_of w) m ≡ false → fire w m t ≡ outcome 13 0 m
-    unfolding fire
-    fire-no-marking b = rw (a, b)
-
-    pub fire-as : is_marking (place_count_of w) m ≡ true → fire w m t ≡ in_turn w m (t ∷ [])
-    unfolding fire
-    fire-as b = rw (a, b)
-
--- an enabled transition is fired or meets a contact
-pub fired-enabled : (s : Step) (m ins outs next : List ℕ) (r : Bool) → s ≡ step_of m ins outs → is_enabled m ins ≡ true → r ≡ not (has_contact m ins outs)
-    → next ≡ pick r (moved m ins outs) m → Fired s m r next
-fired-enabled s m ins outs next r e a b n =
-    record {
-      step_is = e ∙ go (has_contact m ins outs) refl;
-      left = λ p. n ∙ ap (λ (x : Bool). pick x (moved m ins outs) m) p;
-    }
-  where
-    go : (x : Bool) → has_contact m ins outs ≡ x → step_of m ins outs ≡ pick r (made next) (refused 16)
-    go true q = step-contact m ins outs a q ∙ sym (ap (λ (y : Bool). pick y (made next) (refused 16)) (b ∙ ap not q))
-    go false q =
-        let t : r ≡ true = b ∙ ap not q in
-        step-made m ins outs a q ∙ ap made (sym (n ∙ ap (λ (y : Bool). pick y (moved m ins outs) m) t))
-        ∙ sym (ap (λ (y : Bool). pick y (made next) (refused 16)) t)
+  pub fire-as : is_header_right w ≡ true → is_marking (place_count_of w) m ≡ true → fire w m t ≡ in_turn w m (t ∷ [])
+  unfolding fire
+  fire-as a b = rw (a, b)
 
 -- ---- a replay, i of its numbers made
 
@@ -156,9 +137,9 @@ module _ (w m ts : List ℕ) where
     unfolding replay
     replay-as b = rw (a, same-yes (length m) (place_count_of w))
 
-  pub replay-end : (i : ℕ) → length ts ≤ i → after i (in_turn w m (drop i ts)) ≡ outcome 0 i m
+  pub replay-end : (i : ℕ) → length ts ≤ i → i ≤ length ts → after i (in_turn w m (drop i ts)) ≡ outcome 0 (length ts) m
   unfolding in_turn
-  replay-end i h = rw (drop-none ts i h) (after_last i 0 m)
+  replay-end i h k = let e : i ≡ length ts = omega arith in rw (drop-none ts i h) (after_last i 0 m ∙ ap (λ (n : ℕ). outcome 0 n m) e)
 
   module _ (i : ℕ) (h : i < length ts) (next : List ℕ) where
     pub replay-more : outcome 0 1 next ≡ in_turn w m (get_or ts i 0 ∷ []) → after i (in_turn w m (drop i ts)) ≡ after (i + 1) (in_turn w next (drop (i + 1) ts))

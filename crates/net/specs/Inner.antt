@@ -1,3 +1,4 @@
 -- What only the promises of private functions cite.
 pub mod Arcs
+pub mod Lent
 pub mod Passes

@@ -1,66 +1,55 @@
 // Records and arcs of an image, and the tokens of the places that a list of arcs has.
-ghost use Rattle.std.specs.Prelude.{true, ◌≡◌, ◌<◌, ◌≤◌, length, replicate};
-ghost use Rattle.std.proofs.Math.Seq.{slice};
+ghost use Rattle.std.specs.Prelude.{true, false, ◌≡◌, ◌<◌, ◌≤◌, length, MatchOption};
 ghost use Rattle.lists.specs.Lists.{ascends};
 ghost use Rattle.net.specs.Image.{transition_count, given_length, record_right};
 ghost use Rattle.net.specs.Firing.{is_enabled, has_contact, put, moved};
-ghost use Rattle.net.specs.Inner.Arcs.{Header, Start, decoded, Listed, Offsets};
+ghost use Rattle.net.specs.Inner.Arcs.{Header, Start, Offsets, ArcsOf};
+
+// The inputs and the outputs of a transition: places, ascending.
+#[derive(Clone, Copy)]
+pub struct Arcs<'a> {
+    pub inputs: &'a [u32],
+    pub outputs: &'a [u32],
+}
 
 // Where the inputs of a transition start, where its outputs start and where they end.
 #[derive(Clone, Copy)]
-pub struct Span {
-    pub inputs: usize,
-    pub outputs: usize,
-    pub end: usize,
+struct Span {
+    inputs: usize,
+    outputs: usize,
+    end: usize,
 }
 
-// A transition's record, decoded: the same three offsets, or a record or arcs that are wrong.
-#[derive(Clone, Copy)]
-pub enum Record {
-    Arcs(usize, usize, usize),
-    Wrong,
-}
-
-// Whether the words from `start` to `end` ascend strictly and lie below `places`: each pair of neighbours is looked at,
-// and the last word.
-pub(crate) fn rising(words: &[u32], start: usize, end: usize, places: usize) -> bool
-    requires { end ≤ length words.now }
-    ensures { result ≡ ascends places 0 (slice start end words.now) }
+// Whether the words ascend strictly and lie below `places`: each pair of neighbours is looked at, and the last word.
+pub(crate) fn rising(words: &[u32], places: usize) -> bool
+    ensures { result ≡ ascends places 0 words.now }
 {
-    if end <= start {
+    if words.is_empty() {
         return true;
     }
-    let last = end - 1;
+    let last = words.len() - 1;
     let mut right = true;
-    let mut i = start;
-    while i < last {
+    for i in 0..last {
         if words[i + 1] <= words[i] {
             right = false;
         }
-        i += 1;
     }
-    if right {
-        return (words[last] as usize) < places;
-    }
-    false
+    right && (words[last] as usize) < places
 }
 
 // The same, of a list that is short, as a transition's are: it is left at the first word that does not rise. A long one
 // is looked over faster by wide steps, which `rising` allows.
-pub(crate) fn rising_short(words: &[u32], start: usize, end: usize, places: usize) -> bool
-    requires { end ≤ length words.now }
-    ensures { result ≡ ascends places 0 (slice start end words.now) }
+fn rising_short(words: &[u32], places: usize) -> bool
+    ensures { result ≡ ascends places 0 words.now }
 {
-    if end <= start {
+    if words.is_empty() {
         return true;
     }
-    let last = end - 1;
-    let mut i = start;
-    while i < last {
+    let last = words.len() - 1;
+    for i in 0..last {
         if words[i + 1] <= words[i] {
             return false;
         }
-        i += 1;
     }
     (words[last] as usize) < places
 }
@@ -86,7 +75,7 @@ pub(crate) fn length_given(image: &[u32], arcs: usize) -> usize
 }
 
 // The offsets in a transition's record, unchecked.
-pub(crate) fn span_of(image: &[u32], transition: usize) -> Span
+fn span_of(image: &[u32], transition: usize) -> Span
     requires { Header image.now × (transition < transition_count image.now) }
     ensures { Offsets image.now transition result.inputs result.outputs result.end }
 {
@@ -96,79 +85,83 @@ pub(crate) fn span_of(image: &[u32], transition: usize) -> Span
     let outputs = inputs + image[record + 4] as usize;
     let end = outputs + image[record + 5] as usize;
     Span {
-        inputs: inputs,
-        outputs: outputs,
-        end: end,
+        inputs,
+        outputs,
+        end,
     }
 }
 
-// The record of a transition. One that is known to be right is not looked over again.
-pub(crate) fn record_at(image: &[u32], transition: usize, known: bool) -> Record
-    requires { Header image.now
-        × (transition < transition_count image.now)
-        × (known ≡ true → record_right image.now transition ≡ true) }
-    ensures { result ≡ decoded image.now transition }
+// Whether a transition's record and its arcs are right.
+pub(crate) fn record_right(image: &[u32], transition: usize) -> bool
+    requires { Header image.now × (transition < transition_count image.now) }
+    ensures { result ≡ record_right image.now transition }
 {
     let span = span_of(image, transition);
     let inputs = span.inputs;
     let outputs = span.outputs;
     let end = span.end;
-    if known {
-        return Record::Arcs(inputs, outputs, end);
-    }
-    let places = image[0] as usize;
-    let arcs = arcs_start(image);
-    if inputs < arcs {
-        return Record::Wrong;
+    if inputs < arcs_start(image) {
+        return false;
     }
     if image.len() < end {
-        return Record::Wrong;
+        return false;
     }
-    if !rising_short(image, inputs, outputs, places) {
-        return Record::Wrong;
-    }
-    if !rising_short(image, outputs, end, places) {
-        return Record::Wrong;
-    }
-    Record::Arcs(inputs, outputs, end)
+    let places = image[0] as usize;
+    rising_short(&image[inputs..outputs], places) && rising_short(&image[outputs..end], places)
 }
 
-// Whether every place that the words from `start` to `end` list has its token.
-pub(crate) fn all_marked(words: &[u32], start: usize, end: usize, marking: &[u8]) -> bool
-    requires { Listed words.now start end (length marking.now) }
-    ensures { result ≡ is_enabled marking.now (slice start end words.now) }
+// The arcs of a transition whose record is right.
+pub fn arcs_of(image: &[u32], transition: usize) -> Arcs
+    requires { Header image.now
+        × (transition < transition_count image.now)
+        × (record_right image.now transition ≡ true) }
+    ensures { ArcsOf image.now transition result.inputs.now result.outputs.now }
 {
-    let mut i = start;
-    while i < end {
-        let place = words[i] as usize;
-        if marking[place] != 1 {
-            return false;
-        }
-        i += 1;
+    let span = span_of(image, transition);
+    let inputs = span.inputs;
+    let outputs = span.outputs;
+    let end = span.end;
+    Arcs {
+        inputs: &image[inputs..outputs],
+        outputs: &image[outputs..end],
     }
-    true
+}
+
+// The arcs of a transition, if its record is right. One that is known to be right is not looked over again.
+pub(crate) fn record_at(image: &[u32], transition: usize, known: bool) -> Option<Arcs>
+    requires { Header image.now
+        × (transition < transition_count image.now)
+        × (known ≡ true → record_right image.now transition ≡ true) }
+    ensures { MatchOption result (record_right image.now transition ≡ false)
+        (λ arcs. ArcsOf image.now transition arcs.inputs.now arcs.outputs.now) }
+{
+    if known || record_right(image, transition) {
+        Some(arcs_of(image, transition))
+    } else {
+        None
+    }
+}
+
+// Whether every place of a list has its token.
+pub(crate) fn all_marked(places: &[u32], marking: &[u8]) -> bool
+    requires { ascends (length marking.now) 0 places.now ≡ true }
+    ensures { result ≡ is_enabled marking.now places.now }
+{
+    places.iter().all(|place| marking[*place as usize] == 1)
 }
 
 // Whether an output has its token that is not also an input: the two ascending lists are merged.
-pub(crate) fn contact(
-    words: &[u32],
-    start: usize,
-    middle: usize,
-    end: usize,
-    marking: &[u8],
-) -> bool
-    requires { Listed words.now start middle (length marking.now)
-        × Listed words.now middle end (length marking.now) }
-    ensures { result
-        ≡ has_contact marking.now (slice start middle words.now)
-        (slice middle end words.now) }
+pub(crate) fn contact(inputs: &[u32], outputs: &[u32], marking: &[u8]) -> bool
+    requires { (ascends (length marking.now) 0 inputs.now ≡ true)
+        × (ascends (length marking.now) 0 outputs.now ≡ true) }
+    ensures { result ≡ has_contact marking.now inputs.now outputs.now }
 {
-    let mut next_input = start;
-    let mut next_output = middle;
-    while next_output < end {
-        let output = words[next_output] as usize;
-        if next_input < middle {
-            let input = words[next_input] as usize;
+    let mut next_input = 0;
+    let mut next_output = 0;
+    while next_output < outputs.len() {
+        let output = outputs[next_output] as usize;
+        if next_input < inputs.len() {
+            let input = inputs[next_input] as usize;
             if input < output {
                 next_input += 1;
                 continue;
@@ -187,44 +180,22 @@ pub(crate) fn contact(
     false
 }
 
-// Writes a byte at every place that the words from `start` to `end` list.
-pub(crate) fn put_all(words: &[u32], start: usize, end: usize, marking: &mut [u8], byte: u8)
-    requires { Listed words.now start end (length marking.old) }
-    ensures { marking.new ≡ put byte marking.old (slice start end words.now) }
+// Writes a byte at every place of a list.
+pub fn put_all(places: &[u32], marking: &mut [u8], byte: u8)
+    requires { ascends (length marking.old) 0 places.now ≡ true }
+    ensures { marking.new ≡ put byte marking.old places.now }
 {
-    let mut next = start;
-    while next < end {
-        let place = words[next] as usize;
-        marking[place] = byte;
-        next += 1;
-    }
-}
-
-// Sets every byte to 0.
-pub(crate) fn clear(marking: &mut [u8])
-    ensures { marking.new ≡ replicate (length marking.old) 0 }
-{
-    let mut i = 0;
-    while i < marking.len() {
-        marking[i] = 0;
-        i += 1;
+    for place in places {
+        marking[*place as usize] = byte;
     }
 }
 
 // Takes the inputs' tokens and gives the outputs'.
-pub(crate) fn move_tokens(
-    words: &[u32],
-    start: usize,
-    middle: usize,
-    end: usize,
-    marking: &mut [u8],
-)
-    requires { Listed words.now start middle (length marking.old)
-        × Listed words.now middle end (length marking.old) }
-    ensures { marking.new
-        ≡ moved marking.old (slice start middle words.now)
-        (slice middle end words.now) }
+pub(crate) fn move_tokens(arcs: Arcs, marking: &mut [u8])
+    requires { (ascends (length marking.old) 0 arcs.inputs.now ≡ true)
+        × (ascends (length marking.old) 0 arcs.outputs.now ≡ true) }
+    ensures { marking.new ≡ moved marking.old arcs.entry.inputs.now arcs.entry.outputs.now }
 {
-    put_all(words, start, middle, marking, 0);
-    put_all(words, middle, end, marking, 1);
+    put_all(arcs.inputs, marking, 0);
+    put_all(arcs.outputs, marking, 1);
 }

@@ -2,23 +2,24 @@
 // The tests of an image and of a marking are for the crates above too.
 #![tactic(auto)]
 
-ghost use Rattle.std.specs.Prelude.{true, ◌&&◌, ◌≡◌, [], ◌∷◌, ◌++◌, ◌<◌, ◌≤◌, ltb, length, drop};
-ghost use Rattle.lists.specs.Lists.{pick};
+ghost use Rattle.std.specs.Prelude.{ℕ, true, ◌&&◌, ◌≡◌, [], ◌∷◌, ◌<◌, length, MatchResult};
+ghost use Rattle.net.specs.declared.Refusal.TheVariants as refusals;
+ghost use Rattle.net.specs.declared.Reason.TheVariants as reasons;
 ghost use Rattle.net.specs.Image.{place_count_of, transition_count, is_header_right, inputs_at, record_right};
 ghost use Rattle.net.specs.Image.{are_records_right};
-ghost use Rattle.net.specs.Firing.{is_marking, is_enabled, initial_marking};
+ghost use Rattle.net.specs.Firing.{is_marking, is_enabled, initial_marking, moved, made, refused};
 ghost use Rattle.net.specs.Firing.{step, in_turn, fire, replay, run_by, run_of, run, run_of_lowest};
 ghost use Rattle.net.specs.Looking.{shown, look};
-ghost use Rattle.net.specs.Answers.{cause_number, firing_outcome, look_outcome, replay_outcome, Leaves};
-ghost use Rattle.net.specs.declared.Refusal.TheVariants as refusals;
-ghost use Rattle.net.specs.Inner.Arcs.{Header, Larger, Fired};
-ghost use Rattle.net.specs.Inner.Passes.{rule_of, is_end_at};
+ghost use Rattle.net.specs.Answers.{cause_number, firing_number, firing_outcome, look_outcome, replay_outcome, Leaves};
+ghost use Rattle.net.specs.Inner.Arcs.{Header, ArcsOf};
+ghost use Rattle.net.specs.Inner.Lent.{lent_cause};
+ghost use Rattle.net.specs.Inner.Passes.{rule_of, is_end_at, Finds, Turned};
 
 mod arcs;
 
+pub use arcs::{Arcs, arcs_of, put_all};
 use arcs::{
-    Record, all_marked, arcs_start, clear, contact, length_given, move_tokens, put_all, record_at,
-    rising, span_of,
+    all_marked, arcs_start, contact, length_given, move_tokens, record_at, record_right, rising,
 };
 
 // Why a call refuses: causes 11, 12, 13, 14, 15 and 16.
@@ -78,6 +79,14 @@ pub enum Reason {
     Stopped(Cause),
 }
 
+impl From<Cause> for Reason {
+    ghost from_gives = { λ c r. r ≡ reasons.Stopped c };
+
+    fn from(cause: Cause) -> Reason {
+        Reason::Stopped(cause)
+    }
+}
+
 // What a run answers: the reason and its count of firings.
 #[derive(Clone, Copy, Debug, PartialEq, Eq)]
 pub struct Ran {
@@ -93,8 +102,7 @@ pub fn header_right(image: &[u32]) -> bool
     if image.len() < 8 {
         return false;
     }
-    let tokens = image[4] as usize;
-    let records = 8 + tokens;
+    let records = 8 + image[4] as usize;
     let arcs = arcs_start(image);
     if image[5] != 8 {
         return false;
@@ -109,7 +117,7 @@ pub fn header_right(image: &[u32]) -> bool
         return false;
     }
     let places = image[0] as usize;
-    rising(image, 8, records, places)
+    rising(&image[8..records], places)
 }
 
 // Whether the header and every record are right.
@@ -120,12 +128,10 @@ pub fn records_right(image: &[u32]) -> bool
         return false;
     }
     let count = image[1] as usize;
-    let mut transition = 0;
-    while transition < count {
-        let Record::Arcs(_, _, _) = record_at(image, transition, false) else {
+    for transition in 0..count {
+        if !record_right(image, transition) {
             return false;
-        };
-        transition += 1;
+        }
     }
     true
 }
@@ -137,66 +143,16 @@ pub fn marking_right(marking: &[u8], places: usize) -> bool
     if marking.len() != places {
         return false;
     }
-    let mut highest: u8 = 0;
-    let mut i = 0;
-    while i < marking.len() {
-        if highest < marking[i] {
-            highest = marking[i];
-        }
-        i += 1;
+    let mut highest = 0;
+    for byte in marking {
+        highest = u8::max(highest, *byte);
     }
     highest <= 1
 }
 
-// One firing on an image whose header is right, at a marking of its length. It costs its arcs.
-fn fire_one(image: &[u32], marking: &mut [u8], transition: usize) -> Result<(), Cause>
-    requires { Header image.now × (length marking.old ≡ place_count_of image.now) }
-    ensures { firing_outcome result marking.new
-        ≡ in_turn image.now marking.old (transition ∷ []) }
-{
-    let count = image[1] as usize;
-    if count <= transition {
-        return Err(Cause::NoTransition);
-    }
-    let Record::Arcs(start, middle, end) = record_at(image, transition, false) else {
-        return Err(Cause::RecordWrong);
-    };
-    if !all_marked(image, start, middle, marking) {
-        return Err(Cause::NotEnabled);
-    }
-    if contact(image, start, middle, end, marking) {
-        return Err(Cause::Contact);
-    }
-    move_tokens(image, start, middle, end, marking);
-    Ok(())
-}
-
-// Fires a transition whose record is right and whose inputs have their tokens. At a contact it answers false and
-// leaves the marking.
-fn fire_enabled(image: &[u32], marking: &mut [u8], transition: usize) -> bool
-    requires { Header image.now
-        × (length marking.old ≡ place_count_of image.now)
-        × (transition < transition_count image.now)
-        × (record_right image.now transition ≡ true)
-        × (is_enabled marking.old (inputs_at image.now transition) ≡ true) }
-    ensures { Fired (step image.now marking.old transition)
-        marking.old result marking.new }
-{
-    let span = span_of(image, transition);
-    let inputs = span.inputs;
-    let outputs = span.outputs;
-    let end = span.end;
-    if contact(image, inputs, outputs, end, marking) {
-        return false;
-    }
-    move_tokens(image, inputs, outputs, end, marking);
-    true
-}
-
-// Fires one transition by number: 11, 13, 14, 12, 15, 16. A refusal leaves the marking.
-pub fn fire(image: &[u32], marking: &mut [u8], transition: u32) -> Result<(), Cause>
-    ensures { firing_outcome result marking.new
-        ≡ fire image.now marking.old transition }
+// Checks the header of an image, and a marking: 11, 13.
+pub fn check(image: &[u32], marking: &[u8]) -> Result<(), Cause>
+    ensures { firing_number result ≡ lent_cause image.now marking.now }
 {
     if !header_right(image) {
         return Err(Cause::ImageWrong);
@@ -205,20 +161,72 @@ pub fn fire(image: &[u32], marking: &mut [u8], transition: u32) -> Result<(), Ca
     if !marking_right(marking, places) {
         return Err(Cause::MarkingWrong);
     }
-    fire_one(image, marking, transition as usize)
+    Ok(())
 }
 
-// Copies bytes to the front of others.
-fn copy(from: &[u8], to: &mut [u8])
-    requires { length from.now ≤ length to.old }
-    ensures { to.new
-        ≡ from.now ++ drop (length from.now) to.old }
+// The arcs of a transition that a marking lets fire: 14, 12, 15, 16. The header is right, and the marking has its length.
+fn fireable<'a>(image: &'a [u32], marking: &[u8], transition: usize) -> Result<Arcs<'a>, Cause>
+    requires { Header image.now × (length marking.now ≡ place_count_of image.now) }
+    ensures { MatchResult result
+        (λ arcs. ArcsOf image.now transition arcs.inputs.now arcs.outputs.now
+        × (step image.now marking.now transition
+        ≡ made (moved marking.now arcs.inputs.now arcs.outputs.now)))
+        (λ cause. step image.now marking.now transition ≡ refused (cause_number cause)) }
 {
-    let mut i = 0;
-    while i < from.len() {
-        to[i] = from[i];
-        i += 1;
+    let count = image[1] as usize;
+    if count <= transition {
+        return Err(Cause::NoTransition);
     }
+    let Some(arcs) = record_at(image, transition, false) else {
+        return Err(Cause::RecordWrong);
+    };
+    if !all_marked(arcs.inputs, marking) {
+        return Err(Cause::NotEnabled);
+    }
+    if contact(arcs.inputs, arcs.outputs, marking) {
+        return Err(Cause::Contact);
+    }
+    Ok(arcs)
+}
+
+// One firing on an image whose header is right, at a marking of its length. It costs its arcs.
+fn fire_one(image: &[u32], marking: &mut [u8], transition: usize) -> Result<(), Cause>
+    requires { Header image.now × (length marking.old ≡ place_count_of image.now) }
+    ensures { firing_outcome result marking.new
+        ≡ in_turn image.now marking.old (transition ∷ []) }
+{
+    let arcs = fireable(image, marking, transition)?;
+    move_tokens(arcs, marking);
+    Ok(())
+}
+
+// Fires a transition whose record is right and whose inputs have their tokens. At a contact it leaves the marking.
+fn fire_enabled(image: &[u32], marking: &mut [u8], transition: usize) -> Result<(), Cause>
+    requires { Header image.now
+        × (length marking.old ≡ place_count_of image.now)
+        × (transition < transition_count image.now)
+        × (record_right image.now transition ≡ true)
+        × (is_enabled marking.old (inputs_at image.now transition) ≡ true) }
+    ensures { MatchResult result
+        (λ fired. step image.now marking.old transition ≡ made marking.new)
+        (λ cause. (step image.now marking.old transition ≡ refused (cause_number cause))
+        × (marking.new ≡ marking.old)) }
+{
+    let arcs = arcs_of(image, transition);
+    if contact(arcs.inputs, arcs.outputs, marking) {
+        return Err(Cause::Contact);
+    }
+    move_tokens(arcs, marking);
+    Ok(())
+}
+
+// Fires one transition by number: 11, 13, 14, 12, 15, 16. A refusal leaves the marking.
+pub fn fire(image: &[u32], marking: &mut [u8], transition: u32) -> Result<(), Cause>
+    ensures { firing_outcome result marking.new
+        ≡ fire image.now marking.old transition }
+{
+    check(image, marking)?;
+    fire_one(image, marking, transition as usize)
 }
 
 // One look on an image whose header is right, at a marking of its length: 14, 12, 15 and 16 as of a firing, then 10.
@@ -229,26 +237,13 @@ fn look_one(image: &[u32], marking: &[u8], number: usize, next: &mut [u8]) -> Re
         ≡ shown (place_count_of image.now)
         (in_turn image.now marking.now (number ∷ [])) next.old }
 {
-    let count = image[1] as usize;
+    let arcs = fireable(image, marking, number)?;
     let places = marking.len();
-    let room = next.len();
-    if count <= number {
-        return Err(Refusal::Cause(Cause::NoTransition));
-    }
-    let Record::Arcs(inputs, outputs, end) = record_at(image, number, false) else {
-        return Err(Refusal::Cause(Cause::RecordWrong));
-    };
-    if !all_marked(image, inputs, outputs, marking) {
-        return Err(Refusal::Cause(Cause::NotEnabled));
-    }
-    if contact(image, inputs, outputs, end, marking) {
-        return Err(Refusal::Cause(Cause::Contact));
-    }
-    if room < places {
+    if next.len() < places {
         return Err(Refusal::NoRoom);
     }
-    copy(marking, next);
-    move_tokens(image, inputs, outputs, end, &mut next[..places]);
+    next[..places].copy_from_slice(marking);
+    move_tokens(arcs, &mut next[..places]);
     Ok(places)
 }
 
@@ -263,13 +258,7 @@ pub fn look(
     ensures { look_outcome result next.new
         ≡ look image.now marking.now transition next.old }
 {
-    if !header_right(image) {
-        return Err(Refusal::Cause(Cause::ImageWrong));
-    }
-    let places = image[0] as usize;
-    if !marking_right(marking, places) {
-        return Err(Refusal::Cause(Cause::MarkingWrong));
-    }
+    check(image, marking)?;
     look_one(image, marking, transition as usize, next)
 }
 
@@ -279,19 +268,17 @@ fn fire_all(image: &[u32], marking: &mut [u8], numbers: &[u32]) -> Replayed
     ensures { replay_outcome result marking.new
         ≡ in_turn image.now marking.old numbers.now }
 {
-    let mut i = 0;
-    while i < numbers.len() {
-        if let Err(cause) = fire_one(image, marking, numbers[i] as usize) {
+    for (i, number) in numbers.iter().enumerate() {
+        if let Err(cause) = fire_one(image, marking, *number as usize) {
             return Replayed {
                 outcome: Err(cause),
                 firings: i,
             };
         }
-        i += 1;
     }
     Replayed {
         outcome: Ok(()),
-        firings: i,
+        firings: numbers.len(),
     }
 }
 
@@ -300,9 +287,9 @@ fn begin(image: &[u32], marking: &mut [u8])
     requires { (is_header_right image.now ≡ true) × (length marking.old ≡ place_count_of image.now) }
     ensures { marking.new ≡ initial_marking image.now }
 {
-    let tokens = image[4] as usize;
-    clear(marking);
-    put_all(image, 8, 8 + tokens, marking, 1);
+    let records = 8 + image[4] as usize;
+    marking.fill(0);
+    put_all(&image[8..records], marking, 1);
 }
 
 // Fires the numbers in turn from the initial marking, until one is refused: 11, 13 (length alone), then 14, 12, 15, 16
@@ -328,26 +315,6 @@ pub fn replay(image: &[u32], marking: &mut [u8], numbers: &[u32]) -> Replayed
     fire_all(image, marking, numbers)
 }
 
-// The larger of two numbers.
-fn larger(a: usize, b: usize) -> usize
-    ensures { Larger a b result }
-{
-    if a < b {
-        return b;
-    }
-    a
-}
-
-// The smaller of two numbers.
-fn smaller(a: usize, b: usize) -> usize
-    ensures { result ≡ pick (ltb a b) a b }
-{
-    if a < b {
-        return a;
-    }
-    b
-}
-
 // Whether an enabled transition ends the search: by the old rule each does, else one that is bookkeeping.
 fn ends_at(image: &[u32], settle: bool, transition: usize) -> bool
     requires { transition < transition_count image.now }
@@ -359,9 +326,55 @@ fn ends_at(image: &[u32], settle: bool, transition: usize) -> bool
     lists::word(image, 8 + lists::word(image, 4) + 6 * transition) <= 1
 }
 
-// Fires what the rule finds, on an image and at a marking that are right, and writes each number to the history. A run
-// that settles first keeps the lowest enabled transition while it looks for bookkeeping. The records below `seen` were
-// met in an earlier search and found right, and are not looked over again.
+// The transition that the rule finds, or none; 12 at a malformed record. A search that settles first keeps the lowest
+// enabled transition while it looks for bookkeeping. The records below `seen` were met in an earlier search and found
+// right, and are not looked over again.
+fn search(
+    image: &[u32],
+    marking: &[u8],
+    settle: bool,
+    seen: &mut usize,
+) -> Result<Option<usize>, Cause>
+    requires { Header image.now
+        × (length marking.now ≡ place_count_of image.now)
+        × ((k : ℕ) → k < seen.old → record_right image.now k ≡ true) }
+    ensures found { Finds image.now marking.now settle result }
+    ensures seen { (k : ℕ) → k < seen.new → record_right image.now k ≡ true }
+{
+    let count = image[1] as usize;
+    let mut kept = None;
+    for transition in 0..count {
+        let Some(arcs) = record_at(image, transition, transition < *seen) else {
+            return Err(Cause::RecordWrong);
+        };
+        if all_marked(arcs.inputs, marking) {
+            if ends_at(image, settle, transition) {
+                *seen = usize::max(*seen, transition + 1);
+                return Ok(Some(transition));
+            }
+            kept = kept.or(Some(transition));
+        }
+    }
+    *seen = count;
+    Ok(kept)
+}
+
+// One turn of a run: fires what the rule finds and answers its number, or why the run ends.
+fn turn(image: &[u32], marking: &mut [u8], settle: bool, seen: &mut usize) -> Result<u32, Reason>
+    requires { Header image.now
+        × (length marking.old ≡ place_count_of image.now)
+        × ((k : ℕ) → k < seen.old → record_right image.now k ≡ true) }
+    ensures turned { Turned image.now settle marking.old marking.new result }
+    ensures seen { (k : ℕ) → k < seen.new → record_right image.now k ≡ true }
+{
+    let Some(transition) = search(image, marking, settle, seen)? else {
+        return Err(Reason::NothingEnabled);
+    };
+    fire_enabled(image, marking, transition)?;
+    Ok(transition as u32)
+}
+
+// Fires what the rule finds, on an image and at a marking that are right, and writes each number to the history.
 fn run_on(image: &[u32], marking: &mut [u8], settle: bool, limit: usize, history: &mut [u32]) -> Ran
     requires { Header image.now × (length marking.old ≡ place_count_of image.now) }
     ensures { Leaves
@@ -370,62 +383,27 @@ fn run_on(image: &[u32], marking: &mut [u8], settle: bool, limit: usize, history
         result
         marking.new history.new history.old }
 {
-    let count = image[1] as usize;
-    let room = history.len();
+    let turns = usize::min(limit, history.len());
     let mut seen = 0;
-    let mut made = 0;
-    while made < limit {
-        if room <= made {
-            return Ran {
-                reason: Reason::HistoryFull,
-                firings: made,
-            };
-        }
-        let mut best = count;
-        let mut transition = 0;
-        'scan: while transition < count {
-            let Record::Arcs(inputs, outputs, _) = record_at(image, transition, transition < seen)
-            else {
+    for made in 0..turns {
+        match turn(image, marking, settle, &mut seen) {
+            Ok(transition) => history[made] = transition,
+            Err(reason) => {
                 return Ran {
-                    reason: Reason::Stopped(Cause::RecordWrong),
+                    reason,
                     firings: made,
                 };
-            };
-            let mut i = inputs;
-            while i < outputs {
-                let place = image[i] as usize;
-                if marking[place] != 1 {
-                    transition += 1;
-                    continue 'scan;
-                }
-                i += 1;
             }
-            if ends_at(image, settle, transition) {
-                best = transition;
-                break 'scan;
-            }
-            best = smaller(best, transition);
-            transition += 1;
         }
-        if count <= best {
-            return Ran {
-                reason: Reason::NothingEnabled,
-                firings: made,
-            };
-        }
-        seen = larger(larger(seen, transition), best + 1);
-        if !fire_enabled(image, marking, best) {
-            return Ran {
-                reason: Reason::Stopped(Cause::Contact),
-                firings: made,
-            };
-        }
-        history[made] = best as u32;
-        made += 1;
     }
+    let reason = if limit <= history.len() {
+        Reason::LimitReached
+    } else {
+        Reason::HistoryFull
+    };
     Ran {
-        reason: Reason::LimitReached,
-        firings: made,
+        reason,
+        firings: turns,
     }
 }
 
@@ -443,16 +421,9 @@ fn run_checked(
         result
         marking.new history.new history.old }
 {
-    if !header_right(image) {
+    if let Err(cause) = check(image, marking) {
         return Ran {
-            reason: Reason::Stopped(Cause::ImageWrong),
-            firings: 0,
-        };
-    }
-    let places = image[0] as usize;
-    if !marking_right(marking, places) {
-        return Ran {
-            reason: Reason::Stopped(Cause::MarkingWrong),
+            reason: Reason::Stopped(cause),
             firings: 0,
         };
     }

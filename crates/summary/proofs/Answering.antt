@@ -4,6 +4,10 @@ use Rattle.lists.specs.Lists.{pick, same}
 use Rattle.lists.proofs.Tests.{and_both, and_intro, or-true, same_true, same-yes}
 use Rattle.net.specs.Image.{place_count_of, transition_count, is_header_right, are_records_right}
 use Rattle.net.specs.Firing.{is_marking, Step, made, refused, step}
+use Rattle.net.specs.declared.Cause.{Cause}
+use Rattle.net.specs.Answers.{cause_number}
+use Rattle.net.specs.Inner.Lent.{lent_cause}
+use Rattle.net.proofs.Lent.{refused_first}
 use Rattle.net.proofs.Steps.{marking-length}
 use Rattle.summary.specs.Summary.{Summary, summary, set_length, summary_of, same_summary, worked_out, shares}
 use Rattle.summary.specs.Calls as Calls
@@ -28,15 +32,11 @@ fits w counts enabled h =
 -- ---- a summary made
 
 module _ (w m : List ℕ) (s : Summary) where
-  pub make-no-image : is_header_right w ≡ false → make_summary w m s ≡ Calls.makes 11 0 s
+  pub make_refused : (x : Cause) → cause_number x ≡ lent_cause w m → Calls.makes (cause_number x) 0 s ≡ make_summary w m s
   unfolding make_summary
-  make-no-image a = rw a
+  make_refused x e = refused_first w m x e (λ c. Calls.makes c 0 s) _
 
   module _ (a : is_header_right w ≡ true) where
-    pub make-no-marking : is_marking (place_count_of w) m ≡ false → make_summary w m s ≡ Calls.makes 13 0 s
-    unfolding make_summary
-    make-no-marking b = rw (a, b)
-
     module _ (b : is_marking (place_count_of w) m ≡ true) where
       pub make-no-record : are_records_right w ≡ false → make_summary w m s ≡ Calls.makes 12 0 s
       unfolding make_summary
@@ -62,15 +62,11 @@ module _ (w m : List ℕ) (s : Summary) where
 -- ---- a firing with a summary
 
 module _ (w m : List ℕ) (s : Summary) (t : ℕ) where
-  pub keep-no-image : is_header_right w ≡ false → fire_with w m s t ≡ keeps 11 0 m s
+  pub keep_refused : (x : Cause) → cause_number x ≡ lent_cause w m → keeps (cause_number x) 0 m s ≡ fire_with w m s t
   unfolding fire_with
-  keep-no-image a = rw a
+  keep_refused x e = refused_first w m x e (λ c. keeps c 0 m s) _
 
   module _ (a : is_header_right w ≡ true) where
-    pub keep-no-marking : is_marking (place_count_of w) m ≡ false → fire_with w m s t ≡ keeps 13 0 m s
-    unfolding fire_with
-    keep-no-marking b = rw (a, b)
-
     module _ (b : is_marking (place_count_of w) m ≡ true) where
       pub keep-no-lengths : are_lengths_right w s ≡ false → fire_with w m s t ≡ keeps 20 0 m s
       unfolding fire_with
@@ -116,15 +112,11 @@ lengths-known w counts enabled f =
 -- ---- a summary checked
 
 module _ (w m : List ℕ) (s : Summary) where
-  pub check-no-image : is_header_right w ≡ false → check_cause w m s ≡ 11
+  pub check_refused : (x : Cause) → cause_number x ≡ lent_cause w m → cause_number x ≡ check_cause w m s
   unfolding check_cause
-  check-no-image a = rw a
+  check_refused x e = refused_first w m x e (λ c. c) _
 
   module _ (a : is_header_right w ≡ true) where
-    pub check-no-marking : is_marking (place_count_of w) m ≡ false → check_cause w m s ≡ 13
-    unfolding check_cause
-    check-no-marking b = rw (a, b)
-
     module _ (b : is_marking (place_count_of w) m ≡ true) where
       pub check-no-lengths : are_lengths_right w s ≡ false → check_cause w m s ≡ 20
       unfolding check_cause

@@ -1,6 +1,9 @@
 -- Summaries worked out transition by transition, made whole, and compared.
 use Rattle.std.proofs.Common.{◌≡◌, ℕ, zero, suc, ◌+◌, ◌-◌, ◌*◌, ◌%◌, ◌^◌, ◌<◌, ◌≤◌, Bool, true, false, not, ◌&&◌, ltb, leb, List, [], ◌∷◌, map, length, set, replicate, sym, refl, ap, ◌∙◌, arith, length-set, get_or-set_other, get_or-set_same, le-ltb, lt-ltb, leb-true}
+use mathlib.Core.Bool.{beq}
 use native.Mathlib.Decide.{ℕ_discrete, dec_lt}
+use Rattle.std.specs.List.{filter}
+use Rattle.std.specs.Prelude.{cond}
 use Rattle.lists.specs.Lists.{pick, same, word, range, from, every, keep}
 use Rattle.lists.proofs.Tests.{false-true, and_intro, and_left, and_right, and_both, and-false, both_ways, same-no}
 use Rattle.lists.proofs.Tests.{same_self, same_true}
@@ -35,6 +38,15 @@ pub missing-unmarked : (m xs : List ℕ) → ((p : ℕ) → word m p ≤ 1) → 
 unfolding missing_in unmarked
 missing-unmarked m xs low =
     ap length (keep_same (λ p. not (same (word m p % 2) 1)) (λ p. not (is_place_marked m p)) xs (λ p k. ap not (odd-marked (word m p) (low p))))
+
+pub keep_filter : (p : ℕ → Bool) (xs : List ℕ) → keep p xs ≡ filter p xs
+unfolding keep
+keep_filter p [] = refl
+keep_filter p (x ∷ xs) = rw (keep_filter p xs) (go (p x))
+  where
+    go : (b : Bool) → pick b (x ∷ filter p xs) (filter p xs) ≡ cond b (x ∷ filter p xs) (filter p xs)
+    go true = refl
+    go false = refl
 
 -- enabled is: no input unmarked
 pub none-unmarked : (m xs : List ℕ) → same (unmarked m xs) 0 ≡ is_enabled m xs
@@ -252,6 +264,19 @@ entry-bit n c b h = go b (same n 0) (and_right (same c n) (pick b (same n 0) (no
 -- a transition's count and bit are the marking's
 abbrev pub right : List ℕ → List ℕ → List ℕ → List ℕ → ℕ → Bool
 right w m counts enabled u = is_entry_right (missing_in m (inputs_at w u)) (word counts u) (is_in_set enabled u)
+
+-- an entry by its count and its bit as they were read, and one whose count is another
+beq-tells : (o b : Bool) → beq o b ≡ pick o b (not b)
+beq-tells true true = refl
+beq-tells true false = refl
+beq-tells false true = refl
+beq-tells false false = refl
+
+pub entry_told : (missing count r : ℕ) (on o : Bool) → r ≡ missing → count ≡ r → o ≡ on → beq o (same r 0) ≡ is_entry_right missing count on
+entry_told missing count r on o p q e = rw (e, q, p, same_self missing) (beq-tells on (same missing 0))
+
+pub entry-off : (missing count r : ℕ) (on : Bool) → r ≡ missing → (count ≡ r → ⊥) → same count r ≡ is_entry_right missing count on
+entry-off missing count r on p d = let e = same-no count r d in e ∙ sym (rw (← p, e) refl)
 
 -- no bit past the last transition's is set
 abbrev pub spare : List ℕ → List ℕ → Bool

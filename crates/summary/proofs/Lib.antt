@@ -4,7 +4,6 @@ pub mod Tested
 pub mod Counting
 pub mod Frame
 pub mod Stays
-pub mod Passing
 pub mod Sound
 pub mod Entries
 pub mod Tells

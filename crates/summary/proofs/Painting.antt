@@ -2,7 +2,7 @@
 use Rattle.std.proofs.Common.{◌≡◌, ℕ, ◌%◌, ◌<◌, ◌≤◌, Bool, true, false, not, ◌&&◌, ◌||◌, leb, List, [], ◌∷◌, ◌++◌, length, sym, refl, ap, ◌∙◌, arith, ext_get_or}
 use borrow.Author.Tests.{lt-leb}
 use Rattle.lists.specs.Lists.{pick, same, word, some, member, ascends}
-use Rattle.lists.proofs.Tests.{and-true, and-false, or-true, same-yes, same-no, same_self, same_true}
+use Rattle.lists.proofs.Tests.{or_assoc, and-true, and-false, or-true, same-yes, same-no, same_self, same_true}
 use Rattle.lists.proofs.Members.{member-append, member-here, member-there, keep_same}
 use Rattle.lists.proofs.Positions.{ascends-member}
 use Rattle.net.specs.Image.{inputs_at, outputs_at}
@@ -10,7 +10,6 @@ use Rattle.net.specs.Firing.{is_place_marked, is_enabled, has_contact, put, move
 use Rattle.net.proofs.Puts.{put-at, two-puts-at, two-puts-length, moved_at, moved_length, enabled-at}
 use Rattle.summary.specs.Summary.{unmarked, shares}
 use Rattle.summary.specs.Inner.Marks.{missing_in, is_touched, is_any_marked, is_worked_afresh, painted}
-use Rattle.summary.proofs.Passing.{some-append}
 use Rattle.summary.proofs.Entries.{odd-marked}
 
 -- ---- tests that agree on a list's elements
@@ -19,6 +18,12 @@ some_same : (p q : ℕ → Bool) (xs : List ℕ) → ((x : ℕ) → member x xs 
 unfolding some
 some_same p q [] h = refl
 some_same p q (x ∷ xs) h = rw (h x (member-here x xs), some_same p q xs (λ y k. h y (member-there y x xs k)))
+
+-- two lists, one behind the other
+pub some-append : (p : ℕ → Bool) (xs ys : List ℕ) → some p (xs ++ ys) ≡ (some p xs || some p ys)
+unfolding some
+some-append p [] ys = refl
+some-append p (x ∷ xs) ys = rw (some-append p xs ys) (sym (or_assoc (p x) (some p xs) (some p ys)))
 
 -- ---- at one place: o and i, whether it is an output and an input, and x its byte
 

@@ -1,5 +1,5 @@
 // Sets of transitions in 64-bit words: a bit is read, put in or taken out.
-ghost use Rattle.std.specs.Prelude.{◌≡◌, ℕ, ◌^◌, ◌<◌, length, replicate};
+ghost use Rattle.std.specs.Prelude.{◌≡◌, ℕ, ◌^◌, ◌<◌, length};
 ghost use Rattle.lists.specs.Lists.{pick, same};
 ghost use Rattle.summary.specs.Sets.{has_bit, is_in_set, with_bit_set};
 
@@ -46,15 +46,4 @@ pub fn put_bit(enabled: &mut [u64], transition: usize, on: bool)
     }
     let word = enabled[i];
     enabled[i] = with_bit(word, (transition % 64) as u32, on);
-}
-
-// Takes every transition out of the set.
-pub fn clear(enabled: &mut [u64])
-    ensures { enabled.new ≡ replicate (length enabled.old) 0 }
-{
-    let mut i = 0;
-    while i < enabled.len() {
-        enabled[i] = 0;
-        i += 1;
-    }
 }

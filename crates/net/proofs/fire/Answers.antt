@@ -1,34 +1,19 @@
 -- 11, 13, then the one firing.
-use mathlib.Core.Path.{sym, ◌∙◌}
-use native.Mathlib.Omega.{arith}
+use Rattle.std.specs.Prelude.{⊤}
+use Rattle.std.proofs.Common.{Result, sym, ◌∙◌}
+use Rattle.net.specs.declared.Cause.{Cause}
+use Rattle.net.specs.Answers.{firing_outcome}
 use Rattle.net.proofs.Images.{header}
-use Rattle.net.proofs.Steps.{marking-length, fire-no-image, fire-no-marking, fire-as}
+use Rattle.net.proofs.Lent.{both_right, exit}
+use Rattle.net.proofs.Steps.{marking-length, fire_refused, fire-as}
 use Rattle.net.proofs.fire.Goals as goal
 
-pub returns-then-not-header_right : goal.returns-then-not-header_right
-returns-then-not-header_right c = sym (fire-no-image _ _ _ (sym c.header_right.ensures ∙ c.if-not-header_right.true))
-
-pub bounds-image-0 : goal.bounds-image-0
-bounds-image-0 c = let s = header _ (sym c.header_right.ensures ∙ c.if-not-header_right.false) in omega arith
-
-pub returns-then-not-marking_right : goal.returns-then-not-marking_right
-returns-then-not-marking_right c =
-    sym
-    (fire-no-marking _ _ _ (sym c.header_right.ensures
-    ∙ c.if-not-header_right.false) (sym c.marking_right.ensures ∙ c.if-not-marking_right.true))
+pub returns-in_err-check : goal.returns-in_err-check
+returns-in_err-check c =
+    exit (λ (r : Result ⊤ Cause). firing_outcome r c.args.marking.now) _ _ _ c.from_residual.ensures.1 (fire_refused _ _ _ _ c.in_err-check.ensures)
 
 pub fire_one-requires : goal.fire_one-requires
-fire_one-requires c = (
-  header _ (sym c.header_right.ensures
-      ∙ c.if-not-header_right.false),
-  marking-length _ _
-      (sym c.marking_right.ensures ∙ c.if-not-marking_right.false),
-)
+fire_one-requires c = let r = both_right _ _ (sym c.in_ok-check.ensures) in (header _ r.header, marking-length _ _ r.marking)
 
 pub returns : goal.returns
-returns c =
-    c.fire_one.ensures
-    ∙ sym
-    (fire-as _ _ _ (sym c.header_right.ensures
-    ∙ c.if-not-header_right.false)
-    (sym c.marking_right.ensures ∙ c.if-not-marking_right.false))
+returns c = let r = both_right _ _ (sym c.in_ok-check.ensures) in c.fire_one.ensures ∙ sym (fire-as _ _ _ r.header r.marking)

@@ -1,50 +1,20 @@
--- Each return is one test of the definition, in its order.
-use mathlib.Core.Path.{sym, ap, ◌∙◌}
+-- As the arcs tell.
+use Rattle.std.specs.Prelude.{⊤}
+use Rattle.std.proofs.Common.{Result, sym, ap, ◌∙◌}
 use Rattle.net.specs.Firing.{outcome}
-use Rattle.net.proofs.Images.{was-wrong, was-right, both_listed}
-use Rattle.net.proofs.Steps.{step-off, step-contact, step-made, step-none, step-wrong, step-good, turn-refused, turn_last}
+use Rattle.net.specs.declared.Cause.{Cause}
+use Rattle.net.specs.Answers.{firing_outcome}
+use Rattle.net.proofs.Images.{both_ascend}
+use Rattle.net.proofs.Steps.{turn-refused, turn_last}
+use Rattle.net.proofs.Lent.{exit}
 use Rattle.net.proofs.fire_one.Goals as goal
 
-pub returns-then-count-transition : goal.returns-then-count-transition
-returns-then-count-transition c = sym (turn-refused _ _ _ _ _ (step-none _ c.args.marking.now _ c.if-count-transition.true))
-
-pub returns-in_default : goal.returns-in_default
-returns-in_default c =
-    sym (turn-refused _ _ _ _ _ (step-wrong _ c.args.marking.now _
-    c.if-count-transition.false (was-wrong _ _ (sym c.record_at.ensures ∙ c.in_default.is))))
-
-pub all_marked-requires : goal.all_marked-requires
-all_marked-requires c =
-    let g = was-right _ _ _ _ _ (sym c.record_at.ensures ∙ c.in-Arcs.is) in
-    (both_listed _ _ _ _ _ _ g c.requires.1).0
-
-pub returns-then-not-all_marked : goal.returns-then-not-all_marked
-returns-then-not-all_marked c =
-    let g = was-right _ _ _ _ _ (sym c.record_at.ensures ∙ c.in-Arcs.is) in
-    let off = sym c.all_marked.ensures ∙ c.if-not-all_marked.true in
-    sym (turn-refused _ _ _ _ _ (step-good _ _ _ c.if-count-transition.false _ _ _ g ∙ step-off _ _ _ off))
-
-pub contact-requires : goal.contact-requires
-contact-requires c =
-    let g = was-right _ _ _ _ _ (sym c.record_at.ensures ∙ c.in-Arcs.is) in
-    both_listed _ _ _ _ _ _ g c.requires.1
-
-pub returns-then-contact : goal.returns-then-contact
-returns-then-contact c =
-    let g = was-right _ _ _ _ _ (sym c.record_at.ensures ∙ c.in-Arcs.is) in
-    let on = sym c.all_marked.ensures ∙ c.if-not-all_marked.false in
-    sym (turn-refused _ _ _ _ _ (step-good _ _ _ c.if-count-transition.false _ _ _ g
-    ∙ step-contact _ _ _ on (sym c.contact.ensures ∙ c.if-contact.true)))
+pub returns-in_err-arcs : goal.returns-in_err-arcs
+returns-in_err-arcs c =
+    exit (λ (r : Result ⊤ Cause). firing_outcome r c.args.marking.now) _ _ _ c.from_residual.ensures.1 (sym (turn-refused _ _ _ _ _ c.in_err-arcs.ensures))
 
 pub move_tokens-requires : goal.move_tokens-requires
-move_tokens-requires c =
-    let g = was-right _ _ _ _ _ (sym c.record_at.ensures ∙ c.in-Arcs.is) in
-    both_listed _ _ _ _ _ _ g c.requires.1
+move_tokens-requires c = both_ascend _ _ _ _ _ c.in_ok-arcs.ensures.0 c.requires.1
 
 pub returns : goal.returns
-returns c =
-    let g = was-right _ _ _ _ _ (sym c.record_at.ensures ∙ c.in-Arcs.is) in
-    let on = sym c.all_marked.ensures ∙ c.if-not-all_marked.false in
-    ap (outcome 0 1) c.move_tokens.ensures
-    ∙ sym (turn_last _ _ _ _ (step-good _ _ _ c.if-count-transition.false _ _ _ g
-    ∙ step-made _ _ _ on (sym c.contact.ensures ∙ c.if-contact.false)))
+returns c = ap (outcome 0 1) c.move_tokens.ensures ∙ sym (turn_last _ _ _ _ c.in_ok-arcs.ensures.1)

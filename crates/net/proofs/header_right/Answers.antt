@@ -1,6 +1,8 @@
 -- Each return is one test of the definition, in its order.
-use mathlib.Core.Path.{sym, ◌∙◌}
-use Rattle.net.proofs.Images.{header-short, header-first, header-second, header-third, header-length, header-list}
+use Rattle.std.proofs.Common.{sym, ap, ◌∙◌, arith}
+use Rattle.lists.specs.Lists.{ascends}
+use Rattle.net.specs.Image.{place_count_of, records_start}
+use Rattle.net.proofs.Images.{header-short, header-first, header-second, header-third, header-length, header-list, part}
 use Rattle.net.proofs.header_right.Goals as goal
 
 pub returns-then-image-lt8 : goal.returns-then-image-lt8
@@ -30,6 +32,7 @@ pub returns : goal.returns
 returns c =
     let s = c.arcs_start-arcs.ensures in
     c.rising.ensures
+    ∙ ap (ascends (place_count_of c.args.image.now) 0) (part c.args.image.now 8 (records_start c.args.image.now) (omega arith))
     ∙ sym (header-list _ c.if-image-lt8.false
     c.if-image-ne8.false c.if-image-records.false
     (c.if-image-arcs.false ∙ s.is) (c.if-image-length_given.false ∙ c.length_given.ensures))

@@ -1,65 +1,27 @@
--- The tests of a firing in its order, 10, then the marking copied to the front of the buffer and its tokens moved there.
-use mathlib.Core.Path.{◌≡◌, sym, ◌∙◌}
-use native.Mathlib.Omega.{arith}
-use lib.ListN.{length, take}
-use lib.Seq.{length-take-le}
-use Rattle.net.specs.declared.Cause.TheVariants.{RecordWrong, NoTransition, NotEnabled, Contact}
-use Rattle.net.proofs.Images.{was-wrong, was-right, both_listed}
-use Rattle.net.proofs.Steps.{step-off, step-contact, step-made, step-none, step-wrong, step-good}
+-- As the arcs tell, 10, then the marking copied to the front of the buffer and its tokens moved there.
+use Rattle.std.proofs.Common.{List, ◌++◌, length, drop, ℕ, Result, ap, ◌∙◌, arith}
+use lib.Seq.{take_at}
+use Rattle.net.specs.declared.Refusal.{Refusal}
+use Rattle.net.specs.Answers.{look_outcome}
+use Rattle.net.proofs.Images.{both_ascend}
 use Rattle.net.proofs.Looks.{look-refused, look-short, look-moved}
+use Rattle.net.proofs.Lent.{exit}
 use Rattle.net.proofs.look_one.Goals as goal
 
-pub returns-then-count-number : goal.returns-then-count-number
-returns-then-count-number c =
-    let a = c.args in
-    look-refused a.image.now a.marking.now _ _ NoTransition (step-none _ _ _ c.if-count-number.true)
+pub returns-in_err-arcs : goal.returns-in_err-arcs
+returns-in_err-arcs c =
+    exit (λ (r : Result ℕ Refusal). look_outcome r c.args.next.now) _ _ _ c.from_residual.ensures.1 (look-refused _ _ _ _ _ c.in_err-arcs.ensures)
 
-pub returns-in_default : goal.returns-in_default
-returns-in_default c =
-    let a = c.args in
-    look-refused a.image.now a.marking.now _ _ RecordWrong
-    (step-wrong _ _ _ c.if-count-number.false (was-wrong _ _ (sym c.record_at.ensures ∙ c.in_default.is)))
-
-pub all_marked-requires : goal.all_marked-requires
-all_marked-requires c =
-    let g = was-right _ _ _ _ _ (sym c.record_at.ensures ∙ c.in-Arcs.is) in
-    (both_listed _ _ _ _ _ _ g c.requires.1).0
-
-pub returns-then-not-all_marked : goal.returns-then-not-all_marked
-returns-then-not-all_marked c =
-    let g = was-right _ _ _ _ _ (sym c.record_at.ensures ∙ c.in-Arcs.is) in
-    let off = sym c.all_marked.ensures ∙ c.if-not-all_marked.true in
-    look-refused _ _ _ _ NotEnabled (step-good _ _ _ c.if-count-number.false _ _ _ g ∙ step-off _ _ _ off)
-
-pub contact-requires : goal.contact-requires
-contact-requires c =
-    let g = was-right _ _ _ _ _ (sym c.record_at.ensures ∙ c.in-Arcs.is) in
-    both_listed _ _ _ _ _ _ g c.requires.1
-
-pub returns-then-contact : goal.returns-then-contact
-returns-then-contact c =
-    let g = was-right _ _ _ _ _ (sym c.record_at.ensures ∙ c.in-Arcs.is) in
-    let on = sym c.all_marked.ensures ∙ c.if-not-all_marked.false in
-    look-refused _ _ _ _ Contact (step-good _ _ _ c.if-count-number.false _ _ _ g
-    ∙ step-contact _ _ _ on (sym c.contact.ensures ∙ c.if-contact.true))
-
-pub returns-then-room-places : goal.returns-then-room-places
-returns-then-room-places c =
-    let g = was-right _ _ _ _ _ (sym c.record_at.ensures ∙ c.in-Arcs.is) in
-    let on = sym c.all_marked.ensures ∙ c.if-not-all_marked.false in
-    let e = step-good _ c.args.marking.now _ c.if-count-number.false _ _ _ g ∙ step-made _ _ _ on (sym c.contact.ensures ∙ c.if-contact.false) in
-    look-short _ _ _ _ _ e (omega (arith, c.if-room-places.true, c.requires.1))
+pub returns-then-next-places : goal.returns-then-next-places
+returns-then-next-places c = look-short _ _ _ _ _ c.in_ok-arcs.ensures.1 (omega (arith, c.if-next-places.true, c.requires.1))
 
 pub move_tokens-requires : goal.move_tokens-requires
 move_tokens-requires c =
-    let g = was-right _ _ _ _ _ (sym c.record_at.ensures ∙ c.in-Arcs.is) in
-    let n = length c.args.marking.now in
-    let front : length (take n c.copy.new.to) ≡ n = length-take-le _ _ (omega (arith, c.copy.auto.to, c.if-room-places.false)) in
-    both_listed _ _ _ _ _ _ g (front ∙ c.requires.1)
+    let front = take_at c.copy_from_slice.new.self (drop (length c.args.marking.now) c.args.next.now) (length c.args.marking.now) (ap length c.copy_from_slice.ensures.after) in
+    both_ascend _ _ _ _ _ c.in_ok-arcs.ensures.0 (ap length (front ∙ c.copy_from_slice.ensures.after) ∙ c.requires.1)
 
 pub returns : goal.returns
 returns c =
-    let g = was-right _ _ _ _ _ (sym c.record_at.ensures ∙ c.in-Arcs.is) in
-    let on = sym c.all_marked.ensures ∙ c.if-not-all_marked.false in
-    let e = step-good _ c.args.marking.now _ c.if-count-number.false _ _ _ g ∙ step-made _ _ _ on (sym c.contact.ensures ∙ c.if-contact.false) in
-    look-moved _ _ _ _ _ _ _ _ e c.requires.1 c.if-room-places.false c.copy.ensures c.move_tokens.ensures
+    let behind = drop (length c.args.marking.now) c.args.next.now in
+    look-moved _ _ _ _ _ _ _ _ c.in_ok-arcs.ensures.1 c.requires.1 c.if-next-places.false
+    (ap (λ (x : List ℕ). x ++ behind) c.copy_from_slice.ensures.after) c.move_tokens.ensures

@@ -1,36 +1,16 @@
 -- 11, 13, then the run itself.
-use mathlib.Core.Path.{refl, sym, ◌∙◌}
-use native.Mathlib.Omega.{arith}
+use Rattle.std.proofs.Common.{refl, sym}
 use Rattle.net.proofs.Images.{header}
+use Rattle.net.proofs.Lent.{both_right}
 use Rattle.net.proofs.Steps.{marking-length}
-use Rattle.net.proofs.Runs.{run-no-image, run-no-marking, run-as, leaves-at-once, leaves-as}
+use Rattle.net.proofs.Runs.{run_refused, run-as, leaves-at-once, leaves-as}
 use Rattle.net.proofs.run_checked.Goals as goal
 
-pub returns-then-not-header_right : goal.returns-then-not-header_right
-returns-then-not-header_right c = leaves-at-once _ _ _ _ (run-no-image _ _ _ _ _ (sym c.header_right.ensures ∙ c.if-not-header_right.true)) refl
-
-pub bounds-image-0 : goal.bounds-image-0
-bounds-image-0 c = let s = header _ (sym c.header_right.ensures ∙ c.if-not-header_right.false) in omega arith
-
-pub returns-then-not-marking_right : goal.returns-then-not-marking_right
-returns-then-not-marking_right c =
-    leaves-at-once _ _ _ _
-    (run-no-marking _ _ _ _ _ (sym c.header_right.ensures
-    ∙ c.if-not-header_right.false) (sym c.marking_right.ensures ∙ c.if-not-marking_right.true)) refl
+pub returns-in-Err : goal.returns-in-Err
+returns-in-Err c = leaves-at-once _ _ _ _ (run_refused _ _ _ _ _ _ c.in-Err.ensures) refl
 
 pub run_on-requires : goal.run_on-requires
-run_on-requires c = (
-  header _ (sym c.header_right.ensures
-      ∙ c.if-not-header_right.false),
-  marking-length _ _
-      (sym c.marking_right.ensures ∙ c.if-not-marking_right.false),
-)
+run_on-requires c = let r = both_right _ _ (sym c.in_default.ensures) in (header _ r.header, marking-length _ _ r.marking)
 
 pub returns : goal.returns
-returns c =
-    leaves-as _ _ _ _ _ _
-    (run-as _ _ _ _ _ (sym c.header_right.ensures
-    ∙ c.if-not-header_right.false)
-    (sym c.marking_right.ensures
-    ∙ c.if-not-marking_right.false))
-    c.run_on.ensures
+returns c = let r = both_right _ _ (sym c.in_default.ensures) in leaves-as _ _ _ _ _ _ (run-as _ _ _ _ _ r.header r.marking) c.run_on.ensures

@@ -1,20 +1,18 @@
-use Rattle.std.proofs.Common.{sym, ◌∙◌, arith}
-use Rattle.lists.proofs.Ascending.{slice-below}
-use Rattle.summary.proofs.Passing.{marked-here, marked-past, marked-none}
+use Rattle.std.proofs.Common.{ℕ, ◌<◌, length, get_or, arith, rules, tests}
+use Rattle.std.proofs.iter.Serving.{serving}
+use Rattle.std.proofs.lemmas.Iterator.{YieldsList-from_slice}
+use Rattle.std.proofs.lemmas.Iterator.Search.{any_from_yields_List}
+use Rattle.lists.specs.Lists.{same}
+use Rattle.lists.proofs.Chains.{some_any}
+use Rattle.net.proofs.Marks.{each_below}
+use Rattle.summary.specs.Inner.Marks.{is_any_marked}
 use Rattle.summary.proofs.any_marked.Goals as goal
 
-pub bounds-bytes-place : goal.bounds-bytes-place
-bounds-bytes-place c =
-    slice-below _ _ _ _ _ c.requires.within c.requires.rising _ c.loop-i.invariant.0 c.loop-i-test.true
-
-pub returns-then-bytes-place-eq1 : goal.returns-then-bytes-place-eq1
-returns-then-bytes-place-eq1 c =
-    sym (c.loop-i.invariant.1
-    ∙ marked-here _ _ _ c.loop-i-test.true c.requires.within _ c.if-bytes-place-eq1.true)
-
-pub loop-i-preserved : goal.loop-i-preserved
-loop-i-preserved c =
-    (omega arith, c.loop-i.invariant.1 ∙ marked-past _ _ _ c.loop-i-test.true c.requires.within _ c.if-bytes-place-eq1.false)
+pub any-requires-clause-callable : goal.any-requires-clause-callable
+any-requires-clause-callable c =
+    let below : (k d : ℕ) → k < length c.iter.result.rest.now → get_or c.iter.result.rest.now k d < length c.args.bytes.now = each_below _ _ _ c.requires c.iter.ensures.rest in
+    grind (arith, serving, below)
 
 pub returns : goal.returns
-returns c = sym (c.loop-i.invariant.1 ∙ marked-none _ _ _ c.loop-i-test.false _)
+unfolding is_any_marked same
+returns c = rw some_any (any_from_yields_List _ _ _ _ c.any.ensures.ran (YieldsList-from_slice c.args.places.now cc) (λ x b q k. search (rules, tests)))

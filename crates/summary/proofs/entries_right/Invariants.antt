@@ -1,4 +1,4 @@
--- Loop: all counts and bits are right exactly if those from this transition on are. Measure: transitions left.
+-- Loop: all counts and bits are right exactly if those from this transition on are.
 use Rattle.std.proofs.Common.{◌≡◌, ◌-◌, ◌&&◌}
 use Rattle.lists.specs.Lists.{from, every, range}
 use Rattle.net.specs.Image.{transition_count}
@@ -9,6 +9,3 @@ abbrev pub invariant-loop-transition : goal.invariant-loop-transition
 invariant-loop-transition l =
     (every (right l.image l.marking l.counts l.enabled) (range (transition_count l.image)) && spare l.image l.enabled)
     ≡ (every (right l.image l.marking l.counts l.enabled) (from l.transition (transition_count l.image - l.transition)) && spare l.image l.enabled)
-
-abbrev pub decreases-loop-transition : goal.decreases-loop-transition
-decreases-loop-transition l = l.count - l.transition

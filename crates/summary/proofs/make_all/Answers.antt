@@ -10,7 +10,7 @@ pub returns : goal.returns
 returns c =
     let w = c.args.image.now in
     let m = c.args.marking.now in
-    let e = c.clear.ensures in
+    let e = c.fill.ensures.after (λ y e. e) in
     c.refresh.ensures
     ∙ worked-out w m _ _ _ _ (ap length e ∙ length-replicate _ _ ∙ c.requires.1.words) (λ u l. all-afresh w m u)
     (λ u l. missing-unmarked m (inputs_at w u) (marking-low _ _ c.requires.2))

@@ -1,33 +1,21 @@
-use Rattle.std.proofs.Common.{arith}
-use Rattle.lists.proofs.Ascending.{slice-below}
-use Rattle.summary.proofs.Passing.{missing-here, missing-past, missing-none}
+use Rattle.std.proofs.Common.{ℕ, ◌%◌, ◌<◌, not, length, get_or, arith, rules, tests}
+use Rattle.std.proofs.iter.Serving.{serving}
+use Rattle.std.proofs.lemmas.Iterator.{YieldsList-from_slice}
+use Rattle.std.proofs.lemmas.Iterator.Consumers.{YieldsList-from_filter, count_from_yields_List}
+use Rattle.lists.specs.Lists.{same, word}
+use Rattle.net.proofs.Marks.{each_below}
+use Rattle.summary.specs.Inner.Marks.{missing_in}
+use Rattle.summary.proofs.Entries.{keep_filter}
 use Rattle.summary.proofs.missing.Goals as goal
-use Rattle.summary.proofs.missing.Goals.{then-bytes-place-ne1, else-bytes-place-ne1}
 
-pub bounds-bytes-place : goal.bounds-bytes-place
-bounds-bytes-place c =
-    slice-below _ _ _ _ _ c.requires.0.within c.requires.0.rising _ c.loop-i.invariant.0 c.loop-i-test.true
-
-pub loop-i-preserved : goal.loop-i-preserved
-loop-i-preserved c =
-    let a = c.args in
-    let t = c.loop-i-test.true in
-    let k = c.requires.0.within in
-    elim c.if-bytes-place-ne1.branch [
-      | then-bytes-place-ne1 w ↦ (
-        omega arith,
-        omega (arith, w.total-is, c.loop-i.invariant.0, c.loop-i.invariant.1),
-        omega (arith, w.total-is, c.loop-i.invariant.2, missing-here a.words.now c.loop-i.i a.end t k a.bytes.now w.if-bytes-place-ne1.true),
-      )
-      | else-bytes-place-ne1 w ↦ (
-        omega arith,
-        omega (arith, w.total-is, c.loop-i.invariant.0, c.loop-i.invariant.1),
-        omega (arith, w.total-is, c.loop-i.invariant.2, missing-past a.words.now c.loop-i.i a.end t k a.bytes.now w.if-bytes-place-ne1.false),
-      )
-    ]
+pub count-requires-clause-can : goal.count-requires-clause-can
+count-requires-clause-can c =
+    let below : (k d : ℕ) → k < length c.iter.result.rest.now → get_or c.iter.result.rest.now k d < length c.args.bytes.now = each_below _ _ _ c.requires.0 c.iter.ensures.rest in
+    (tt, tt, grind (arith, serving, below))
 
 pub returns : goal.returns
+unfolding missing_in same
 returns c =
-    let a = c.args in
-    let e = missing-none a.words.now c.loop-i.i a.end c.loop-i-test.false a.bytes.now in
-    omega (arith, c.loop-i.invariant.2, e)
+    rw (keep_filter (λ place. not (same (word c.args.bytes.now place % 2) 1)) c.args.places.now)
+    (count_from_yields_List _ _ c.count.ensures.ran (YieldsList-from_filter _ (λ place. not (same (word c.args.bytes.now place % 2) 1))
+    (YieldsList-from_slice c.args.places.now cc) c.filter.ensures.closure (λ x b q k. search (rules, tests))))

@@ -1,14 +1,18 @@
-use Rattle.std.proofs.Common.{◌+◌, arith}
+use Rattle.std.proofs.Common.{◌+◌, ap, ◌∙◌, arith}
 use Rattle.net.specs.Image.{record_offset}
-use Rattle.net.proofs.Images.{header}
-use Rattle.summary.proofs.Sound.{inputs-listed}
+use Rattle.net.proofs.Images.{both_ascend}
+use Rattle.summary.specs.Inner.Marks.{missing_in}
+use Rattle.summary.proofs.Sound.{asked, few-inputs}
 use Rattle.summary.proofs.missing_at.Goals as goal
 
-pub span_of-span-requires : goal.span_of-span-requires
-span_of-span-requires c = (header _ c.requires.0.header, c.requires.1)
+pub arcs_of-requires : goal.arcs_of-requires
+arcs_of-requires c = asked _ _ c.requires.0 _ c.requires.1
 
 pub missing-requires : goal.missing-requires
 missing-requires c =
-    let o = c.span_of-span.ensures in
+    let a = c.arcs_of.ensures in
     let k = c.type_inv.image (record_offset c.args.image.now c.args.transition + 4) in
-    (inputs-listed _ _ c.requires.0 _ _ _ _ c.requires.1 o, omega (arith, o.inputs_are, o.outputs-are, k))
+    ((both_ascend _ _ _ _ _ a c.requires.0.places).0, few-inputs _ _ _ _ a (omega (arith, k)))
+
+pub returns : goal.returns
+returns c = c.missing.ensures ∙ ap (missing_in c.args.bytes.now) c.arcs_of.ensures.inputs-are

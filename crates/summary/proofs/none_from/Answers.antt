@@ -1,14 +1,8 @@
-use Rattle.std.proofs.Common.{not, sym, ap, ◌∙◌}
-use Rattle.lists.proofs.Ranges.{every_more, every-stop, every-done}
+use Rattle.std.proofs.Common.{refl, rules, tests}
+use Rattle.std.proofs.lemmas.Iterator.{YieldsList-from_range}
+use Rattle.std.proofs.lemmas.Iterator.Search.{all_from_yields_List}
+use Rattle.lists.proofs.Chains.{every_all, from_counted}
 use Rattle.summary.proofs.none_from.Goals as goal
 
-pub returns-then-is_in : goal.returns-then-is_in
-returns-then-is_in c =
-    sym (c.loop-k.invariant ∙ every-stop _ _ _ c.loop-k-test.true (ap not (sym c.is_in.ensures ∙ c.if-is_in.true)))
-
-pub loop-k-preserved : goal.loop-k-preserved
-loop-k-preserved c =
-    c.loop-k.invariant ∙ every_more _ _ _ c.loop-k-test.true (ap not (sym c.is_in.ensures ∙ c.if-is_in.false))
-
 pub returns : goal.returns
-returns c = sym (c.loop-k.invariant ∙ every-done _ _ _ c.loop-k-test.false)
+returns c = rw (every_all, from_counted) (all_from_yields_List _ _ _ _ c.all.ensures.ran (YieldsList-from_range c.args.first _ _ refl refl) (λ x b q k. search (rules, tests)))

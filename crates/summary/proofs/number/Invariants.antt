@@ -1,10 +1,7 @@
--- Loop: the ones of the first i words are counted. Measure: words left.
-use Rattle.std.proofs.Common.{◌≡◌, ◌-◌, ◌%◌, ◌^◌, ◌≤◌, length}
+-- Loop: the ones of the words so far are counted.
+use Rattle.std.proofs.Common.{◌≡◌, ◌%◌, ◌^◌}
 use Rattle.summary.proofs.Counting.{counted}
 use Rattle.summary.proofs.number.Given as goal
 
-abbrev pub invariant-loop-i : goal.invariant-loop-i
-invariant-loop-i l = (l.i ≤ length l.enabled) × (l.total ≡ counted l.enabled l.i % 2 ^ 64)
-
-abbrev pub decreases-loop-i : goal.decreases-loop-i
-decreases-loop-i l = length l.enabled - l.i
+abbrev pub invariant-loop-word : goal.invariant-loop-word
+invariant-loop-word l = l.total ≡ counted l.enabled l.word-index % 2 ^ 64

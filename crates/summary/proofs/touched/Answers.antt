@@ -1,30 +1,17 @@
-use Rattle.std.proofs.Common.{◌+◌, sym, ◌∙◌, arith}
-use Rattle.summary.proofs.Passing.{touched-here, touched-past, touched-two, touched-last, touched_none}
+use Rattle.std.proofs.Common.{ℕ, ◌<◌, length, get_or, arith, rules, tests}
+use Rattle.std.proofs.iter.Serving.{serving}
+use Rattle.std.proofs.lemmas.Iterator.{YieldsList-from_slice}
+use Rattle.std.proofs.lemmas.Iterator.Search.{any_from_yields_List}
+use Rattle.lists.proofs.Chains.{some_any}
+use Rattle.net.proofs.Marks.{each_below}
+use Rattle.summary.specs.Inner.Marks.{is_touched}
 use Rattle.summary.proofs.touched.Goals as goal
 
-pub returns-then-bytes-place-ge2 : goal.returns-then-bytes-place-ge2
-returns-then-bytes-place-ge2 c =
-    sym (c.loop-i.invariant.2 ∙ touched-here _ c.loop-i.i c.args.end (omega (arith, c.loop-i-test.true))
-    c.requires.within _ c.if-bytes-place-ge2.true)
-
-pub returns-then-bytes-next-ge2 : goal.returns-then-bytes-next-ge2
-returns-then-bytes-next-ge2 c =
-    let h = c.loop-i-test.true in
-    sym (c.loop-i.invariant.2 ∙ touched-past _ c.loop-i.i c.args.end (omega arith) c.requires.within _ c.if-bytes-place-ge2.false
-    ∙ touched-here _ (c.loop-i.i + 1) c.args.end h c.requires.within _ c.if-bytes-next-ge2.true)
-
-pub loop-i-preserved : goal.loop-i-preserved
-loop-i-preserved c =
-    let h = c.loop-i-test.true in (
-      omega (arith, c.loop-i.invariant.0),
-      omega (arith, h),
-      c.loop-i.invariant.2 ∙ touched-two _ _ _ h c.requires.within _ c.if-bytes-place-ge2.false c.if-bytes-next-ge2.false,
-    )
-
-pub returns-then-i-end : goal.returns-then-i-end
-returns-then-i-end c =
-    sym (c.loop-i.invariant.2 ∙ touched-last _ _ _ c.if-i-end.true (omega (arith, c.loop-i-test.false))
-    c.requires.within _)
+pub any-requires-clause-callable : goal.any-requires-clause-callable
+any-requires-clause-callable c =
+    let below : (k d : ℕ) → k < length c.iter.result.rest.now → get_or c.iter.result.rest.now k d < length c.args.bytes.now = each_below _ _ _ c.requires c.iter.ensures.rest in
+    grind (arith, serving, below)
 
 pub returns : goal.returns
-returns c = sym (c.loop-i.invariant.2 ∙ touched_none _ _ _ c.if-i-end.false _)
+unfolding is_touched
+returns c = rw some_any (any_from_yields_List _ _ _ _ c.any.ensures.ran (YieldsList-from_slice c.args.places.now cc) (λ x b q k. search (rules, tests)))

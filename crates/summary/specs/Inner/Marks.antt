@@ -1,6 +1,6 @@
 -- Summaries as the private functions work them out. While a firing's transitions are worked out, its places are told from the others in the marking: their
 -- bytes are 2 and 3 where the others' are 0 and 1, so a byte tells a token if it is odd.
-use Rattle.std.specs.Prelude.{◌≡◌, ℕ, ◌%◌, ◌<◌, ◌≤◌, Bool, true, not, ◌&&◌, ◌||◌, List, map, length, nat_le, nat_lt, slice_set}
+use Rattle.std.specs.Prelude.{◌≡◌, ℕ, ◌%◌, Bool, true, not, ◌&&◌, ◌||◌, List, map, length, nat_le, nat_lt, slice_set}
 use Rattle.lists.specs.Lists.{pick, same, word, range, some, keep}
 use Rattle.net.specs.Image.{place_count_of, transition_count, is_header_right, are_records_right, inputs_at, outputs_at}
 use Rattle.net.specs.Firing.{is_place_marked, put}
@@ -40,12 +40,6 @@ refreshed transitions test count s =
 -- a count and a bit that tell how many places are without a token
 abbrev pub is_entry_right : ℕ → ℕ → Bool → Bool
 is_entry_right missing count on = same count missing && pick on (same missing 0) (not (same missing 0))
-
--- words from start to end that name places
-pub record Named (words : List ℕ) (start end places : ℕ) : Type 0 where
-  pub ordered : start ≤ end
-  pub within : end ≤ length words
-  pub below : (k : ℕ) → start ≤ k → k < end → word words k < places
 
 -- an image that is right in every record, and a byte for each place
 pub record Sound (image bytes : List ℕ) : Type 0 where

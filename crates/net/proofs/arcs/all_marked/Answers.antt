@@ -1,20 +1,18 @@
-use mathlib.Core.Path.{sym, ◌∙◌}
-use native.Mathlib.Omega.{arith}
-use Rattle.lists.proofs.Ascending.{slice-below}
-use Rattle.net.proofs.Marks.{enabled-not, enabled-more, enabled-none}
+use Rattle.std.proofs.Common.{ℕ, ◌<◌, length, get_or, arith, rules, tests}
+use Rattle.std.proofs.iter.Serving.{serving}
+use Rattle.std.proofs.lemmas.Iterator.{YieldsList-from_slice}
+use Rattle.std.proofs.lemmas.Iterator.Search.{all_from_yields_List}
+use Rattle.lists.specs.Lists.{same}
+use Rattle.lists.proofs.Chains.{every_all}
+use Rattle.net.specs.Firing.{is_enabled}
+use Rattle.net.proofs.Marks.{each_below}
 use Rattle.net.proofs.arcs.all_marked.Goals as goal
 
-pub bounds-marking-place : goal.bounds-marking-place
-bounds-marking-place c =
-    slice-below _ _ _ _ _ c.requires.within c.requires.rising _ c.loop-i.invariant.0 c.loop-i-test.true
-
-pub returns-then-marking-place-ne1 : goal.returns-then-marking-place-ne1
-returns-then-marking-place-ne1 c =
-    sym (c.loop-i.invariant.1 ∙ enabled-not _ _ _ c.loop-i-test.true c.requires.within _ c.if-marking-place-ne1.true)
-
-pub loop-i-preserved : goal.loop-i-preserved
-loop-i-preserved c =
-    (omega arith, c.loop-i.invariant.1 ∙ enabled-more _ _ _ c.loop-i-test.true c.requires.within _ c.if-marking-place-ne1.false)
+pub all-requires-clause-callable : goal.all-requires-clause-callable
+all-requires-clause-callable c =
+    let below : (k d : ℕ) → k < length c.iter.result.rest.now → get_or c.iter.result.rest.now k d < length c.args.marking.now = each_below _ _ _ c.requires c.iter.ensures.rest in
+    grind (arith, serving, below)
 
 pub returns : goal.returns
-returns c = sym (c.loop-i.invariant.1 ∙ enabled-none _ _ _ c.loop-i-test.false _)
+unfolding is_enabled same
+returns c = rw every_all (all_from_yields_List _ _ _ _ c.all.ensures.ran (YieldsList-from_slice c.args.places.now cc) (λ x b q k. search (rules, tests)))

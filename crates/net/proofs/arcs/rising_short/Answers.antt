@@ -1,34 +1,22 @@
-use mathlib.Core.Bool.{true, false}
-use mathlib.Core.Path.{refl, sym, ◌∙◌}
-use Prim.Native.Nat.{◌+◌, ◌-◌, ◌≤◌, ◌<◌}
-use native.Mathlib.Omega.{arith}
-use Rattle.lists.proofs.Ascending.{rising_none}
-use Rattle.net.proofs.Marks.{rises-first, rises_next, rises-no-more, rises-whole}
+use Rattle.std.proofs.Common.{◌+◌, ◌<◌, length, true, false, refl, sym, ◌∙◌, arith}
+use Rattle.net.proofs.Marks.{not_empty, rises-none, rises-first, rises_next, rises-no-more, rises-whole}
 use Rattle.net.proofs.arcs.rising_short.Goals as goal
 
-pub returns-then-end-start : goal.returns-then-end-start
-returns-then-end-start c = sym (rising_none _ _ _ _ _ c.if-end-start.true)
+pub returns-then-is_empty : goal.returns-then-is_empty
+returns-then-is_empty c = rises-none _ _ c.if-is_empty.ensures
 
 pub loop-i-init : goal.loop-i-init
-loop-i-init c = (omega arith, rises-first _ _ _ _ c.if-end-start.false c.requires)
+loop-i-init c = rises-first _ _ (not_empty _ c.if-is_empty.ensures)
 
 pub returns-then-words-i : goal.returns-then-words-i
 returns-then-words-i c =
-    let a = c.args in
-    let h : c.loop-i.i + 1 < a.end = omega (arith, c.loop-i-test.true) in
-    sym (c.loop-i.invariant.1 ∙ rises-no-more a.words.now a.places c.loop-i.i a.end h c.requires true false refl c.if-words-i.true)
+    let h : c.loop-i.i + 1 < length c.args.words.now = omega (arith, c.loop-i-test.true) in
+    sym (c.loop-i.invariant ∙ rises-no-more _ _ _ h true false refl c.if-words-i.true)
 
 pub loop-i-preserved : goal.loop-i-preserved
 loop-i-preserved c =
-    let a = c.args in
-    let h : c.loop-i.i + 1 < a.end = omega (arith, c.loop-i-test.true) in (
-      omega (arith, c.loop-i-test.true),
-      c.loop-i.invariant.1 ∙ rises_next a.words.now a.places c.loop-i.i a.end h c.requires true true refl c.if-words-i.false,
-    )
+    let h : c.loop-i.i + 1 < length c.args.words.now = omega (arith, c.loop-i-test.true) in
+    c.loop-i.invariant ∙ rises_next _ _ _ h true true refl c.if-words-i.false
 
 pub returns : goal.returns
-returns c =
-    let a = c.args in
-    let h : a.end ≤ (a.end - 1) + 1 = omega arith in
-    sym (c.loop-i.invariant.1
-    ∙ rises-whole a.words.now a.places c.loop-i.i (a.end - 1) a.end true c.loop-i.invariant.0 c.loop-i-test.false h refl)
+returns c = sym (c.loop-i.invariant ∙ rises-whole _ _ _ _ true refl c.loop-i.auto.i-end c.loop-i-test.false (omega (arith, not_empty c.args.words.now c.if-is_empty.ensures)))
