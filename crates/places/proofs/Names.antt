@@ -1,5 +1,5 @@
 -- Names of a table as the code reads them: whether one is restricted, the values that one may hold, where its row starts.
-use Rattle.std.proofs.Common.{◌≡◌, ℕ, ◌+◌, ◌-◌, ◌*◌, ◌<◌, ◌≤◌, Bool, true, false, not, ◌&&◌, eqb, List, [], length, get_or, sym, refl, ap, ◌∙◌, arith, length-append, get_or-append-add, le-ltb, lt-ltb, le-leb}
+use Rattle.std.proofs.Common.{◌≡◌, ℕ, ◌+◌, ◌-◌, ◌*◌, ◌<◌, ◌≤◌, Bool, true, false, not, ◌&&◌, eqb, List, [], length, get_or, sym, refl, ap, ◌∙◌, arith, length-append, get_or-append-add, le-ltb, eq-eqb, ne_eqb, lt-ltb, le-leb}
 use lib.ListN.{get_or-append}
 use borrow.Author.Tests.{lt-leb}
 use Rattle.lists.specs.Lists.{pick, same, word, from, range, keep, member}
@@ -79,6 +79,12 @@ module _ (w : List ℕ) where
   pub kind-tells : (x k : ℕ) → publics w ≤ x → x < names w → k ≡ name_kind_of w x → eqb k 0 ≡ S.restricted x
   unfolding scheme same
   kind-tells x k h l e = rw (le-leb (publics w) x h, lt-ltb x (names w) l, e)
+
+  pub kind-restricted : (x k : ℕ) → publics w ≤ x → x < names w → k ≡ name_kind_of w x → k ≡ 0 → S.restricted x ≡ true
+  kind-restricted x k h l e z = sym (kind-tells x k h l e) ∙ eq-eqb k 0 z
+
+  pub kind-free : (x k : ℕ) → publics w ≤ x → x < names w → k ≡ name_kind_of w x → (k ≡ 0 → ⊥) → S.restricted x ≡ false
+  kind-free x k h l e z = sym (kind-tells x k h l e) ∙ ne_eqb k 0 z
 
   -- ---- free names, and those of them that may hold private values
 

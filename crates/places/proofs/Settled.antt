@@ -1,7 +1,7 @@
 -- Rounds on sets: each keeps them in the least reaches, and where one brings nothing they are the least reaches.
 use Rattle.std.proofs.Common.{◌≡◌, ℕ, zero, suc, ◌+◌, ◌-◌, ◌*◌, ◌^◌, ◌<◌, ◌≤◌, Bool, true, false, not, ◌&&◌, ◌||◌, ltb, ◌⊎◌, List, [], ◌∷◌, length, replicate, sym, refl, ◌∙◌, subst, inl, inr, true≢false, suc-mul, arith, ltb-true, lt-ltb}
 use mathlib.Core.Bool.{false≢true}
-use Rattle.lists.specs.Lists.{bit, same, word, range, some, member, total}
+use Rattle.lists.specs.Lists.{same, word, range, some, member, total}
 use Rattle.lists.proofs.Tests.{both_ways, and_intro, and_left, and_right}
 use Rattle.lists.proofs.Tests.{or_cases, or_left, or_right, or-none, not-true-false, same_self, same-yes, same_true, same_false}
 use Rattle.lists.proofs.Ranges.{member-from, from_member}
@@ -345,12 +345,5 @@ unfolding total
 total-most [] h = omega arith
 total-most (w ∷ ws) h = omega (arith, h 0, total-most ws (λ x. h (suc x)), suc-mul (length ws) (2 ^ 64))
 
-pub sum-rises : (S : Scheme) (a b : List ℕ) (grew : Bool) → Round S a b grew → length b ≡ 64 → ((x : ℕ) → word b x < 2 ^ 64)
-    → most - total b + bit grew < most - total a + 1
-sum-rises S a b grew R e h =
-    let q : total b ≤ most = omega (arith, (rw e at (total-most b h))) in
-    go grew R.rises q
-  where
-    go : (g : Bool) → total a + bit g ≤ total b → total b ≤ most → most - total b + bit g < most - total a + 1
-    go true r q = omega arith
-    go false r q = omega arith
+pub sum-rises : (S : Scheme) (a b : List ℕ) → Round S a b true → length b ≡ 64 → ((x : ℕ) → word b x < 2 ^ 64) → most - total b < most - total a
+sum-rises S a b R e h = let q : total b ≤ most = omega (arith, (rw e at (total-most b h))) in omega (arith, R.rises)

@@ -17,6 +17,7 @@ use crate::layout::reading_names;
 use crate::lookup::{node_start, privates};
 use crate::pairs::SETS;
 use crate::reach::{Reach, common, has_privates, public_word, rank, reach_of, restricted_word};
+use crate::sets::Bits;
 use lists::{store, word};
 use scheme::fields::{field1, field3, field4};
 use scheme::lookup::{branch_thread, held_names, home};
@@ -68,9 +69,10 @@ pub fn privates_of(index: &[u32], values: Reach) -> usize
     ensures { result ≡ pick (not (same values.restricted 0)) (word index.now privates_at) 0 }
 {
     if has_privates(values) {
-        return privates(index);
+        privates(index)
+    } else {
+        0
     }
-    0
 }
 
 // A transition more for each value of a name.
@@ -321,12 +323,10 @@ fn partners(table: &[u16], index: &[u32], t: Totals, send: u32, set: u64, pairs:
 {
     let s = sender(table, index, send);
     let mut q = t;
-    let mut left = set;
-    while left != 0 {
-        let r = receive_at(pairs, left.trailing_zeros() as u16);
+    for k in Bits(set) {
+        let r = receive_at(pairs, k as u16);
         let i = common(s.values, reach_of(index, r.channel as usize));
         q = pair(table, index, q, s, r, i);
-        left &= left - 1;
     }
     q
 }

@@ -13,6 +13,7 @@ mod privates;
 pub mod reach;
 mod rounds;
 pub mod row;
+pub mod sets;
 
 use count::Totals;
 use lookup::SIZE;

@@ -31,9 +31,10 @@ pub(crate) fn part(words: &[u32], first: usize, end: usize, i: usize) -> usize
     ensures { Word 4294967296 (slice first end words.now) i result }
 {
     if i < end - first {
-        return word(words, first + i);
+        word(words, first + i)
+    } else {
+        0
     }
-    0
 }
 
 // Where the control places of a node start; past the nodes where they end.

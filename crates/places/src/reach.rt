@@ -65,10 +65,8 @@ pub fn has(set: u64, v: usize) -> bool
 pub fn rank(set: u64, v: usize) -> usize
     ensures { (result ≡ length (keep (bit_at set) (range v))) × (result ≤ 64) }
 {
-    if v < 64 {
-        return (set % (1u64 << v)).count_ones() as usize;
-    }
-    set.count_ones() as usize
+    let below = if v < 64 { set % (1u64 << v) } else { set };
+    below.count_ones() as usize
 }
 
 // Number k of a set, counted from 0 upward; 0 where the set has no more than k.

@@ -15,6 +15,7 @@ ghost use Rattle.places.specs.Inner.Sets.{Start, Found, Ears, Heard, Round};
 ghost use Rattle.places.specs.Inner.Plan.{argument_name};
 
 use crate::lookup::{PUBLICS, RESTRICTED};
+use crate::sets::Bits;
 use lists::{store, word};
 use scheme::fields::{field1, field3, field4, name_kind};
 use scheme::lookup::branch_thread;
@@ -44,11 +45,8 @@ pub(crate) fn gather(words: &[u64], set: u64) -> u64
     ensures { Gathers words.now set result }
 {
     let mut all = 0u64;
-    let mut left = set;
-    while left != 0 {
-        let x = left.trailing_zeros() as usize;
+    for x in Bits(set) {
         all |= word64(words, x);
-        left &= left - 1;
     }
     all
 }
@@ -58,11 +56,8 @@ pub(crate) fn spread(words: &mut [u64], set: u64, a: u64) -> bool
     ensures { Joined words.old words.new result (λ y o. bit_at set y && bit_at a o) }
 {
     let mut grew = false;
-    let mut left = set;
-    while left != 0 {
-        let x = left.trailing_zeros() as usize;
+    for x in Bits(set) {
         grew |= join(words, x, a);
-        left &= left - 1;
     }
     grew
 }
@@ -72,10 +67,7 @@ fn is_source(table: &[u16], name: usize) -> bool
     requires { name < names table.now }
     ensures { result ≡ is_source_name (scheme table.now) name }
 {
-    if name < word(table, 0) {
-        return true;
-    }
-    name_kind(table, name) == 0
+    name < word(table, 0) || name_kind(table, name) == 0
 }
 
 // Every public and restricted name comes to itself.
@@ -213,10 +205,7 @@ fn settle(table: &[u16], index: &[u32], words: &mut [u64], ears: &mut [u64])
         × (ears.old ≡ replicate 72 0) }
     ensures { Found (scheme table.now) words.new }
 {
-    let mut grew = true;
-    while grew {
-        grew = round(table, index, words, ears);
-    }
+    while round(table, index, words, ears) {}
 }
 
 // Writes `size` digits of each set, from digit `first` on, as 64 words from `at` on; the sets from n on are empty.

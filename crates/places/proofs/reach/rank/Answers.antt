@@ -1,13 +1,14 @@
 use Rattle.std.proofs.Common.{arith}
 use lib.Count.{ones-le}
 use Rattle.places.proofs.Bits.{one_shifted, rank, rank-all, ones-few}
+use Rattle.places.proofs.reach.rank.Goals.{then-v-lt64, else-v-lt64}
 use Rattle.places.proofs.reach.rank.Goals as goal
-
-pub returns-then-v-lt64 : goal.returns-then-v-lt64
-returns-then-v-lt64 c =
-    let v = c.args.v in
-    rw (one_shifted v c.if-v-lt64.true) (rank v c.args.set, ones-few v c.args.set c.if-v-lt64.true)
 
 pub returns : goal.returns
 returns c =
-    (rank-all c.args.set c.args.v (omega (arith, c.ranges)) c.if-v-lt64.false, ones-le 64 c.args.set (omega (arith, c.ranges)))
+    let s = c.args.set in
+    let v = c.args.v in
+    elim c.if-v-lt64.branch [
+      | then-v-lt64 u ↦ rw (u.below-is, one_shifted v u.if-v-lt64.true) (rank v s, ones-few v s u.if-v-lt64.true)
+      | else-v-lt64 u ↦ rw u.below-is (rank-all s v (omega (arith, c.ranges)) u.if-v-lt64.false, ones-le 64 s (omega (arith, c.ranges)))
+    ]
