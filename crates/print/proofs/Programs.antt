@@ -23,15 +23,14 @@ use Rattle.process.specs.Outcomes as process
 use Rattle.rewriting.specs.Rewriting.{rewritten}
 use Rattle.rewriting.specs.Outcomes.{rewrite_cause, rewrite_outcome}
 use Rattle.rewriting.specs.Answers.{outcome_of}
-use Rattle.rewriting.specs.declared.Answer.{Answer}
-use Rattle.rewriting.specs.declared.Answer.TheVariants.{Done}
+use Rattle.rewriting.specs.declared.Refusal.{Refusal}
 use Rattle.rewriting.proofs.Family.{sound}
 use Rattle.rewriting.proofs.Theorem.{rewritten-accepted}
 use Rattle.places.specs.Image.{image_of}
 use Rattle.places.proofs.WholeSums.{image-words}
 use Rattle.builder.specs.Answer.{BuildOutcome, outcome, built_outcome, build_outcome}
-use Rattle.builder.specs.declared.Built.{Built}
-use Rattle.builder.specs.declared.Built.TheVariants.{Words}
+use Rattle.builder.specs.declared.Refusal as builder
+use Rattle.std.specs.Prelude.{Result, Ok}
 use Rattle.print.specs.Text.{refusal}
 use Rattle.print.specs.Words.{words_of}
 use Rattle.print.specs.Listing.{listing}
@@ -184,7 +183,7 @@ first-outcome w lent n = go (true-or-false (same (rewrite_cause w) 0))
 -- ---- the text of a net
 
 -- what `build` answered of a table, into 16,384 words
-module _ (w lent left : List ℕ) (built : Built) (Lent-is : length lent ≡ 16384) (was : built_outcome built left ≡ build_outcome w lent) where
+module _ (w lent left : List ℕ) (built : Result ℕ builder.Refusal) (Lent-is : length lent ≡ 16384) (was : built_outcome built left ≡ build_outcome w lent) where
   pub net-refused : (m n : ℕ) → built_outcome built left ≡ outcome m 0 left → n ≡ m → refusal n ≡ net_text w
   unfolding build_outcome net_text
   net-refused m n a b = go (true-or-false (same (cause w) 0)) (dec_le (length (image_of w)) 16384)
@@ -201,12 +200,12 @@ module _ (w lent left : List ℕ) (built : Built) (Lent-is : length lent ≡ 163
           let k = ap (λ (o : BuildOutcome). o.number) (rw (p, lt-ltb (length lent) (length (image_of w)) (omega arith)) at e) in
           rw (p, lt-ltb 16384 (length (image_of w)) (omega arith), b, k)
 
-  pub net-listed : (n : ℕ) → built ≡ Words n → (n ≤ length left) × (listing (take n left) ≡ net_text w)
+  pub net-listed : (n : ℕ) → built ≡ Ok n → (n ≤ length left) × (listing (take n left) ≡ net_text w)
   unfolding build_outcome net_text
   net-listed n a = go (true-or-false (same (cause w) 0)) (dec_le (length (image_of w)) 16384)
     where
       e : outcome 0 n left ≡ build_outcome w lent
-      e = sym (ap (λ (b : Built). built_outcome b left) a) ∙ was
+      e = sym (ap (λ (b : Result ℕ builder.Refusal). built_outcome b left) a) ∙ was
 
       go : (same (cause w) 0 ≡ true) ⊎ (same (cause w) 0 ≡ false) → Dec (length (image_of w) ≤ 16384)
           → (n ≤ length left) × (listing (take n left) ≡ net_text w)
@@ -237,7 +236,7 @@ module _ (bytes first : List ℕ) (first-is : first ≡ take 4096 (words_of byte
       rw (i, f, k, same-no (odd_cause (cause_sparing w true)) 0 (odd-some (cause_sparing w true)))
 
   -- what `rewrite` answered of the first words, into 2,229 words
-  module _ (even : length bytes % 2 ≡ 1 → ⊥) (lent left : List ℕ) (answer : Answer) (Lent-is : length lent ≡ 2229)
+  module _ (even : length bytes % 2 ≡ 1 → ⊥) (lent left : List ℕ) (answer : Result ℕ Refusal) (Lent-is : length lent ≡ 2229)
       (was : outcome_of answer left ≡ rewrite_outcome first lent) where
     not-odd : is_odd bytes ≡ false
     not-odd = sym (odd_is bytes) ∙ ne_eqb _ _ even
@@ -256,12 +255,12 @@ module _ (bytes first : List ℕ) (first-is : first ≡ take 4096 (words_of byte
             absurd (omega arith)
         go (inr p) = let k = ap (λ (o : process.Outcome). o.number) (sym a ∙ (rw p at answered)) in rw (not-odd, p, b, k)
 
-    pub rewritten-text : (n : ℕ) → answer ≡ Done n → (n ≤ length left) × (net_text (take n left) ≡ program_text bytes)
+    pub rewritten-text : (n : ℕ) → answer ≡ Ok n → (n ≤ length left) × (net_text (take n left) ≡ program_text bytes)
     unfolding program_text program_cause net_text
     rewritten-text n a = go (true-or-false (same (rewrite_cause w) 0))
       where
-        is : outcome_of answer left ≡ outcome_of (Done n) left
-        is = ap (λ (x : Answer). outcome_of x left) a
+        is : outcome_of answer left ≡ outcome_of (Ok n) left
+        is = ap (λ (x : Result ℕ Refusal). outcome_of x left) a
 
         go : (same (rewrite_cause w) 0 ≡ true) ⊎ (same (rewrite_cause w) 0 ≡ false) → (n ≤ length left) × (net_text (take n left) ≡ program_text bytes)
         go (inl p) =

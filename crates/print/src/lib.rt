@@ -9,6 +9,7 @@ ghost use Rattle.std.specs.Prelude.{[], ◌∷◌, ◌≡◌, ◌+◌, ◌<◌, 
 ghost use Rattle.std.proofs.lemmas.List.Edits.{sets};
 ghost use Rattle.std.proofs.Math.Seq.{slice};
 ghost use Rattle.lists.specs.Lists.{word, flat, range};
+ghost use Rattle.table.specs.Answer.{cause_of};
 ghost use Rattle.net.specs.Image.{transition_count};
 ghost use Rattle.print.specs.Answers.{outcome_of, done, answered, written};
 ghost use Rattle.print.specs.Text.{decimal, numbers, spaced, refusal};
@@ -18,9 +19,9 @@ ghost use Rattle.print.specs.Inner.Cursors.{cursor_at, write};
 ghost use Rattle.print.specs.Inner.Parts.{label_text, arcs_text, net_text, RecordAt};
 ghost use Rattle.print.specs.Program.{odd_cause, program_text};
 
-use builder::Built;
+use builder::Refusal;
 use lists::{store, word};
-use rewriting::Answer;
+use table::Cause;
 
 // Where the next byte goes, and where writing stops.
 #[derive(Clone, Copy)]
@@ -276,23 +277,22 @@ fn list_net(table: &[u16], out: &mut [u8]) -> Option<usize>
 {
     let mut image = [0u32; 16384];
     match builder::build(table, &mut image) {
-        Built::Words(size) => listing(&image[..size], out),
-        Built::Refused(verdict) => refusal(table::number(verdict), out),
-        Built::Room => refusal(10, out),
+        Ok(size) => listing(&image[..size], out),
+        Err(Refusal::Table(cause)) => refusal(usize::from(cause), out),
+        Err(Refusal::NoRoom) => refusal(10, out),
     }
 }
 
 // The number with an odd last byte: 3 after 1 and 2.
-fn odd_number(number: usize) -> usize
-    ensures { result ≡ odd_cause number }
+#[tactic(auto, unfolding(lists::specs::Lists::same))]
+fn odd_number(checked: Result<(), Cause>) -> usize
+    ensures { result ≡ odd_cause (cause_of checked) }
 {
-    if number == 1 {
-        return 1;
+    match checked {
+        Err(Cause::Short) => 1,
+        Err(Cause::Counts) => 2,
+        _ => 3,
     }
-    if number == 2 {
-        return 2;
-    }
-    3
 }
 
 // What the listing program prints of its input. Input longer than any table is told by its first words; a rewritten
@@ -303,15 +303,12 @@ pub fn list(bytes: &[u8], out: &mut [u8]) -> Option<usize>
     let mut table = [0u16; 4096];
     let count = fill_words(bytes, &mut table).min(4096);
     if bytes.len() % 2 == 1 {
-        let verdict = table::check_sparing(&table[..count], true);
-        return refusal(odd_number(table::number(verdict)), out);
+        return refusal(odd_number(table::check_sparing(&table[..count], true)), out);
     }
     let mut rewritten = [0u16; 2229];
     match rewriting::rewrite(&table[..count], &mut rewritten) {
-        Answer::Done(size) => list_net(&rewritten[..size], out),
-        Answer::Refused(verdict) => refusal(table::number(verdict), out),
-        Answer::NoRoom => refusal(10, out),
-        Answer::Missing => refusal(5, out),
+        Ok(size) => list_net(&rewritten[..size], out),
+        Err(refused) => refusal(usize::from(refused), out),
     }
 }
 

@@ -11,9 +11,9 @@ mod numbering;
 mod words;
 
 ghost use Rattle.std.specs.Prelude.{◌≡◌, []};
+ghost use Rattle.rewriting.specs.Answers.{refusal_number, outcome_of};
 ghost use Rattle.rewriting.specs.Outcomes.{rewrite_outcome, origin_outcome, node_origin, branch_origin, name_origin};
 ghost use Rattle.rewriting.specs.Inner.Placing.{origins_of};
-ghost use Rattle.rewriting.specs.Answers.{refusal_number, outcome_of};
 ghost use Rattle.rewriting.specs.declared.Refusal.TheVariants.{Table};
 
 use crate::copies::{Part, originals, prepare, with_copies};
