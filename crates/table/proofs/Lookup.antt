@@ -12,7 +12,7 @@ use Rattle.lists.proofs.Tests.{true-or-false, not-true-false, same_true}
 use Rattle.lists.proofs.Ranges.{from_member}
 use Rattle.lists.proofs.First.{first-none}
 use Rattle.lists.proofs.Members.{member-nil}
-use Rattle.scheme.specs.Words.{nodes, branches, definitions, names, branches_of, is_choice, node_first, node_second}
+use Rattle.scheme.specs.Words.{Number, nodes, branches, definitions, names, branches_of, is_choice, node_first, node_second}
 use Rattle.scheme.specs.Owners.{home, definition}
 use Rattle.scheme.specs.Scheme.{scheme, binder_of}
 use Rattle.scheme.specs.Index.{binder_number, homes_in, definitions_in, binders_in, held_at, thread_at, branch_thread_at, name_thread_at, IsIndex, Filled}
@@ -109,3 +109,17 @@ module _ (w : List ℕ) (ok : cause w ≡ 0) where
     pub held-right : (n : ℕ) → n < nodes w → held_at w x n ≡ (scheme w).held n
     unfolding scheme
     held-right n h = held-told w x (has-bodies w x I) few.0 few.1 (omega (arith, few.2)) n h
+
+-- the same of a table with its index
+module _ (w index : List ℕ) (K : Known w index) where
+  pub home_same : (b r : ℕ) → r ≡ word (homes_in index) b → r ≡ (scheme w).home b
+  home_same b r e = e ∙ home-right w K.accepted index K.right b
+
+  pub thread-same : (n r : ℕ) → Number (thread_at w index n) r → Number ((scheme w).thread n) r
+  thread-same n r N = record { is = N.is ∙ thread-right w K.accepted index K.right n; small = N.small }
+
+  pub branch-thread-same : (b r : ℕ) → Number (branch_thread_at w index b) r → Number ((scheme w).thread ((scheme w).home b)) r
+  branch-thread-same b r N = record { is = N.is ∙ branch-thread-right w K.accepted index K.right b; small = N.small }
+
+  pub name-thread-same : (x r : ℕ) → Number (name_thread_at w index x) r → r ≡ (scheme w).thread_of_name x
+  name-thread-same x r N = N.is ∙ name-thread-right w K.accepted index K.right x
