@@ -33,7 +33,14 @@ use Rattle.places.specs.Inner.Plan.{today}
 use Rattle.places.proofs.Controls.{publics-are, bounds-are}
 use Rattle.readback.specs.Configurations.{Spot, Configuration, shown_node_of, name_shown_at, shown_name, state_shown}
 use Rattle.readback.specs.Reading.{marked, configuration, reading_back}
-use Rattle.readback.specs.Answers.{laid_outcome, read_outcome}
+use Rattle.std.specs.Prelude.{Result, Ok, Err, ⊤, IsErrAnd}
+use Rattle.places.specs.Plan.{plan_end}
+use Rattle.places.specs.Answers as places
+use Rattle.places.specs.declared.Refusal as planned
+use Rattle.places.specs.declared.Refusal.TheVariants as planned_as
+use Rattle.places.proofs.Outcomes.{plan-refused, plan-short}
+use Rattle.readback.specs.declared.Refusal.{Refusal}
+use Rattle.readback.specs.Answers.{of_plan, outcome_of, laid_outcome, read_outcome}
 use Rattle.readback.specs.Inner.Showing.{spot_at, value_found_in}
 use Rattle.readback.specs.Inner.Settling.{Settled, stands_in}
 use Rattle.readback.proofs.Stands.{read_at, read-value, read-public}
@@ -195,11 +202,17 @@ module _ (w m lent : List ℕ) (n : ℕ) (n-is : n ≡ length (Places.places (sc
           let k : length (state_words (scheme w) state) ≤ length lent = omega (arith, state-length) in
           rw (← n-is, h, e, le-ltb (length lent) (length (state_words (scheme w) state)) k, q, ← sets-whole lent (state_words (scheme w) state) k, state-length)
 
--- ---- the table's own verdict first
+-- ---- the table's own cause first
 
-pub read-refused : (w m lent : List ℕ) (n : ℕ) → (n ≡ cause w) × (cause w ≡ 0 → ⊥) → refusal n lent ≡ read_outcome w m lent
-unfolding read_outcome
-read-refused w m lent n k = rw (k.0, same-no (cause w) 0 k.1)
+module _ (w m lent before index : List ℕ) (r : Result ⊤ planned.Refusal) (right : places.planned r index ≡ places.plan_outcome w before) (long : plan_end ≤ length before) where
+  refused : (q : planned.Refusal) → r ≡ Err q → outcome_of (Err (of_plan q)) lent ≡ read_outcome w m lent
+  unfolding read_outcome
+  refused (planned_as.Table v) e = let t = plan-refused w before index r right v e in rw (t.0, same-no (cause w) 0 t.1)
+  refused planned_as.NoRoom e = absurd (plan-short w before index r right e long)
+
+  pub read-refused : (q : planned.Refusal) → r ≡ Err q → (s : Result ℕ Refusal) → IsErrAnd s (λ p. p ≡ of_plan q) → outcome_of s lent ≡ read_outcome w m lent
+  read-refused q e (Ok n) h = absurd h
+  read-refused q e (Err p) h = rw h (refused q e)
 
 pub read-laid-out : (w m lent : List ℕ) (o : Outcome) → cause w ≡ 0 → o ≡ laid_outcome w m lent → o ≡ read_outcome w m lent
 unfolding read_outcome

@@ -1,10 +1,11 @@
 // Reading a marking back: the words of the state that it stands for.
 #![tactic(auto)]
 
-ghost use Rattle.std.specs.Prelude.{◌≡◌};
+ghost use Rattle.std.specs.Prelude.{◌≡◌, ◌<◌};
 ghost use Rattle.places.specs.Plan.{Laid};
 ghost use Rattle.readback.specs.Inner.Settling.{Settling, Settles};
-ghost use Rattle.readback.specs.Answers.{outcome_of, laid_outcome, read_outcome};
+ghost use Rattle.readback.specs.Answers.{outcome_of, laid_outcome, read_outcome, refusal_number, of_plan};
+ghost use Rattle.readback.specs.declared.Refusal.TheVariants.{Table};
 
 mod found;
 mod names;
@@ -12,18 +13,49 @@ mod shown;
 mod spots;
 
 use lists::word;
-use places::Planned;
 use places::lookup::{SIZE, place_count};
+use table::Cause;
 
-// What `read` did: how many words it wrote, or what it refuses: the table, bytes that are no marking of its net, a
-// marking that stands for no state, a lent output that is too short.
-#[derive(Clone, Copy)]
-pub enum Answer {
-    Done(usize),
-    Refused(table::Verdict),
+// What `read` refuses: the table, bytes that are no marking of its net, a marking that stands for no state, a lent output
+// that is too short.
+#[derive(Clone, Copy, Debug, PartialEq, Eq)]
+pub enum Refusal {
+    Table(Cause),
     NoMarking,
     NoState,
     NoRoom,
+}
+
+impl From<Cause> for Refusal {
+    ghost from_gives = { λ cause refusal. refusal ≡ Table cause };
+
+    fn from(cause: Cause) -> Refusal {
+        Refusal::Table(cause)
+    }
+}
+
+impl From<places::Refusal> for Refusal {
+    ghost from_gives = { λ planned refusal. refusal ≡ of_plan planned };
+
+    fn from(planned: places::Refusal) -> Refusal {
+        match planned {
+            places::Refusal::Table(cause) => Refusal::Table(cause),
+            places::Refusal::NoRoom => Refusal::NoRoom,
+        }
+    }
+}
+
+impl From<Refusal> for usize {
+    ghost from_gives = { λ refusal number. (number ≡ refusal_number refusal) × (number < 20) };
+
+    fn from(refusal: Refusal) -> usize {
+        match refusal {
+            Refusal::Table(cause) => cause.into(),
+            Refusal::NoMarking => 13,
+            Refusal::NoState => 17,
+            Refusal::NoRoom => 10,
+        }
+    }
 }
 
 // Whether a marking stands for a state. Fills in where the threads stand, and the values of bound names.
@@ -49,13 +81,18 @@ fn stands_for(
 }
 
 // Reads a marking of a table that is laid out.
-fn read_laid(table: &[u16], index: &[u32], marking: &[u8], state: &mut [u16]) -> Answer
+fn read_laid(
+    table: &[u16],
+    index: &[u32],
+    marking: &[u8],
+    state: &mut [u16],
+) -> Result<usize, Refusal>
     requires { Laid table.now index.now }
     ensures { outcome_of result state.new
         ≡ laid_outcome table.now marking.now state.old }
 {
     if !net::marking_right(marking, place_count(index)) {
-        return Answer::NoMarking;
+        return Err(Refusal::NoMarking);
     }
     let mut places = [0u32; 8];
     let mut indexes = [0u32; 8];
@@ -68,26 +105,23 @@ fn read_laid(table: &[u16], index: &[u32], marking: &[u8], state: &mut [u16]) ->
         &mut indexes,
         &mut values,
     ) {
-        return Answer::NoState;
+        return Err(Refusal::NoState);
     }
     let size = word(table, 3) + word(table, 1);
     if state.len() < size {
-        return Answer::NoRoom;
+        return Err(Refusal::NoRoom);
     }
     shown::write_nodes(table, &places, &indexes, state);
     shown::write_values(table, index, &places, &indexes, &values, state);
-    Answer::Done(size)
+    Ok(size)
 }
 
-// The words of the state that a marking of the table's net stands for.
-pub fn read(table: &[u16], marking: &[u8], state: &mut [u16]) -> Answer
+// The words of the state that a marking of the table's net stands for; how many they are.
+pub fn read(table: &[u16], marking: &[u8], state: &mut [u16]) -> Result<usize, Refusal>
     ensures { outcome_of result state.new
         ≡ read_outcome table.now marking.now state.old }
 {
     let mut index = [0u32; SIZE];
-    match places::plan(table, &mut index) {
-        Planned::Ready => read_laid(table, &index, marking, state),
-        Planned::Refused(verdict) => Answer::Refused(verdict),
-        Planned::Short => Answer::NoRoom,
-    }
+    places::plan(table, &mut index)?;
+    read_laid(table, &index, marking, state)
 }
