@@ -1,19 +1,16 @@
 -- What the code reads of a table, and what a Scheme says of it.
-use mathlib.Core.Path.{◌≡◌, refl, ◌∙◌}
+use mathlib.Core.Path.{◌≡◌, refl}
 use mathlib.Core.Bool.{Bool, true, false, ◌&&◌}
 use mathlib.Core.List.{List}
 use Prim.Native.Nat.{ℕ}
 use lib.Dec.{ltb}
-use Rattle.lists.specs.Lists.{pick, word}
+use Rattle.lists.specs.Lists.{pick}
 use Rattle.lists.proofs.Tests.{and_left, and_right}
 use Rattle.scheme.specs.Words.{nodes, branches, is_choice, is_new, is_call_node, is_silent, is_send, is_receive}
-use Rattle.scheme.specs.Words.{Number, node_first, node_second, channel, branch_name, next}
+use Rattle.scheme.specs.Words.{node_first, node_second, channel, branch_name, next}
 use Rattle.scheme.specs.Scheme.{scheme, stop, choice, new, call, silent, send, receive, node_at, branch_at}
-use Rattle.scheme.specs.Index.{homes_in, thread_at, branch_thread_at, name_thread_at}
 use Rattle.scheme.specs.Kinds
 use Rattle.table.proofs.Inside
-use Rattle.table.proofs.Lookup.{home-right, thread-right, branch-thread-right, name-thread-right}
-use Rattle.table.specs.Known.{Known}
 
 -- ---- kinds
 
@@ -152,18 +149,3 @@ module _ (w : List ℕ) (b : ℕ) where
   pub receive-there : Kinds.is_receive ((scheme w).branch b) ≡ (ltb b (branches w) && is_receive w b)
   unfolding scheme
   receive-there = is-receive
-
--- ---- threads
-
-module _ (w index : List ℕ) (K : Known w index) where
-  pub home_same : (b r : ℕ) → r ≡ word (homes_in index) b → r ≡ (scheme w).home b
-  home_same b r e = e ∙ home-right w K.accepted index K.right b
-
-  pub thread-same : (n r : ℕ) → Number (thread_at w index n) r → Number ((scheme w).thread n) r
-  thread-same n r N = record { is = N.is ∙ thread-right w K.accepted index K.right n; small = N.small }
-
-  pub branch-thread-same : (b r : ℕ) → Number (branch_thread_at w index b) r → Number ((scheme w).thread ((scheme w).home b)) r
-  branch-thread-same b r N = record { is = N.is ∙ branch-thread-right w K.accepted index K.right b; small = N.small }
-
-  pub name-thread-same : (x r : ℕ) → Number (name_thread_at w index x) r → r ≡ (scheme w).thread_of_name x
-  name-thread-same x r N = N.is ∙ name-thread-right w K.accepted index K.right x

@@ -16,7 +16,6 @@ use Rattle.lists.proofs.Ranges.{from-length}
 use Rattle.lists.proofs.Stores.{sets-append}
 use Rattle.scheme.specs.Words.{publics, bounds, threads}
 use Rattle.table.specs.Causes.{cause}
-use Rattle.table.specs.Known.{Known}
 use Rattle.scheme.specs.Scheme.{Scheme, scheme}
 use Rattle.process.specs.States.{State}
 use Rattle.process.specs.Steps.{Step, no_step, is_step_open, take}
@@ -117,7 +116,7 @@ module _ (w ws : List ℕ) (kind a b : ℕ) (lent : List ℕ) where
             let i : sets lent 0 (state_words (scheme w) after) ≡ left = sym (g ∙ rw t.1) in
             rw (e, same_self 0, f, t.0, le-ltb (length lent) (length (state_words (scheme w) after)) k, q, counted w, ← sets-whole lent (state_words (scheme w) after) k, i)
 
-        pub step-going : (index : List ℕ) → Known w index → Going w index ws (meant y)
-        step-going index K =
+        pub step-going : Going w ws (meant y)
+        step-going =
             let t = taken (scheme w) (state_of (scheme w) ws) (step_of (scheme w) kind a b) y o in
-            record { known = K; is_open = rw t.1 t.0 }
+            rw t.1 t.0

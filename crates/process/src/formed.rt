@@ -7,82 +7,76 @@ ghost use Rattle.scheme.specs.Scheme.{scheme};
 ghost use Rattle.process.specs.States.{is_one_value};
 ghost use Rattle.process.specs.StateWords.{state_of, state_words, holds_at, is_node_right, is_name_right, is_restricted_right};
 ghost use Rattle.process.specs.StateWords.{same_list, is_well_formed};
-ghost use Rattle.table.specs.Known.{Known};
 ghost use Rattle.process.specs.Inner.Sized.{Sized};
 ghost use Rattle.process.specs.Inner.Values.{next_seen_of};
 
-use crate::threads::{is_stop, name_thread, node_thread};
+use crate::threads::is_stop;
 use crate::values::{one_value, value_of};
 use lists::word;
 use scheme::fields::name_kind;
 use scheme::lookup::held_names;
+use table::known::Known;
 
 // Whether a node holds a name.
-pub(crate) fn holds(table: &[u16], index: &[u32], node: usize, name: usize) -> bool
-    requires { Known table.now index.now }
-    ensures { result ≡ member name ((scheme table.now).held node) }
+pub(crate) fn holds(known: &Known, node: usize, name: usize) -> bool
+    ensures { result ≡ member name ((scheme known.now.table.now).held node) }
 {
-    if word(table, 4) <= node {
+    if word(known.table, 4) <= node {
         return false;
     }
     let mut names = [0u32; 64];
-    let count = held_names(table, index, node as u8, &mut names);
+    let count = held_names(known.table, known.index, node as u8, &mut names);
     names[..count].iter().any(|x| *x as usize == name)
 }
 
 // Whether a name is to have a value in the state: its thread's node holds it, and is no Stop.
-fn is_held(table: &[u16], index: &[u32], state: &[u16], name: usize) -> bool
-    requires { Known table.now index.now }
-    ensures { result ≡ holds_at (scheme table.now)
-        (state_of (scheme table.now) state.now) name }
+fn is_held(known: &Known, state: &[u16], name: usize) -> bool
+    ensures { result ≡ holds_at (scheme known.now.table.now)
+        (state_of (scheme known.now.table.now) state.now) name }
 {
-    let node = word(state, name_thread(table, index, name));
-    !is_stop(table, node) && holds(table, index, node, name)
+    let node = word(state, known.name_thread(name));
+    !is_stop(known.table, node) && holds(known, node, name)
 }
 
 // Whether a name has a value just where it is to have one, and the value is not too large.
-fn name_right(table: &[u16], index: &[u32], state: &[u16], name: usize) -> bool
-    requires { Known table.now index.now }
-    ensures { result ≡ is_name_right (scheme table.now)
-        (state_of (scheme table.now) state.now) name }
+fn name_right(known: &Known, state: &[u16], name: usize) -> bool
+    ensures { result ≡ is_name_right (scheme known.now.table.now)
+        (state_of (scheme known.now.table.now) state.now) name }
 {
-    let value = value_of(table, state, name);
-    let held = is_held(table, index, state, name);
+    let value = value_of(known.table, state, name);
+    let held = is_held(known, state, name);
     if value == 65535 {
         return !held;
     }
-    held && value < word(table, 0) + word(table, 1)
+    held && value < word(known.table, 0) + word(known.table, 1)
 }
 
-fn names_right(table: &[u16], index: &[u32], state: &[u16]) -> bool
-    requires { Known table.now index.now }
+fn names_right(known: &Known, state: &[u16]) -> bool
     ensures { result ≡ every
-        (is_name_right (scheme table.now) (state_of (scheme table.now) state.now))
-        (from (publics table.now) (bounds table.now)) }
+        (is_name_right (scheme known.now.table.now) (state_of (scheme known.now.table.now) state.now))
+        (from (publics known.now.table.now) (bounds known.now.table.now)) }
 {
-    let first = word(table, 0);
-    let end = first + word(table, 1);
-    (first..end).all(|x| name_right(table, index, state, x))
+    let first = word(known.table, 0);
+    let end = first + word(known.table, 1);
+    (first..end).all(|x| name_right(known, state, x))
 }
 
 // Whether a thread stands at a node of its own.
-fn node_right(table: &[u16], index: &[u32], state: &[u16], thread: usize) -> bool
-    requires { Known table.now index.now }
-    ensures { result ≡ is_node_right (scheme table.now)
-        (state_of (scheme table.now) state.now) thread }
+fn node_right(known: &Known, state: &[u16], thread: usize) -> bool
+    ensures { result ≡ is_node_right (scheme known.now.table.now)
+        (state_of (scheme known.now.table.now) state.now) thread }
 {
     let node = word(state, thread);
-    node < word(table, 4) && node_thread(table, index, node) == thread
+    node < word(known.table, 4) && known.node_thread(node) == thread
 }
 
-fn nodes_right(table: &[u16], index: &[u32], state: &[u16]) -> bool
-    requires { Known table.now index.now }
+fn nodes_right(known: &Known, state: &[u16]) -> bool
     ensures { result ≡ every
-        (is_node_right (scheme table.now) (state_of (scheme table.now) state.now))
-        (range (threads table.now)) }
+        (is_node_right (scheme known.now.table.now) (state_of (scheme known.now.table.now) state.now))
+        (range (threads known.now.table.now)) }
 {
-    let threads = word(table, 3);
-    (0..threads).all(|t| node_right(table, index, state, t))
+    let threads = word(known.table, 3);
+    (0..threads).all(|t| node_right(known, state, t))
 }
 
 // How many private values have appeared once `value` has, if it is numbered by first appearance.
@@ -167,13 +161,12 @@ fn all_restricted_right(table: &[u16], state: &[u16]) -> bool
 }
 
 // Whether the words are a state's: their length, the nodes, the names, the numbering, and last the restricted names.
-pub(crate) fn well_formed(table: &[u16], index: &[u32], state: &[u16]) -> bool
-    requires { Known table.now index.now }
-    ensures { result ≡ is_well_formed (scheme table.now) state.now }
+pub(crate) fn well_formed(known: &Known, state: &[u16]) -> bool
+    ensures { result ≡ is_well_formed (scheme known.now.table.now) state.now }
 {
-    state.len() == word(table, 3) + word(table, 1)
-        && nodes_right(table, index, state)
-        && names_right(table, index, state)
-        && is_numbered(table, state)
-        && all_restricted_right(table, state)
+    state.len() == word(known.table, 3) + word(known.table, 1)
+        && nodes_right(known, state)
+        && names_right(known, state)
+        && is_numbered(known.table, state)
+        && all_restricted_right(known.table, state)
 }

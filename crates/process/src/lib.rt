@@ -25,8 +25,9 @@ use crate::listing::list_open;
 use crate::next::write_state;
 use lists::{store, word};
 use scheme::fields::{field1, field4};
-use scheme::index::{SIZE, fill};
+use scheme::index::SIZE;
 use table::Cause;
+use table::known::Known;
 
 // What a call refuses: the table, the state words, a step that is not open, a lent output that is too short.
 #[derive(Clone, Copy, Debug, PartialEq, Eq)]
@@ -101,13 +102,12 @@ pub fn open_steps(table: &[u16], state: &[u16], labels: &mut [u32]) -> Result<us
     ensures { outcome_of result labels.new
         ≡ open_outcome table.now state.now labels.old }
 {
-    table::check(table)?;
     let mut index = [0u32; SIZE];
-    fill(table, &mut index);
-    if !well_formed(table, &index, state) {
+    let known = Known::of(table, &mut index)?;
+    if !well_formed(&known, state) {
         return Err(Refusal::Malformed);
     }
-    let size = list_open(table, &index, state, labels);
+    let size = list_open(&known, state, labels);
     if labels.len() < size {
         return Err(Refusal::NoRoom);
     }
@@ -126,19 +126,18 @@ pub fn step(
     ensures { outcome_of result next.new
         ≡ step_outcome table.now state.now kind a b next.old }
 {
-    table::check(table)?;
     let mut index = [0u32; SIZE];
-    fill(table, &mut index);
-    if !well_formed(table, &index, state) {
+    let known = Known::of(table, &mut index)?;
+    if !well_formed(&known, state) {
         return Err(Refusal::Malformed);
     }
-    let Some(taken) = open_step(table, &index, state, kind, a, b) else {
+    let Some(taken) = open_step(&known, state, kind, a, b) else {
         return Err(Refusal::NotOpen);
     };
     let size = word(table, 3) + word(table, 1);
     if next.len() < size {
         return Err(Refusal::NoRoom);
     }
-    write_state(table, &index, state, taken, next);
+    write_state(&known, state, taken, next);
     Ok(size)
 }

@@ -8,16 +8,16 @@ ghost use Rattle.scheme.specs.Words.{nodes, branches};
 ghost use Rattle.scheme.specs.Scheme.{scheme};
 ghost use Rattle.process.specs.Labels.{label_of, open_labels};
 ghost use Rattle.process.specs.StateWords.{state_of};
-ghost use Rattle.table.specs.Known.{Known};
 ghost use Rattle.process.specs.Inner.Codes.{meant, Labelled};
 ghost use Rattle.process.specs.Inner.Listed.{Listed, far, near, silent_words, step_words, node_words, pair_words};
-ghost use Rattle.process.specs.Inner.Listed.{pairs_words, meeting_words, list_words, standing, Pairing, Meeting};
+ghost use Rattle.process.specs.Inner.Listed.{pairs_words, meeting_words, list_words, standing};
 ghost use Rattle.process.specs.Inner.Listed.{Fitted};
 
 use crate::labels::{Pair, Step, can_meet, label_of, stands};
-use crate::threads::{branch_is, home, node_is};
+use crate::threads::{branch_is, node_is};
 use lists::{store, word};
 use scheme::fields::field3;
+use table::known::Known;
 
 // Writes the label of a step; where the next one goes.
 fn write_label(table: &[u16], step: Step, at: usize, out: &mut [u32]) -> usize
@@ -80,54 +80,45 @@ fn list_steps(table: &[u16], node: usize, at: usize, out: &mut [u32]) -> usize
     at
 }
 
-fn list_node(
-    table: &[u16],
-    index: &[u32],
-    state: &[u16],
-    node: usize,
-    at: usize,
-    out: &mut [u32],
-) -> usize
-    requires { Known table.now index.now × (node < 65536) × (at < near) }
+fn list_node(known: &Known, state: &[u16], node: usize, at: usize, out: &mut [u32]) -> usize
+    requires { (node < 65536) × (at < near) }
     ensures { Listed 196608
-        (node_words (scheme table.now) (state_of (scheme table.now) state.now) node)
+        (node_words (scheme known.now.table.now) (state_of (scheme known.now.table.now) state.now) node)
         out.old at out.new result }
 {
-    if stands(table, index, state, node) {
-        return list_steps(table, node, at, out);
+    if stands(known, state, node) {
+        return list_steps(known.table, node, at, out);
     }
     at
 }
 
-fn list_nodes(table: &[u16], index: &[u32], state: &[u16], out: &mut [u32]) -> usize
-    requires { Known table.now index.now }
+fn list_nodes(known: &Known, state: &[u16], out: &mut [u32]) -> usize
     ensures { Listed 12884901888
-        (flat (node_words (scheme table.now) (state_of (scheme table.now) state.now))
-        (range (nodes table.now))) out.old 0 out.new result }
+        (flat (node_words (scheme known.now.table.now) (state_of (scheme known.now.table.now) state.now))
+        (range (nodes known.now.table.now))) out.old 0 out.new result }
 {
-    let nodes = word(table, 4);
+    let nodes = word(known.table, 4);
     let mut next = 0;
     for n in 0..nodes {
-        next = list_node(table, index, state, n, next, out);
+        next = list_node(known, state, n, next, out);
     }
     next
 }
 
 fn gather_branch(
-    table: &[u16],
-    index: &[u32],
+    known: &Known,
     state: &[u16],
     kind: usize,
     branch: usize,
     at: usize,
     out: &mut [u32],
 ) -> usize
-    requires { Known table.now index.now × (branch < 65536) × (at < far) }
+    requires { (branch < 65536) × (at < far) }
     ensures { Listed 1
-        (standing table.now (state_of (scheme table.now) state.now) kind branch)
+        (standing known.now.table.now (state_of (scheme known.now.table.now) state.now) kind branch)
         out.old at out.new result }
 {
-    if branch_is(table, branch, kind) && stands(table, index, state, home(table, index, branch)) {
+    if branch_is(known.table, branch, kind) && stands(known, state, known.home(branch)) {
         store(out, at, branch as u32);
         return at + 1;
     }
@@ -135,129 +126,117 @@ fn gather_branch(
 }
 
 // The branches of a kind at nodes where threads stand.
-fn gather(table: &[u16], index: &[u32], state: &[u16], kind: usize, out: &mut [u32]) -> usize
-    requires { Known table.now index.now }
-    ensures { Listed (branches table.now)
-        (flat (standing table.now (state_of (scheme table.now) state.now) kind)
-        (range (branches table.now))) out.old 0 out.new result }
+fn gather(known: &Known, state: &[u16], kind: usize, out: &mut [u32]) -> usize
+    ensures { Listed (branches known.now.table.now)
+        (flat (standing known.now.table.now (state_of (scheme known.now.table.now) state.now) kind)
+        (range (branches known.now.table.now))) out.old 0 out.new result }
 {
-    let branches = word(table, 5);
+    let branches = word(known.table, 5);
     let mut next = 0;
     for b in 0..branches {
-        next = gather_branch(table, index, state, kind, b, next, out);
+        next = gather_branch(known, state, kind, b, next, out);
     }
     next
 }
 
 fn list_pair(
-    table: &[u16],
-    index: &[u32],
+    known: &Known,
     state: &[u16],
     send: usize,
     receive: usize,
     at: usize,
     out: &mut [u32],
 ) -> usize
-    requires { Known table.now index.now × (send < 4294967296) × (receive < 4294967296)
+    requires { (send < 4294967296) × (receive < 4294967296)
         × (at < far) }
     ensures { Listed 3
-        (pair_words (scheme table.now) (state_of (scheme table.now) state.now) send
+        (pair_words (scheme known.now.table.now) (state_of (scheme known.now.table.now) state.now) send
         receive) out.old at out.new result }
 {
-    if can_meet(table, index, state, send, receive) {
+    if can_meet(known, state, send, receive) {
         let pair = Pair { send, receive };
-        return write_label(table, Step::Communicate(pair), at, out);
+        return write_label(known.table, Step::Communicate(pair), at, out);
     }
     at
 }
 
 fn list_pairs(
-    table: &[u16],
-    index: &[u32],
+    known: &Known,
     state: &[u16],
     send: usize,
     receives: &[u32],
     at: usize,
     out: &mut [u32],
 ) -> usize
-    requires { Pairing table.now index.now receives.now at × (send < 4294967296) }
+    requires { (length receives.now ≤ 256) × (at < near) × (send < 4294967296) }
     ensures { Listed 768
-        (pairs_words (scheme table.now) (state_of (scheme table.now) state.now)
+        (pairs_words (scheme known.now.table.now) (state_of (scheme known.now.table.now) state.now)
         receives.now send) out.old at out.new result }
 {
     let mut next = at;
     for &receive in receives {
-        next = list_pair(table, index, state, send, receive as usize, next, out);
+        next = list_pair(known, state, send, receive as usize, next, out);
     }
     next
 }
 
 fn list_meetings(
-    table: &[u16],
-    index: &[u32],
+    known: &Known,
     state: &[u16],
     sends: &[u32],
     receives: &[u32],
     at: usize,
     out: &mut [u32],
 ) -> usize
-    requires { Meeting table.now index.now sends.now receives.now × (at ≤ 12884901888) }
+    requires { (length sends.now ≤ 256) × (length receives.now ≤ 256) × (at ≤ 12884901888) }
     ensures { Listed 196608
-        (meeting_words (scheme table.now) (state_of (scheme table.now) state.now)
+        (meeting_words (scheme known.now.table.now) (state_of (scheme known.now.table.now) state.now)
         sends.now receives.now) out.old at out.new result }
 {
     let mut next = at;
     for &send in sends {
-        next = list_pairs(table, index, state, send as usize, receives, next, out);
+        next = list_pairs(known, state, send as usize, receives, next, out);
     }
     next
 }
 
 // The labels of all open steps, by node, then by send and receive; how many words they have.
-fn list(
-    table: &[u16],
-    index: &[u32],
-    state: &[u16],
-    sends: &[u32],
-    receives: &[u32],
-    out: &mut [u32],
-) -> usize
-    requires { Meeting table.now index.now sends.now receives.now }
+fn list(known: &Known, state: &[u16], sends: &[u32], receives: &[u32], out: &mut [u32]) -> usize
+    requires { (length sends.now ≤ 256) × (length receives.now ≤ 256) }
     ensures { Listed 12885098496
-        (list_words (scheme table.now) (state_of (scheme table.now) state.now)
+        (list_words (scheme known.now.table.now) (state_of (scheme known.now.table.now) state.now)
         sends.now receives.now) out.old 0 out.new result }
 {
-    let at = list_nodes(table, index, state, out);
-    list_meetings(table, index, state, sends, receives, at, out)
+    let at = list_nodes(known, state, out);
+    list_meetings(known, state, sends, receives, at, out)
 }
 
 // How many words the labels of all open steps have.
-fn count(table: &[u16], index: &[u32], state: &[u16], sends: &[u32], receives: &[u32]) -> usize
-    requires { Meeting table.now index.now sends.now receives.now }
+fn count(known: &Known, state: &[u16], sends: &[u32], receives: &[u32]) -> usize
+    requires { (length sends.now ≤ 256) × (length receives.now ≤ 256) }
     ensures { result ≡ length
-        (list_words (scheme table.now) (state_of (scheme table.now) state.now)
+        (list_words (scheme known.now.table.now) (state_of (scheme known.now.table.now) state.now)
         sends.now receives.now) }
 {
     let mut none = [0u32; 1];
-    list(table, index, state, sends, receives, &mut none)
+    list(known, state, sends, receives, &mut none)
 }
 
 // Writes the labels of all open steps if there is room for them; how many words they have.
-pub(crate) fn list_open(table: &[u16], index: &[u32], state: &[u16], labels: &mut [u32]) -> usize
-    requires { Known table.now index.now }
+pub(crate) fn list_open(known: &Known, state: &[u16], labels: &mut [u32]) -> usize
     ensures { Fitted
-        (open_labels (scheme table.now) (state_of (scheme table.now) state.now))
+        (open_labels (scheme known.now.table.now) (state_of (scheme known.now.table.now) state.now))
         labels.old labels.new result }
 {
     let mut sent = [0u32; 256];
     let mut received = [0u32; 256];
-    let s = gather(table, index, state, 1, &mut sent);
-    let r = gather(table, index, state, 2, &mut received);
+    let s = gather(known, state, 1, &mut sent);
+    let r = gather(known, state, 2, &mut received);
     let sends = &sent[..s];
     let receives = &received[..r];
-    let size = count(table, index, state, sends, receives);
+    let size = count(known, state, sends, receives);
     if labels.len() < size {
         return size;
     }
-    list(table, index, state, sends, receives, labels)
+    list(known, state, sends, receives, labels)
 }

@@ -1,22 +1,21 @@
 -- What the index of an accepted table tells is its scheme's, at every number.
 use mathlib.Core.Path.{◌≡◌, sym, ap, ◌∙◌}
-use mathlib.Core.Bool.{Bool, true, false}
+use mathlib.Core.Bool.{true, false}
 use mathlib.Core.List.{List, []}
 use mathlib.Core.Logic.{◌⊎◌, inl, inr}
 use Prim.Native.Nat.{ℕ, ◌≤◌, ◌<◌}
 use native.Mathlib.Decide.{dec_lt}
 use native.Mathlib.Omega.{arith}
-use lib.ListN.{length}
-use Rattle.lists.specs.Lists.{pick, same, word, from, member}
-use Rattle.lists.proofs.Tests.{true-or-false, not-true-false, same_true}
+use Rattle.lists.specs.Lists.{pick, word, from, member}
+use Rattle.lists.proofs.Tests.{true-or-false, not-true-false}
 use Rattle.lists.proofs.Ranges.{from_member}
 use Rattle.lists.proofs.First.{first-none}
 use Rattle.lists.proofs.Members.{member-nil}
-use Rattle.scheme.specs.Words.{nodes, branches, definitions, names, branches_of, is_choice, node_first, node_second}
+use Rattle.scheme.specs.Words.{Number, nodes, branches, definitions, names, branches_of, is_choice, node_first, node_second}
 use Rattle.scheme.specs.Owners.{home, definition}
 use Rattle.scheme.specs.Scheme.{scheme, binder_of}
-use Rattle.scheme.specs.Index.{binder_number, homes_in, definitions_in, binders_in, held_at, thread_at, branch_thread_at, name_thread_at, IsIndex, Filled}
-use Rattle.scheme.proofs.Joined.{filled-index, home-told, binder-told, definition-told, held-told, past-homes, past-binders, past-nodes, has-bodies}
+use Rattle.scheme.specs.Index.{binder_number, homes_in, definitions_in, binders_in, held_at, thread_at, branch_thread_at, name_thread_at, IsIndex}
+use Rattle.scheme.proofs.Joined.{home-told, binder-told, definition-told, held-told, past-homes, past-binders, past-nodes, has-bodies}
 use Rattle.table.specs.Causes.{cause}
 use Rattle.table.specs.Known.{Known}
 use Rattle.table.proofs.Accepted.{accepted}
@@ -25,14 +24,6 @@ use Rattle.table.proofs.Inside
 use Rattle.table.proofs.Trees
 use Rattle.table.proofs.Binders.{outside-unbound}
 use Rattle.table.proofs.NameThreads.{name-thread-in}
-
--- a table that `check` accepted, and its index where it was filled in
-pub accepted-here : (w : List ℕ) (n : ℕ) → same n 0 ≡ true → n ≡ cause w → cause w ≡ 0
-accepted-here w n h e = sym e ∙ same_true n 0 h
-
-pub known-here : (w : List ℕ) (n : ℕ) → same n 0 ≡ true → n ≡ cause w → (lent : List ℕ) (r : Bool) (index : List ℕ) → Filled w lent r index → 832 ≤ length lent
-    → Known w index
-known-here w n h e lent r index F l = record { accepted = accepted-here w n h e; right = filled-index w lent r index F l }
 
 module _ (w : List ℕ) (ok : cause w ≡ 0) where
   few : (nodes w ≤ 256) × (branches w ≤ 256) × (definitions w ≤ 32)
@@ -109,3 +100,17 @@ module _ (w : List ℕ) (ok : cause w ≡ 0) where
     pub held-right : (n : ℕ) → n < nodes w → held_at w x n ≡ (scheme w).held n
     unfolding scheme
     held-right n h = held-told w x (has-bodies w x I) few.0 few.1 (omega (arith, few.2)) n h
+
+-- the same of a table with its index
+module _ (w index : List ℕ) (K : Known w index) where
+  pub home_same : (b r : ℕ) → r ≡ word (homes_in index) b → r ≡ (scheme w).home b
+  home_same b r e = e ∙ home-right w K.accepted index K.right b
+
+  pub thread-same : (n r : ℕ) → Number (thread_at w index n) r → Number ((scheme w).thread n) r
+  thread-same n r N = record { is = N.is ∙ thread-right w K.accepted index K.right n; small = N.small }
+
+  pub branch-thread-same : (b r : ℕ) → Number (branch_thread_at w index b) r → Number ((scheme w).thread ((scheme w).home b)) r
+  branch-thread-same b r N = record { is = N.is ∙ branch-thread-right w K.accepted index K.right b; small = N.small }
+
+  pub name-thread-same : (x r : ℕ) → Number (name_thread_at w index x) r → r ≡ (scheme w).thread_of_name x
+  name-thread-same x r N = N.is ∙ name-thread-right w K.accepted index K.right x

@@ -4,6 +4,7 @@
 mod binding;
 mod calls;
 mod kinds;
+pub mod known;
 mod ranges;
 mod scope;
 mod shape;

@@ -9,7 +9,6 @@ use Rattle.process.specs.Steps.{new_step, silent_step, communication, step_call,
 use Rattle.process.specs.Labels
 use Rattle.process.specs.Labels.{Meaning, bookkeeping, step, missing, copy, release}
 use Rattle.process.specs.StateWords.{state_of}
-use Rattle.table.specs.Known.{Known}
 use Rattle.process.specs.declared.labels.Step.{Step}
 use Rattle.process.specs.declared.labels.Step.TheVariants.{New, Silent, Communicate, Call}
 use Rattle.process.specs.declared.labels.Bookkeeping as code
@@ -54,7 +53,6 @@ opened None = no_step
 abbrev pub if_open : Scheme → State → Steps.Step → Steps.Step
 if_open S s x = pick (is_step_open S s x) x no_step
 
--- the table is accepted and the index is its own, and the step is open in the state
-pub record Going (w index ws : List ℕ) (x : Steps.Step) : Type 0 where
-  pub known : Known w index
-  pub is_open : is_step_open (scheme w) (state_of (scheme w) ws) x ≡ true
+-- the step is open in the state that the words are of
+abbrev pub Going : List ℕ → List ℕ → Steps.Step → Type 0
+Going w ws x = is_step_open (scheme w) (state_of (scheme w) ws) x ≡ true

@@ -1,5 +1,5 @@
 -- Labels written one after another, and branches gathered, as far as a buffer reaches.
-use Rattle.std.specs.Prelude.{◌≡◌, ◌&&◌, List, [], ◌∷◌, ◌++◌, ℕ, ◌+◌, ◌≤◌, ◌<◌, ltb, length, drop}
+use Rattle.std.specs.Prelude.{◌≡◌, ◌&&◌, List, [], ◌∷◌, ◌++◌, ℕ, ◌+◌, ◌≤◌, ltb, length, drop}
 use Rattle.std.proofs.lemmas.List.Edits.{sets}
 use Rattle.lists.specs.Lists.{pick, same, range, flat}
 use Rattle.scheme.specs.Words.{branches, branch_kind}
@@ -8,7 +8,6 @@ use Rattle.scheme.specs.Kinds.{is_silent}
 use Rattle.process.specs.States.{State}
 use Rattle.process.specs.Steps.{silent_step, communication, is_step_open, is_standing_at}
 use Rattle.process.specs.Labels.{label_of, steps_of_node}
-use Rattle.table.specs.Known.{Known}
 
 -- the words are written from place i on, as far as the buffer reaches; the next place is r, not far from i
 pub record Listed (most : ℕ) (words before : List ℕ) (i : ℕ) (after : List ℕ) (r : ℕ) : Type 0 where
@@ -55,18 +54,6 @@ module _ (S : Scheme) where
 -- a branch of the kind whose thread stands at its node
 unfoldable pub standing : List ℕ → State → ℕ → ℕ → List ℕ
 standing w s kind b = pick ((ltb b (branches w) && same (branch_kind w b) kind) && is_standing_at (scheme w) s ((scheme w).home b)) (b ∷ []) []
-
--- the index of an accepted table, a place to write at, and few receives
-pub record Pairing (w index receives : List ℕ) (i : ℕ) : Type 0 where
-  pub known : Known w index
-  pub few : length receives ≤ 256
-  pub room : i < near
-
--- the index, and few sends and receives
-pub record Meeting (w index sends receives : List ℕ) : Type 0 where
-  pub known : Known w index
-  pub few-sends : length sends ≤ 256
-  pub few-receives : length receives ≤ 256
 
 -- the words are written if there is room for all of them; r is how many there are
 pub record Fitted (words before after : List ℕ) (r : ℕ) : Type 0 where

@@ -9,7 +9,7 @@ use Rattle.process.proofs.formed.well_formed.Goals as goal
 pub is_numbered-requires : goal.is_numbered-requires
 unfolding scheme
 is_numbered-requires c =
-    let A = accepted _ c.requires.accepted in
+    let A = accepted _ c.args.known.now.known.accepted in
     record { size = grind (arith, common_steps); few-publics = A.few-publics; few-bounds = A.few-bounds }
 
 pub returns-then-is_numbered : goal.returns-then-is_numbered

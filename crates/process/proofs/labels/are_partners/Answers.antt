@@ -13,8 +13,8 @@ unfolding same
 returns c =
     let a = c.args in
     rw (
-      send-there a.table.now a.send ∙ sym c.branch_is.ensures ∙ c.if-not-branch_is.false,
-      receive-there a.table.now a.receive ∙ sym c.branch_is-else-not-branch_is.ensures ∙ c.if-not-branch_is-2.false,
+      send-there a.known.now.table.now a.send ∙ sym c.branch_is.ensures ∙ c.if-not-branch_is.false,
+      receive-there a.known.now.table.now a.receive ∙ sym c.branch_is-else-not-branch_is.ensures ∙ c.if-not-branch_is-2.false,
       ← c.branch_thread-sender.ensures.is,
       ← c.branch_thread-receiver.ensures.is,
     )

@@ -10,7 +10,7 @@ pub loop-b-preserved : goal.loop-b-preserved
 loop-b-preserved c =
     let l = c.loop-b in
     let a = c.args in
-    let w = a.table.now in
+    let w = a.known.now.table.now in
     let s = state_of (scheme w) a.state.now in
     let r = c.gather_branch-next in (
       left-more _ _ _ _ _ _ l.invariant.0 _ _ _ _ _
@@ -22,7 +22,7 @@ pub returns : goal.returns
 returns c =
     let l = c.loop-b in
     let a = c.args in
-    let w = a.table.now in
+    let w = a.known.now.table.now in
     let s = state_of (scheme w) a.state.now in
     left_end _ _ _ _ _ _ l.invariant.0 _
     (flat-done (standing w s a.kind) l.b _ c.loop-b-test.false)

@@ -9,6 +9,6 @@ use Rattle.process.proofs.listing.gather.Given as goal
 
 abbrev pub invariant-loop-b : goal.invariant-loop-b
 invariant-loop-b l =
-    Left (flat (standing l.table (state_of (scheme l.table) l.state) l.kind) (range (branch_count_of l.table))) l.initial.out 0
-    (flat (standing l.table (state_of (scheme l.table) l.state) l.kind) (from l.b (l.branches - l.b))) l.out l.next ×
+    Left (flat (standing l.known.table.now (state_of (scheme l.known.table.now) l.state) l.kind) (range (branch_count_of l.known.table.now))) l.initial.out 0
+    (flat (standing l.known.table.now (state_of (scheme l.known.table.now) l.state) l.kind) (from l.b (l.branches - l.b))) l.out l.next ×
     (l.next ≤ l.b)

@@ -11,7 +11,7 @@ use Rattle.process.proofs.listing.gather_branch.Goals as goal
 pub returns-then-stands : goal.returns-then-stands
 returns-then-stands c =
     let a = c.args in
-    let w = a.table.now in
+    let w = a.known.now.table.now in
     let s = state_of (scheme w) a.state.now in
     let h = stand-there (scheme w) s _ _ _ c.home.ensures c.stands.ensures in
     rw (standing-there w s a.kind a.branch (sym c.branch_is.ensures ∙ c.if-branch_is.true) (sym h ∙ c.if-stands.true))
@@ -20,7 +20,7 @@ returns-then-stands c =
 pub returns : goal.returns
 returns c =
     let a = c.args in
-    let w = a.table.now in
+    let w = a.known.now.table.now in
     let s = state_of (scheme w) a.state.now in
     let e : standing w s a.kind a.branch ≡ [] = elim c.else-branch_is.branch [
       | else-branch_is-via-then-branch_is+else-stands p ↦

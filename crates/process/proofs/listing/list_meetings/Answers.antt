@@ -13,7 +13,7 @@ pub loop-send-preserved : goal.loop-send-preserved
 loop-send-preserved c =
     let l = c.loop-send in
     let a = c.args in
-    let w = a.table.now in
+    let w = a.known.now.table.now in
     let s = state_of (scheme w) a.state.now in
     let r = c.list_pairs-next in (
       left-more _ _ _ _ _ _ l.invariant.0 _ _ _ _ _
@@ -26,8 +26,8 @@ pub returns : goal.returns
 returns c =
     let l = c.loop-send in
     let a = c.args in
-    let w = a.table.now in
+    let w = a.known.now.table.now in
     let s = state_of (scheme w) a.state.now in
     left_end _ _ _ _ _ _ l.invariant.0 _
     (slice-done (pairs_words (scheme w) s a.receives.now) a.sends.now l.send-index _ c.loop-send-test.false)
-    (omega (arith, l.invariant.1, l.auto.send-index-end, c.requires.0.few-sends))
+    (omega (arith, l.invariant.1, l.auto.send-index-end, c.requires.0))

@@ -10,6 +10,6 @@ use Rattle.process.proofs.listing.list_meetings.Given as goal
 
 abbrev pub invariant-loop-send : goal.invariant-loop-send
 invariant-loop-send l =
-    Left (meeting_words (scheme l.table) (state_of (scheme l.table) l.state) l.sends l.receives) l.initial.out l.at
-    (flat (pairs_words (scheme l.table) (state_of (scheme l.table) l.state) l.receives) (slice l.send-index (length l.sends) l.sends)) l.out l.next ×
+    Left (meeting_words (scheme l.known.table.now) (state_of (scheme l.known.table.now) l.state) l.sends l.receives) l.initial.out l.at
+    (flat (pairs_words (scheme l.known.table.now) (state_of (scheme l.known.table.now) l.state) l.receives) (slice l.send-index (length l.sends) l.sends)) l.out l.next ×
     (l.next ≤ l.at + 768 * l.send-index)

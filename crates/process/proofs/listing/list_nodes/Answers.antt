@@ -10,7 +10,7 @@ pub loop-n-preserved : goal.loop-n-preserved
 loop-n-preserved c =
     let l = c.loop-n in
     let a = c.args in
-    let w = a.table.now in
+    let w = a.known.now.table.now in
     let s = state_of (scheme w) a.state.now in
     let r = c.list_node-next in (
       left-more _ _ _ _ _ _ l.invariant.0 _ _ _ _ _
@@ -22,7 +22,7 @@ pub returns : goal.returns
 returns c =
     let l = c.loop-n in
     let a = c.args in
-    let w = a.table.now in
+    let w = a.known.now.table.now in
     let s = state_of (scheme w) a.state.now in
     left_end _ _ _ _ _ _ l.invariant.0 _
     (flat-done (node_words (scheme w) s) l.n _ c.loop-n-test.false)

@@ -9,6 +9,6 @@ use Rattle.process.proofs.listing.list_nodes.Given as goal
 
 abbrev pub invariant-loop-n : goal.invariant-loop-n
 invariant-loop-n l =
-    Left (flat (node_words (scheme l.table) (state_of (scheme l.table) l.state)) (range (node_count l.table))) l.initial.out 0
-    (flat (node_words (scheme l.table) (state_of (scheme l.table) l.state)) (from l.n (l.nodes - l.n))) l.out l.next ×
+    Left (flat (node_words (scheme l.known.table.now) (state_of (scheme l.known.table.now) l.state)) (range (node_count l.known.table.now))) l.initial.out 0
+    (flat (node_words (scheme l.known.table.now) (state_of (scheme l.known.table.now) l.state)) (from l.n (l.nodes - l.n))) l.out l.next ×
     (l.next ≤ 196608 * l.n)

@@ -7,7 +7,7 @@ use Rattle.process.proofs.listing.list_pair.Goals as goal
 pub returns-then-can_meet : goal.returns-then-can_meet
 returns-then-can_meet c =
     let a = c.args in
-    let w = a.table.now in
+    let w = a.known.now.table.now in
     let s = state_of (scheme w) a.state.now in
     rw (pair-yes (scheme w) s a.send a.receive (sym c.can_meet.ensures ∙ c.if-can_meet.true))
     c.write_label.ensures
@@ -15,7 +15,7 @@ returns-then-can_meet c =
 pub returns : goal.returns
 returns c =
     let a = c.args in
-    let w = a.table.now in
+    let w = a.known.now.table.now in
     let s = state_of (scheme w) a.state.now in
     rw (pair-no (scheme w) s a.send a.receive (sym c.can_meet.ensures ∙ c.if-can_meet.false))
     (none-listed _ _ _)

@@ -13,7 +13,7 @@ pub loop-receive-preserved : goal.loop-receive-preserved
 loop-receive-preserved c =
     let l = c.loop-receive in
     let a = c.args in
-    let w = a.table.now in
+    let w = a.known.now.table.now in
     let s = state_of (scheme w) a.state.now in
     let r = c.list_pair-next in (
       left-more _ _ _ _ _ _ l.invariant.0 _ _ _ _ _
@@ -26,8 +26,8 @@ pub returns : goal.returns
 returns c =
     let l = c.loop-receive in
     let a = c.args in
-    let w = a.table.now in
+    let w = a.known.now.table.now in
     let s = state_of (scheme w) a.state.now in
     left_end _ _ _ _ _ _ l.invariant.0 _
     (slice-done (pair_words (scheme w) s a.send) a.receives.now l.receive-index _ c.loop-receive-test.false)
-    (omega (arith, l.invariant.1, l.auto.receive-index-end, c.requires.0.few))
+    (omega (arith, l.invariant.1, l.auto.receive-index-end, c.requires.0))

@@ -10,6 +10,6 @@ use Rattle.process.proofs.listing.list_pairs.Given as goal
 
 abbrev pub invariant-loop-receive : goal.invariant-loop-receive
 invariant-loop-receive l =
-    Left (pairs_words (scheme l.table) (state_of (scheme l.table) l.state) l.receives l.send) l.initial.out l.at
-    (flat (pair_words (scheme l.table) (state_of (scheme l.table) l.state) l.send) (slice l.receive-index (length l.receives) l.receives)) l.out l.next ×
+    Left (pairs_words (scheme l.known.table.now) (state_of (scheme l.known.table.now) l.state) l.receives l.send) l.initial.out l.at
+    (flat (pair_words (scheme l.known.table.now) (state_of (scheme l.known.table.now) l.state) l.send) (slice l.receive-index (length l.receives) l.receives)) l.out l.next ×
     (l.next ≤ l.at + 3 * l.receive-index)

@@ -13,5 +13,5 @@ loop-i-preserved c =
     let l = c.loop-i in
     let p = c.requires in
     let k : l.i < length l.values =
-    omega (arith, l.auto.values, p.1, c.word-bounds.ensures.is, few-bounds _ p.0.known.accepted, c.loop-i-test.true) in
+    omega (arith, l.auto.values, p.1, c.word-bounds.ensures.is, few-bounds _ c.args.known.now.known.accepted, c.loop-i-test.true) in
     rw c.store.ensures (fill_more _ _ l.i _ l.values k c.value_after.ensures.is l.invariant)

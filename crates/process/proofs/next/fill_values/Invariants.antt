@@ -11,4 +11,4 @@ use Rattle.process.proofs.next.fill_values.Given as goal
 
 abbrev pub invariant-loop-i : goal.invariant-loop-i
 invariant-loop-i l =
-    map value_at (slice 0 l.i l.values) ≡ map (take (scheme l.table) (meant l.step) (state_of (scheme l.table) l.state)).value (from l.publics l.i)
+    map value_at (slice 0 l.i l.values) ≡ map (take (scheme l.known.table.now) (meant l.step) (state_of (scheme l.known.table.now) l.state)).value (from l.publics l.i)

@@ -10,12 +10,12 @@ pub loop-t-preserved : goal.loop-t-preserved
 loop-t-preserved c =
     let l = c.loop-t in
     l.invariant ∙ sets-map-more
-    (take (scheme c.args.table.now) (meant c.args.step) (state_of (scheme c.args.table.now) c.args.state.now)).node
+    (take (scheme c.args.known.now.table.now) (meant c.args.step) (state_of (scheme c.args.known.now.table.now) c.args.state.now)).node
     l.out l.t l.t _ c.loop-t-test.true ∙ rw (c.store.ensures, c.node_after.ensures.is)
 
 pub returns : goal.returns
 returns c =
     let l = c.loop-t in
     sym (l.invariant ∙ sets-map-done
-    (take (scheme c.args.table.now) (meant c.args.step) (state_of (scheme c.args.table.now) c.args.state.now)).node
+    (take (scheme c.args.known.now.table.now) (meant c.args.step) (state_of (scheme c.args.known.now.table.now) c.args.state.now)).node
     l.out l.t l.t _ c.loop-t-test.false)

@@ -12,5 +12,5 @@ use Rattle.process.proofs.next.write_nodes.Given as goal
 
 abbrev pub invariant-loop-t : goal.invariant-loop-t
 invariant-loop-t l =
-    (sets l.initial.out 0 (map (take (scheme l.table) (meant l.step) (state_of (scheme l.table) l.state)).node (range (thread_count l.table))) ≡
-    sets l.out l.t (map (take (scheme l.table) (meant l.step) (state_of (scheme l.table) l.state)).node (from l.t (l.threads - l.t))))
+    (sets l.initial.out 0 (map (take (scheme l.known.table.now) (meant l.step) (state_of (scheme l.known.table.now) l.state)).node (range (thread_count l.known.table.now))) ≡
+    sets l.out l.t (map (take (scheme l.known.table.now) (meant l.step) (state_of (scheme l.known.table.now) l.state)).node (from l.t (l.threads - l.t))))

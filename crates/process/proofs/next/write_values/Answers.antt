@@ -7,7 +7,7 @@ use Rattle.process.proofs.next.write_values.Goals as goal
 
 pub returns : goal.returns
 returns c =
-    let ok = c.requires.known.accepted in
+    let ok = c.args.known.now.known.accepted in
     let p = c.word-publics.ensures.is in
     let b = c.word-bounds.ensures.is in
     let t = c.word-threads.ensures.is in
