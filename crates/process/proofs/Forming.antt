@@ -1,27 +1,22 @@
 -- A name in a list, and the names that a node holds, as they are read.
 use mathlib.Core.Path.{◌≡◌, refl, ◌∙◌}
-use mathlib.Core.Bool.{Bool, true, false, not, ◌||◌}
+use mathlib.Core.Bool.{false}
 use mathlib.Core.List.{List, [], ◌∷◌}
 use Prim.Native.Nat.{ℕ, ◌+◌, ◌≤◌, ◌<◌}
-use native.Mathlib.Decide.{ℕ_discrete}
 use native.Mathlib.Omega.{arith}
-use lib.Dec.{ltb, eqb}
+use lib.Dec.{eqb}
 use lib.ListN.{length, take, replicate, length-replicate}
 use lib.Seq.{length-sets, take-append_seam}
-use borrow.Author.Tests.{le-leb, lt-leb}
 use Rattle.std.specs.List.{list_any}
-use Rattle.lists.specs.Lists.{same, from, every, member}
-use Rattle.lists.proofs.Tests.{same-yes, same-no, same-sym, and-true}
+use Rattle.lists.specs.Lists.{same, member}
+use Rattle.lists.proofs.Tests.{same-sym}
 use Rattle.lists.proofs.Counts.{distinct-below}
 use Rattle.scheme.specs.Words.{nodes}
 use Rattle.scheme.specs.Index.{held_at, HeldNames}
-use Rattle.scheme.specs.Scheme.{Scheme, scheme}
+use Rattle.scheme.specs.Scheme.{scheme}
 use Rattle.table.proofs.Accepted.{accepted}
 use Rattle.table.proofs.Lookup.{held-right}
-use Rattle.process.specs.States.{State, is_one_value}
-use Rattle.process.specs.StateWords.{holds_at, is_name_right, is_restricted_right, value_private}
 use Rattle.table.specs.Known.{Known}
-use Rattle.process.specs.Inner.Values.{value_at}
 use Rattle.process.proofs.Sets.{sets-whole}
 
 -- ---- a name in a list

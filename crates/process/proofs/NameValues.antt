@@ -1,26 +1,23 @@
 -- Values of names in state words, and the words of the starting state.
 use mathlib.Core.Path.{◌≡◌, refl, ◌∙◌}
-use mathlib.Core.Bool.{false}
 use mathlib.Core.Option.{some}
 use mathlib.Core.List.{List, [], ◌++◌, map}
 use Prim.Native.Nat.{ℕ, zero, suc, ◌+◌, ◌-◌, ◌≤◌, ◌<◌}
-use native.Mathlib.Decide.{ℕ_discrete}
 use native.Mathlib.Omega.{arith}
-use lib.Dec.{eqb}
 use lib.ListN.{length, replicate, length-append, length-map, length-replicate}
 use lib.Seq.{sets}
 use borrow.Author.Tests.{lt-ltb, le-ltb}
 use Rattle.lists.specs.Lists.{same, word, from, range}
-use Rattle.lists.proofs.Tests.{same-yes, same-no, same_self}
+use Rattle.lists.proofs.Tests.{same-no, same_self}
 use Rattle.lists.proofs.Ranges.{from-length}
 use Rattle.lists.proofs.Stores.{sets-append}
 use Rattle.scheme.specs.Words.{publics, bounds, threads, root, entry}
 use Rattle.table.specs.Causes.{cause}
 use Rattle.scheme.specs.Scheme.{scheme}
-use Rattle.process.specs.States.{is_one_value, start}
+use Rattle.process.specs.States.{start}
 use Rattle.process.specs.StateWords.{state_of, state_words, value_words}
 use Rattle.process.specs.Outcomes.{answered, start_outcome, refusal}
-use Rattle.process.specs.Inner.Values.{value_at, Valued}
+use Rattle.process.specs.Inner.Values.{Valued}
 use Rattle.process.proofs.Sets.{sets-whole}
 
 -- ---- values
