@@ -1,17 +1,8 @@
--- The word of a build's answer, whatever the buffer holds; of a transition told as word and bit of a set, and of a number that was counted modulo 2⁶⁴.
-use mathlib.Core.Path.{◌≡◌, refl}
-use mathlib.Core.List.{List, []}
+-- The word of a transition told as word and bit of a set, and of a number that was counted modulo 2⁶⁴.
+use mathlib.Core.Path.{◌≡◌}
 use Prim.Native.Nat.{ℕ, ◌+◌, ◌*◌, ◌%◌, ◌^◌}
 use native.Mathlib.Omega.{arith}
-use Rattle.builder.specs.Answer.{built_outcome}
-use Rattle.builder.specs.declared.Built.{Built}
-use Rattle.builder.specs.declared.Built.TheVariants.{Words, Refused, Room}
-use Rattle.capi.specs.Returned.{packed, returned, from_build}
-
-pub built : (answer : Built) (out : List ℕ) → from_build (built_outcome answer out) ≡ returned (from_build (built_outcome answer [])).word out
-built (Words n) out = refl
-built (Refused v) out = refl
-built Room out = refl
+use Rattle.capi.specs.Returned.{packed}
 
 pub packed-at : (word bit : ℕ) → packed (word % 1125899906842624 * 64 + bit) 0 ≡ packed (64 * word + bit) 0
 unfolding packed

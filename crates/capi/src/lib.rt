@@ -3,7 +3,7 @@
 // A call returns one word, value·256 + code. The code is 0, the number of a cause, or the reason that ended a run.
 #![tactic(auto)]
 
-ghost use Rattle.std.specs.Prelude.{◌≡◌, [], ◌<◌, length};
+ghost use Rattle.std.specs.Prelude.{◌≡◌, [], ◌<◌, ℕ, length, refl, Result, Ok, Err};
 ghost use Rattle.table.specs.Causes.{cause};
 ghost use Rattle.builder.specs.Answer.{built_outcome, build_outcome, sized_outcome, size_outcome};
 ghost use Rattle.net.specs.Answers.{cause_number, firing_number, firings_made, look_number, bytes_shown, ending};
@@ -23,9 +23,7 @@ ghost use Rattle.capi.specs.Returned.{packed, value_or0, ending_code, from_size}
 ghost use Rattle.capi.specs.Returned.{summary_returned, of_make, keep_returned, of_keep, of_lowest};
 ghost use Rattle.capi.specs.Returned.{returned, from_build, of_firings, from_look, of_outcome, RunReturned};
 
-use builder::{Built, Sized};
-use net::{Cause, Firing, Looked, Ran, Reason};
-use summary::{Found, Kept, Made};
+use net::{Cause, Ran, Reason};
 
 // value·256 + code.
 fn pack(value: usize, code: usize) -> u64
@@ -39,23 +37,16 @@ fn pack(value: usize, code: usize) -> u64
 fn cause_code(cause: Cause) -> usize
     ensures { (result ≡ cause_number cause) × (result < 256) }
 {
-    match cause {
-        Cause::ImageWrong => 11,
-        Cause::RecordWrong => 12,
-        Cause::MarkingWrong => 13,
-        Cause::NoTransition => 14,
-        Cause::NotEnabled => 15,
-        Cause::Contact => 16,
-    }
+    cause.into()
 }
 
 // The number of a firing's cause, 0 where it was made.
-fn firing_code(firing: Firing) -> usize
+fn firing_code(firing: Result<(), Cause>) -> usize
     ensures { (result ≡ firing_number firing) × (result < 256) }
 {
     match firing {
-        Firing::Made => 0,
-        Firing::Refused(cause) => cause_code(cause),
+        Ok(()) => 0,
+        Err(cause) => cause_code(cause),
     }
 }
 
@@ -71,72 +62,116 @@ fn reason_code(reason: Reason) -> usize
     }
 }
 
-// The word of what a build answered.
-fn built_word(built: Built) -> u64
-    ensures { result ≡ (from_build (built_outcome built [])).word }
-{
-    match built {
-        Built::Words(words) => pack(words, 0),
-        Built::Refused(verdict) => pack(0, table::number(verdict)),
-        Built::Room => pack(0, 10),
-    }
+// Why a call refuses.
+trait Refused: Copy {
+    // The number of an answer, 0 where nothing is refused, and its value, 0 where there is none.
+    ghost number_of: { Result ℕ Self → ℕ };
+
+    ghost value_of: { Result ℕ Self → ℕ };
+
+    // The number of a refusal, which has no value.
+    fn number(self) -> usize
+        ensures { (result ≡ number_of (Err self)) × (result < 256) × (value_of (Err self) ≡ 0) };
+
+    // Of an answer that is no refusal the value is told.
+    ghost done: { (n : ℕ) → (number_of (Ok n) ≡ 0) × (value_of (Ok n) ≡ n) };
 }
 
-// The word of a size.
-fn sized_word(sized: Sized) -> u64
-    ensures { result ≡ from_size (sized_outcome sized) }
-{
-    match sized {
-        Sized::Words(words) => pack(words, 0),
-        Sized::Refused(verdict) => pack(0, table::number(verdict)),
-    }
-}
-
-// The word of what a call on states answered.
-fn answer_word(answer: process::Answer) -> u64
-    ensures { result ≡ packed (value_or0 (answer_value answer)) (answer_number answer) }
+// The word of an answer.
+fn word<E: Refused>(answer: Result<usize, E>) -> u64
+    ensures { result ≡ packed (E.value_of answer) (E.number_of answer) }
 {
     match answer {
-        process::Answer::Done(count) => pack(count, 0),
-        process::Answer::Refused(verdict) => pack(0, table::number(verdict)),
-        process::Answer::Malformed => pack(0, 18),
-        process::Answer::NotOpen => pack(0, 19),
-        process::Answer::NoRoom => pack(0, 10),
+        Ok(value) => pack(value, 0),
+        Err(refusal) => pack(0, refusal.number()),
     }
 }
 
-// The word of what reading a marking back answered.
-fn read_word(answer: readback::Answer) -> u64
-    ensures { result ≡ packed (value_or0 (Read.answer_value answer)) (Read.answer_number answer) }
-{
-    match answer {
-        readback::Answer::Done(words) => pack(words, 0),
-        readback::Answer::Refused(verdict) => pack(0, table::number(verdict)),
-        readback::Answer::NoMarking => pack(0, 13),
-        readback::Answer::NoState => pack(0, 17),
-        readback::Answer::NoRoom => pack(0, 10),
+impl Refused for table::Cause {
+    ghost number_of = { λ a. (sized_outcome a).number };
+
+    ghost value_of = { λ a. (sized_outcome a).words };
+
+    fn number(self) -> usize {
+        self.into()
     }
+
+    ghost done = { λ n. (refl, refl) };
 }
 
-// The word of what rewriting a table, or reading a number back, answered.
-fn rewriting_word(answer: rewriting::Answer) -> u64
-    ensures { result ≡ packed (value_or0 (Rewriting.answer_value answer)) (Rewriting.answer_number answer) }
-{
-    match answer {
-        rewriting::Answer::Done(value) => pack(value, 0),
-        rewriting::Answer::Refused(verdict) => pack(0, table::number(verdict)),
-        rewriting::Answer::NoRoom => pack(0, 10),
-        rewriting::Answer::Missing => pack(0, 5),
+impl Refused for builder::Refusal {
+    ghost number_of = { λ a. (built_outcome a []).number };
+
+    ghost value_of = { λ a. (built_outcome a []).words };
+
+    fn number(self) -> usize {
+        match self {
+            builder::Refusal::Table(cause) => cause.into(),
+            builder::Refusal::NoRoom => 10,
+        }
     }
+
+    ghost done = { λ n. (refl, refl) };
+}
+
+impl Refused for process::Refusal {
+    ghost number_of = { answer_number };
+
+    ghost value_of = { λ a. value_or0 (answer_value a) };
+
+    fn number(self) -> usize {
+        self.into()
+    }
+
+    ghost done = { λ n. (refl, refl) };
+}
+
+impl Refused for readback::Refusal {
+    ghost number_of = { Read.answer_number };
+
+    ghost value_of = { λ a. value_or0 (Read.answer_value a) };
+
+    fn number(self) -> usize {
+        self.into()
+    }
+
+    ghost done = { λ n. (refl, refl) };
+}
+
+impl Refused for rewriting::Refusal {
+    ghost number_of = { Rewriting.answer_number };
+
+    ghost value_of = { λ a. value_or0 (Rewriting.answer_value a) };
+
+    fn number(self) -> usize {
+        self.into()
+    }
+
+    ghost done = { λ n. (refl, refl) };
+}
+
+impl Refused for net::Refusal {
+    ghost number_of = { look_number };
+
+    ghost value_of = { bytes_shown };
+
+    fn number(self) -> usize {
+        match self {
+            net::Refusal::Cause(cause) => cause.into(),
+            net::Refusal::NoRoom => 10,
+        }
+    }
+
+    ghost done = { λ n. (refl, refl) };
 }
 
 // The word of a single firing, which makes one or none.
-fn fired_word(firing: Firing) -> u64
+fn fired_word(firing: Result<(), Cause>) -> u64
     ensures { result ≡ packed (firings_made firing) (firing_number firing) }
 {
     match firing {
-        Firing::Made => pack(1, 0),
-        Firing::Refused(cause) => pack(0, cause_code(cause)),
+        Ok(()) => pack(1, 0),
+        Err(cause) => pack(0, cause_code(cause)),
     }
 }
 
@@ -144,61 +179,38 @@ fn fired_word(firing: Firing) -> u64
 fn ran_word(ran: Ran) -> u64
     ensures { result ≡ packed ran.firings (ending_code (ending ran.reason)) }
 {
-    let reason = ran.reason;
-    pack(ran.firings, reason_code(reason))
-}
-
-// The word of a look.
-fn looked_word(looked: Looked) -> u64
-    ensures { result ≡ packed (bytes_shown looked) (look_number looked) }
-{
-    match looked {
-        Looked::Done(bytes) => pack(bytes, 0),
-        Looked::Refused(cause) => pack(0, cause_code(cause)),
-        Looked::NoRoom => pack(0, 10),
-    }
-}
-
-// The word of making a summary.
-fn made_word(made: Made) -> u64
-    ensures { result ≡ packed (transitions_counted made) (made_number made) }
-{
-    match made {
-        Made::Done(transitions) => pack(transitions, 0),
-        Made::Refused(cause) => pack(0, cause_code(cause)),
-        Made::NoRoom => pack(0, 10),
-    }
+    pack(ran.firings, reason_code(ran.reason))
 }
 
 // The number of the cause of a firing with a summary or of a check of one, 0 where there is none.
-fn kept_code(kept: Kept) -> usize
+fn kept_code(kept: Result<(), summary::Refusal>) -> usize
     ensures { (result ≡ kept_number kept) × (result < 256) }
 {
     match kept {
-        Kept::Done => 0,
-        Kept::Refused(cause) => cause_code(cause),
-        Kept::SummaryWrong => 20,
+        Ok(()) => 0,
+        Err(summary::Refusal::Cause(cause)) => cause_code(cause),
+        Err(summary::Refusal::SummaryWrong) => 20,
     }
 }
 
 // The word of a firing with a summary, which makes one or none.
-fn kept_word(kept: Kept) -> u64
+fn kept_word(kept: Result<(), summary::Refusal>) -> u64
     ensures { result ≡ packed (firings_kept kept) (kept_number kept) }
 {
     match kept {
-        Kept::Done => pack(1, 0),
-        Kept::Refused(cause) => pack(0, cause_code(cause)),
-        Kept::SummaryWrong => pack(0, 20),
+        Ok(()) => pack(1, 0),
+        Err(summary::Refusal::Cause(cause)) => pack(0, cause_code(cause)),
+        Err(summary::Refusal::SummaryWrong) => pack(0, 20),
     }
 }
 
 // The word of the lowest of a set. Of a value 56 bits are kept, so of a word's number 50.
-fn lowest_word(found: Found) -> u64
+fn lowest_word(found: Option<(usize, u32)>) -> u64
     ensures { result ≡ of_lowest (lowest_found found) }
 {
     match found {
-        Found::At(word, bit) => pack(word % 1125899906842624 * 64 + bit as usize, 0),
-        Found::Nothing => pack(0, 202),
+        Some((word, bit)) => pack(word % 1125899906842624 * 64 + bit as usize, 0),
+        None => pack(0, 202),
     }
 }
 
@@ -207,7 +219,11 @@ fn lowest_word(found: Found) -> u64
 pub extern "C" fn dekohuna_check(table: &[u16]) -> u64
     ensures { result ≡ packed 0 (cause table.now) }
 {
-    pack(0, table::number(table::check(table)))
+    let code = match table::check(table) {
+        Ok(()) => 0,
+        Err(cause) => cause.into(),
+    };
+    pack(0, code)
 }
 
 // Writes the image of a table's net to the start of `out`.
@@ -215,7 +231,7 @@ pub extern "C" fn dekohuna_check(table: &[u16]) -> u64
 pub extern "C" fn dekohuna_build(table: &[u16], out: &mut [u32]) -> u64
     ensures { returned result out.new ≡ from_build (build_outcome table.now out.old) }
 {
-    built_word(builder::build(table, out))
+    word(builder::build(table, out))
 }
 
 // Tells how many words the image of a table's net has.
@@ -223,7 +239,7 @@ pub extern "C" fn dekohuna_build(table: &[u16], out: &mut [u32]) -> u64
 pub extern "C" fn dekohuna_size(table: &[u16]) -> u64
     ensures { result ≡ from_size (size_outcome table.now) }
 {
-    sized_word(builder::size(table))
+    word(builder::size(table))
 }
 
 // Fires a transition by its number.
@@ -246,7 +262,7 @@ pub extern "C" fn dekohuna_look(
     ensures { returned result next.new
         ≡ from_look (look image.now marking.now transition next.old) }
 {
-    looked_word(net::look(image, marking, transition, next))
+    word(net::look(image, marking, transition, next))
 }
 
 // Fires numbers in turn from the initial marking.
@@ -256,8 +272,7 @@ pub extern "C" fn dekohuna_replay(image: &[u32], marking: &mut [u8], numbers: &[
         ≡ of_firings (replay image.now marking.old numbers.now) }
 {
     let replayed = net::replay(image, marking, numbers);
-    let outcome = replayed.outcome;
-    pack(replayed.firings, firing_code(outcome))
+    pack(replayed.firings, firing_code(replayed.outcome))
 }
 
 // Fires the lowest enabled bookkeeping transition, else the lowest enabled one, over and over, and writes the numbers
@@ -297,7 +312,7 @@ pub extern "C" fn dekohuna_read(table: &[u16], marking: &[u8], state: &mut [u16]
     ensures { returned result state.new
         ≡ of_outcome (read_outcome table.now marking.now state.old) }
 {
-    read_word(readback::read(table, marking, state))
+    word(readback::read(table, marking, state))
 }
 
 // Writes the summary of a marking to the start of both lists.
@@ -312,7 +327,7 @@ pub extern "C" fn dekohuna_summary_make(
         ≡ of_make (make_summary image.now marking.now
         (summary counts.old enabled.old)) }
 {
-    made_word(summary::make(image, marking, counts, enabled))
+    word(summary::make(image, marking, counts, enabled))
 }
 
 // Fires a transition by its number, and keeps the summary.
@@ -371,7 +386,7 @@ pub extern "C" fn dekohuna_start(table: &[u16], state: &mut [u16]) -> u64
     ensures { returned result state.new
         ≡ of_outcome (start_outcome table.now state.old) }
 {
-    answer_word(process::start(table, state))
+    word(process::start(table, state))
 }
 
 // Lists the labels of the open steps, three words each.
@@ -380,7 +395,7 @@ pub extern "C" fn dekohuna_open_steps(table: &[u16], state: &[u16], labels: &mut
     ensures { returned result labels.new
         ≡ of_outcome (open_outcome table.now state.now labels.old) }
 {
-    answer_word(process::open_steps(table, state, labels))
+    word(process::open_steps(table, state, labels))
 }
 
 // Writes the words of the state after the step that a label names.
@@ -396,7 +411,7 @@ pub extern "C" fn dekohuna_step(
     ensures { returned result next.new
         ≡ of_outcome (step_outcome table.now state.now kind a b next.old) }
 {
-    answer_word(process::step(table, state, kind, a, b, next))
+    word(process::step(table, state, kind, a, b, next))
 }
 
 // Writes the rewritten table, in which no definition calls itself, to the start of `out`.
@@ -405,7 +420,7 @@ pub extern "C" fn dekohuna_rewrite(table: &[u16], out: &mut [u16]) -> u64
     ensures { returned result out.new
         ≡ of_outcome (rewrite_outcome table.now out.old) }
 {
-    rewriting_word(rewriting::rewrite(table, out))
+    word(rewriting::rewrite(table, out))
 }
 
 // Tells the node of the table that a node of the rewritten table is, or is a copy of.
@@ -413,7 +428,7 @@ pub extern "C" fn dekohuna_rewrite(table: &[u16], out: &mut [u16]) -> u64
 pub extern "C" fn dekohuna_original_node(table: &[u16], number: u32) -> u64
     ensures { result ≡ (of_outcome (node_origin table.now number)).word }
 {
-    rewriting_word(rewriting::original_node(table, number))
+    word(rewriting::original_node(table, number))
 }
 
 // Tells the branch of the table that a branch of the rewritten table is, or is a copy of.
@@ -421,7 +436,7 @@ pub extern "C" fn dekohuna_original_node(table: &[u16], number: u32) -> u64
 pub extern "C" fn dekohuna_original_branch(table: &[u16], number: u32) -> u64
     ensures { result ≡ (of_outcome (branch_origin table.now number)).word }
 {
-    rewriting_word(rewriting::original_branch(table, number))
+    word(rewriting::original_branch(table, number))
 }
 
 // Tells the name of the table that a name of the rewritten table is, or is a copy of.
@@ -429,5 +444,5 @@ pub extern "C" fn dekohuna_original_branch(table: &[u16], number: u32) -> u64
 pub extern "C" fn dekohuna_original_name(table: &[u16], number: u32) -> u64
     ensures { result ≡ (of_outcome (name_origin table.now number)).word }
 {
-    rewriting_word(rewriting::original_name(table, number))
+    word(rewriting::original_name(table, number))
 }

@@ -13,7 +13,7 @@ use Rattle.process.specs.Steps.{Step}
 use Rattle.net.specs.Image.{place_count_of, transition_count, is_header_right}
 use Rattle.net.specs.Firing as Firing
 use Rattle.net.specs.Firing.{Outcome, is_marking}
-use Rattle.net.proofs.Steps.{step-none, turn-refused, fire-no-image, fire-no-marking, fire-as}
+use Rattle.net.proofs.Steps.{step-none, turn-refused, fire-as}
 use Rattle.fidelity.specs.Calls.{Call, fire, World, perform, called_on, after}
 use Rattle.fidelity.specs.Demand.{is_answer_accepted, answers_from, CanFire}
 
@@ -39,12 +39,12 @@ module _ (w image : List ℕ) where
   Refused marking number = same (Firing.fire image marking number).cause 0 ≡ false
 
   refused-past : (marking : List ℕ) (number : ℕ) → transition_count image ≤ number → Refused marking number
-  unfolding same
+  unfolding same Firing.fire
   refused-past marking number h = go (is_header_right image) refl (is_marking (place_count_of image) marking) refl
     where
       go : (a : Bool) → is_header_right image ≡ a → (b : Bool) → is_marking (place_count_of image) marking ≡ b → Refused marking number
-      go false p b q = ap (λ (o : Outcome). same o.cause 0) (fire-no-image image marking number p)
-      go true p false q = ap (λ (o : Outcome). same o.cause 0) (fire-no-marking image marking number p q)
+      go false p b q = rw p
+      go true p false q = rw (p, q)
       go true p true q =
           ap (λ (o : Outcome). same o.cause 0)
           (fire-as image marking number p q ∙ turn-refused image marking number [] 14 (step-none image marking number h))

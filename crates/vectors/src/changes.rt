@@ -22,5 +22,5 @@ pub fn list<T: Item, const N: usize>(
 // t: the table's words, which are checked.
 pub fn table(out: &mut impl Write, request: Request, kept: &mut Kept<u16, 4096>) -> io::Result<()> {
     kept.assign(request.numbers);
-    text::number(out, table::number(table::check(kept.items())))
+    text::cause(out, table::check(kept.items()))
 }

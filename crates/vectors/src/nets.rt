@@ -1,7 +1,7 @@
 // Requests that build and fire.
 use crate::items::{Item, Kept, Store, first, lend};
 use crate::line::Request;
-use crate::{causes, text};
+use crate::text;
 use net::{Ran, Replayed};
 use std::io;
 use std::io::Write;
@@ -9,16 +9,16 @@ use std::io::Write;
 // b: builds the table's image.
 pub fn build(out: &mut impl Write, request: Request, store: &mut Store) -> io::Result<()> {
     let image = store.image.lend(request.a);
-    let built = causes::of_build(builder::build(store.table.items(), image));
-    text::outcome(out, built)?;
+    let built = builder::build(store.table.items(), image);
+    text::answer(out, built)?;
     text::list(out, image)?;
-    store.image.length = built.1;
+    store.image.length = built.unwrap_or(0);
     Ok(())
 }
 
 // z: tells the size of the table's image.
 pub fn size(out: &mut impl Write, table: &[u16]) -> io::Result<()> {
-    text::outcome(out, causes::of_size(builder::size(table)))
+    text::answer(out, builder::size(table))
 }
 
 // Replays the numbers of the request.
@@ -30,8 +30,7 @@ fn replay_given(numbers: &[usize], image: &[u32], marking: &mut [u8]) -> Replaye
 
 // Answers a replay.
 fn tell(out: &mut impl Write, replayed: Replayed) -> io::Result<()> {
-    let outcome = replayed.outcome;
-    text::number(out, causes::of_firing(outcome))?;
+    text::cause(out, replayed.outcome)?;
     text::number(out, replayed.firings)
 }
 
@@ -40,10 +39,7 @@ pub fn play(out: &mut impl Write, request: Request, store: &mut Store) -> io::Re
     let image = store.image.items();
     let marking = store.marking.items_mut();
     match request.letter {
-        b'f' => text::number(
-            out,
-            causes::of_firing(net::fire(image, marking, u32::of(request.a))),
-        )?,
+        b'f' => text::cause(out, net::fire(image, marking, u32::of(request.a)))?,
         b'r' => tell(out, replay_given(request.numbers, image, marking))?,
         _ => tell(
             out,
@@ -57,13 +53,13 @@ pub fn play(out: &mut impl Write, request: Request, store: &mut Store) -> io::Re
 pub fn look(out: &mut impl Write, request: Request, store: &Store) -> io::Result<()> {
     let mut space = [0u8; 32768];
     let next = lend(&mut space, request.b);
-    let looked = causes::of_look(net::look(
+    let looked = net::look(
         store.image.items(),
         store.marking.items(),
         u32::of(request.a),
         next,
-    ));
-    text::outcome(out, looked)?;
+    );
+    text::answer(out, looked)?;
     text::list(out, next)
 }
 
@@ -86,8 +82,7 @@ pub fn run(out: &mut impl Write, request: Request, store: &mut Store) -> io::Res
         request.a as u64,
         history,
     );
-    let reason = ran.reason;
-    text::outcome(out, causes::of_run(reason))?;
+    text::answer(out, ran.reason)?;
     text::number(out, ran.firings)?;
     text::list(out, history)?;
     text::list(out, marking)

@@ -1,7 +1,7 @@
 // Requests on summaries.
 use crate::items::{Item, Store};
 use crate::line::Request;
-use crate::{causes, text};
+use crate::text;
 use std::io;
 use std::io::Write;
 
@@ -10,7 +10,7 @@ pub fn make(out: &mut impl Write, request: Request, store: &mut Store) -> io::Re
     let counts = store.counts.lend(request.a);
     let enabled = store.enabled.lend(request.b);
     let made = summary::make(store.image.items(), store.marking.items(), counts, enabled);
-    text::outcome(out, causes::of_made(made))?;
+    text::answer(out, made)?;
     text::list(out, counts)?;
     text::list(out, enabled)
 }
@@ -27,7 +27,7 @@ pub fn fire(out: &mut impl Write, request: Request, store: &mut Store) -> io::Re
         enabled,
         u32::of(request.a),
     );
-    text::number(out, causes::of_kept(kept))?;
+    text::cause(out, kept)?;
     text::list(out, marking)?;
     text::list(out, counts)?;
     text::list(out, enabled)
@@ -41,11 +41,11 @@ pub fn check(out: &mut impl Write, store: &Store) -> io::Result<()> {
         store.counts.items(),
         store.enabled.items(),
     );
-    text::number(out, causes::of_kept(kept))
+    text::cause(out, kept)
 }
 
 // L: finds the lowest and the number of the set.
 pub fn find(out: &mut impl Write, enabled: &[u64]) -> io::Result<()> {
-    text::outcome(out, causes::of_found(summary::lowest(enabled)))?;
+    text::answer(out, summary::lowest(enabled))?;
     text::number(out, summary::number(enabled) as usize)
 }

@@ -1,5 +1,5 @@
 // The text of answers, to a writer.
-use crate::causes::Outcome;
+use crate::causes::{Number, Outcome};
 use crate::digest::digest;
 use crate::items::Item;
 use std::io;
@@ -10,9 +10,18 @@ pub fn number(out: &mut impl Write, value: usize) -> io::Result<()> {
     write!(out, " {value}")
 }
 
-// A cause or 0, and a count.
-pub fn outcome(out: &mut impl Write, outcome: Outcome) -> io::Result<()> {
+// What a call answered: a cause or 0, and a count.
+pub fn answer(out: &mut impl Write, answer: impl Into<Outcome>) -> io::Result<()> {
+    let outcome: Outcome = answer.into();
     write!(out, " {} {}", outcome.0, outcome.1)
+}
+
+// What a call that counts nothing answered: a cause or 0.
+pub fn cause<E: Into<Number>>(out: &mut impl Write, answer: Result<(), E>) -> io::Result<()> {
+    match answer {
+        Ok(()) => number(out, 0),
+        Err(refusal) => number(out, refusal.into().0),
+    }
 }
 
 // A space and a list.
