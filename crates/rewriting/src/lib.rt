@@ -35,7 +35,7 @@ impl From<Cause> for Refusal {
     ghost from_gives = { λ cause refusal. refusal ≡ Table cause };
 
     fn from(cause: Cause) -> Refusal {
-        Refusal::Table(cause)
+        Self::Table(cause)
     }
 }
 
