@@ -8,7 +8,7 @@ use Rattle.net.specs.declared.Cause.TheVariants.{ImageWrong, RecordWrong, Markin
 use Rattle.net.specs.Image.{place_count_of, is_header_right}
 use Rattle.net.specs.Firing.{is_marking}
 use Rattle.net.specs.Answers.{cause_number}
-use Rattle.net.specs.Inner.Lent.{lent_cause}
+use Rattle.net.specs.Lent.{lent_cause}
 
 -- a cause has a number
 pub cause-some : (x : Cause) → cause_number x ≡ 0 → ⊥

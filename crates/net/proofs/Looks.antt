@@ -12,7 +12,7 @@ use Rattle.net.specs.Image.{place_count_of}
 use Rattle.net.specs.Firing.{moved, made, refused, step, in_turn}
 use Rattle.net.specs.Looking.{looked, shown, look}
 use Rattle.net.specs.Answers.{cause_number}
-use Rattle.net.specs.Inner.Lent.{lent_cause}
+use Rattle.net.specs.Lent.{lent_cause}
 use Rattle.net.proofs.Lent.{Right, cause-some}
 use Rattle.net.proofs.Steps.{turn-refused, turn_last, fire_refused, fire-as}
 

@@ -21,7 +21,7 @@ use Rattle.net.specs.declared.Reason.TheVariants.{Stopped}
 use Rattle.std.specs.Prelude.{Result, Err}
 use Rattle.std.specs.Result.{IsErrAnd}
 use Rattle.std.proofs.lemmas.Result.{err_from_is_err_and}
-use Rattle.net.specs.Inner.Lent.{lent_cause}
+use Rattle.net.specs.Lent.{lent_cause}
 use Rattle.net.specs.Inner.Passes.{rule_of, Turned}
 use Rattle.net.proofs.Lent.{refused_first}
 

@@ -15,7 +15,7 @@ use Rattle.net.proofs.Marks.{length-put}
 use Rattle.net.specs.declared.Cause.{Cause}
 use Rattle.net.specs.Answers.{cause_number}
 use Rattle.net.specs.Inner.Arcs.{ArcsOf}
-use Rattle.net.specs.Inner.Lent.{lent_cause}
+use Rattle.net.specs.Lent.{lent_cause}
 use Rattle.net.proofs.Lent.{refused_first}
 use Rattle.net.specs.Image.{place_count_of, transition_count, initial_places, is_header_right, inputs_at, outputs_at, record_right}
 use Rattle.net.specs.Firing.{is_marking, is_enabled, has_contact, put, moved, initial_marking, Step, made, refused}

@@ -1,4 +1,3 @@
 -- What only the promises of private functions cite.
 pub mod Arcs
-pub mod Lent
 pub mod Passes

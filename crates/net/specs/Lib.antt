@@ -3,5 +3,6 @@ pub mod Image
 pub mod Firing
 pub mod Looking
 pub mod Answers
+pub mod Lent
 pub mod Net
 pub mod Inner

@@ -12,7 +12,7 @@ ghost use Rattle.net.specs.Firing.{step, in_turn, fire, replay, run_by, run_of, 
 ghost use Rattle.net.specs.Looking.{shown, look};
 ghost use Rattle.net.specs.Answers.{cause_number, firing_number, firing_outcome, look_outcome, replay_outcome, Leaves};
 ghost use Rattle.net.specs.Inner.Arcs.{Header, ArcsOf};
-ghost use Rattle.net.specs.Inner.Lent.{lent_cause};
+ghost use Rattle.net.specs.Lent.{lent_cause};
 ghost use Rattle.net.specs.Inner.Passes.{rule_of, is_end_at, Finds, Turned};
 
 mod arcs;

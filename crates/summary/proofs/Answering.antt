@@ -6,7 +6,7 @@ use Rattle.net.specs.Image.{place_count_of, transition_count, is_header_right, a
 use Rattle.net.specs.Firing.{is_marking, Step, made, refused, step}
 use Rattle.net.specs.declared.Cause.{Cause}
 use Rattle.net.specs.Answers.{cause_number}
-use Rattle.net.specs.Inner.Lent.{lent_cause}
+use Rattle.net.specs.Lent.{lent_cause}
 use Rattle.net.proofs.Lent.{refused_first}
 use Rattle.net.proofs.Steps.{marking-length}
 use Rattle.summary.specs.Summary.{Summary, summary, set_length, summary_of, same_summary, worked_out, shares}
