@@ -39,6 +39,7 @@ pub(crate) fn rising(words: &[u32], places: usize) -> bool
 
 // The same, of a list that is short, as a transition's are: it is left at the first word that does not rise. A long one
 // is looked over faster by wide steps, which `rising` allows.
+#[inline(always)]
 fn rising_short(words: &[u32], places: usize) -> bool
     ensures { result ≡ ascends places 0 words.now }
 {
@@ -75,6 +76,7 @@ pub(crate) fn length_given(image: &[u32], arcs: usize) -> usize
 }
 
 // The offsets in a transition's record, unchecked.
+#[inline(always)]
 fn span_of(image: &[u32], transition: usize) -> Span
     requires { Header image.now × (transition < transition_count image.now) }
     ensures { Offsets image.now transition result.inputs result.outputs result.end }
@@ -111,6 +113,7 @@ pub(crate) fn record_right(image: &[u32], transition: usize) -> bool
 }
 
 // The arcs of a transition whose record is right.
+#[inline(always)]
 pub fn arcs_of(image: &[u32], transition: usize) -> Arcs
     requires { Header image.now
         × (transition < transition_count image.now)
@@ -128,6 +131,7 @@ pub fn arcs_of(image: &[u32], transition: usize) -> Arcs
 }
 
 // The arcs of a transition, if its record is right. One that is known to be right is not looked over again.
+#[inline(always)]
 pub(crate) fn record_at(image: &[u32], transition: usize, known: bool) -> Option<Arcs>
     requires { Header image.now
         × (transition < transition_count image.now)
@@ -143,6 +147,7 @@ pub(crate) fn record_at(image: &[u32], transition: usize, known: bool) -> Option
 }
 
 // Whether every place of a list has its token.
+#[inline(always)]
 pub(crate) fn all_marked(places: &[u32], marking: &[u8]) -> bool
     requires { ascends (length marking.now) 0 places.now ≡ true }
     ensures { result ≡ is_enabled marking.now places.now }
@@ -181,6 +186,7 @@ pub(crate) fn contact(inputs: &[u32], outputs: &[u32], marking: &[u8]) -> bool
 }
 
 // Writes a byte at every place of a list.
+#[inline(always)]
 pub fn put_all(places: &[u32], marking: &mut [u8], byte: u8)
     requires { ascends (length marking.old) 0 places.now ≡ true }
     ensures { marking.new ≡ put byte marking.old places.now }

@@ -165,6 +165,7 @@ pub fn check(image: &[u32], marking: &[u8]) -> Result<(), Cause>
 }
 
 // The arcs of a transition that a marking lets fire: 14, 12, 15, 16. The header is right, and the marking has its length.
+#[inline(always)]
 fn fireable<'a>(image: &'a [u32], marking: &[u8], transition: usize) -> Result<Arcs<'a>, Cause>
     requires { Header image.now × (length marking.now ≡ place_count_of image.now) }
     ensures { MatchResult result

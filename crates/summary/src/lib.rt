@@ -58,6 +58,7 @@ pub fn number(enabled: &[u64]) -> u64
 }
 
 // How many of the places have no token.
+#[inline(always)]
 fn missing(places: &[u32], bytes: &[u8]) -> u32
     requires { (ascends (length bytes.now) 0 places.now ≡ true) × (length places.now < 2 ^ 32) }
     ensures { result ≡ missing_in bytes.now places.now }
@@ -69,6 +70,7 @@ fn missing(places: &[u32], bytes: &[u8]) -> u32
 }
 
 // Whether one of the places is the firing's.
+#[inline(always)]
 fn touched(places: &[u32], bytes: &[u8]) -> bool
     requires { ascends (length bytes.now) 0 places.now ≡ true }
     ensures { result ≡ is_touched bytes.now places.now }
@@ -93,6 +95,7 @@ fn missing_at(image: &[u32], bytes: &[u8], transition: usize) -> u32
 }
 
 // Whether a transition is to be worked out afresh: all are, or one of its places is the firing's.
+#[inline(always)]
 fn is_afresh(arcs: Arcs, bytes: &[u8], all: bool) -> bool
     requires { (ascends (length bytes.now) 0 arcs.inputs.now ≡ true)
         × (ascends (length bytes.now) 0 arcs.outputs.now ≡ true) }
