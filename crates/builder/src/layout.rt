@@ -31,7 +31,11 @@ pub(crate) fn value_count(publics: usize, privates: usize, values: Reach) -> usi
     ensures { CountOf publics privates values result }
 {
     let count = rank(values.publics, publics);
-    if has_privates(values) { count + privates } else { count }
+    if has_privates(values) {
+        count + privates
+    } else {
+        count
+    }
 }
 
 // The number of [x=v], given where the row of x starts.

@@ -26,7 +26,11 @@ pub(crate) fn values_of(publics: usize, privates: usize, reach: Reach) -> Values
     requires { Fits publics privates reach }
     ensures { ByReach publics privates reach result }
 {
-    let end = if has_privates(reach) { publics + privates } else { publics };
+    let end = if has_privates(reach) {
+        publics + privates
+    } else {
+        publics
+    };
     Values {
         set: reach.publics,
         low: publics,

@@ -6,7 +6,7 @@ use Rattle.scheme.specs.Words.{next}
 use Rattle.scheme.specs.Owners.{home}
 use Rattle.places.specs.Places.{Place, equals, differs, control}
 use Rattle.builder.specs.declared.communications.Pair.{Pair}
-use Rattle.builder.proofs.Pairs.{Filled, fill_none, fill-copy, fill-rising, fill-spot, read_of, takes_of, gives_of}
+use Rattle.builder.proofs.Pairs.{Filled, fill_none, fill-rising, fill-spot, read_of, takes_of, gives_of}
 use Rattle.builder.proofs.Pairs.{move_at, home-inside, send-next, receive-next, tells}
 use Rattle.builder.proofs.communications.arcs_of.Goals.{After-insert_spot-c, After-insert_spot-c-2, After-insert_spot-c-3, After-copy_from_slice}
 use Rattle.builder.proofs.communications.arcs_of.Goals.{After-insert_spot-o, After-insert-o, After-insert-o-2}
