@@ -3,10 +3,9 @@ use mathlib.Core.Path.{◌≡◌, refl, sym, ap, subst, ◌∙◌}
 use mathlib.Core.Bool.{true, false}
 use mathlib.Core.List.{List, [], ◌∷◌, ◌++◌}
 use mathlib.Core.Logic.{◌⊎◌, inl, inr}
-use Prim.Native.Nat.{ℕ, ◌+◌, ◌≤◌, ◌<◌}
+use Prim.Native.Nat.{ℕ, ◌≤◌, ◌<◌}
 use native.Mathlib.Omega.{arith}
-use lib.ListN.{length, take, drop}
-use lib.Seq.{length-take-le, take_at}
+use lib.ListN.{length, take}
 use Rattle.lists.specs.Lists.{same, member}
 use Rattle.lists.proofs.Tests.{true-or-false, same-yes, same-no, same_true}
 use Rattle.lists.proofs.Members.{member-place}
@@ -19,14 +18,13 @@ use Rattle.table.proofs.Accepted.{accepted}
 use Rattle.places.specs.Places.{Place, equals, differs, control}
 use Rattle.places.specs.Rows.{number_of, IsBound, Exists, has-differs, has-control}
 use Rattle.places.specs.Inner.Arcs.{insert, exists, numbers_for}
-use Rattle.builder.specs.Inner.Writing.{writes, put_one_transition, put_all, Inside}
+use Rattle.builder.specs.Inner.Writing.{put_one_transition, put_all, Inside}
 use Rattle.places.specs.Inner.Plan.{today, control_of, Holds, Reads, Differs}
 use Rattle.builder.specs.Inner.Parts.{of_table, state, put, told, Paired, Hears, Can, arrow, ins_of, outs_of, Tells}
 use Rattle.builder.specs.Inner.Parts.{Rising, Inserted, Entered, no_spot, spot_of}
 use Rattle.builder.specs.declared.write.Heads.{Heads}
 use Rattle.builder.specs.declared.write.Arcs.{Arcs}
 use Rattle.builder.specs.declared.communications.Pair.{Pair}
-use Rattle.builder.proofs.Writing.{writes-behind, writes-length}
 use Rattle.places.proofs.Rows.{places-length, number-below}
 use Rattle.places.proofs.Numbers.{numbers-few, exists-has, has-exists}
 use Rattle.places.proofs.Names.{private-held, held-value}
@@ -63,19 +61,6 @@ module _ (w : List ℕ) where
 
   pub fill-fits : (list : List ℕ) (count : ℕ) (ps : List Place) → Filled w list count ps → length ps ≤ 8 → count ≤ length list
   fill-fits list count ps f h = omega (arith, f.eight, f.size, numbers-few (scheme w) (today w) ps)
-
-  -- the numbers copied to another list
-  pub fill-copy : (list : List ℕ) (count : ℕ) (ps : List Place) → Filled w list count ps → (other : List ℕ) → length other ≡ 8 → (after : List ℕ) (r : ℕ)
-      → r ≡ 0 + count → after ≡ writes other 0 (take count list) → count ≤ 8 → Filled w after r ps
-  fill-copy list count ps f other e after r q a h =
-      let z : 0 + count ≡ count = omega arith in
-      let n : length (take count list) ≡ count = length-take-le count list (omega (arith, f.eight)) in
-      let m : writes other 0 (take count list) ≡ take count list ++ drop (length (take count list)) other =
-      writes-behind [] other (take count list) 0 refl (omega (arith, n, e)) in record {
-        eight = ap (λ (l : List ℕ). length l) a ∙ writes-length other 0 (take count list) ∙ e;
-        size = q ∙ z ∙ f.size;
-        first = rw (q, z, a, m) (take_at (take count list) (drop (length (take count list)) other) count n ∙ f.first);
-      }
 
   pub fill-rising : cause w ≡ 0 → (list : List ℕ) (count : ℕ) (ps : List Place) → Filled w list count ps → length ps ≤ 7 → Rising list count
   fill-rising ok list count ps f h = record {

@@ -8,13 +8,13 @@ use native.Mathlib.Decide.{dec_le}
 use native.Mathlib.Omega.{arith}
 use Rattle.lists.specs.Lists.{member}
 use Rattle.lists.proofs.Tests.{not-true-false}
-use Rattle.lists.proofs.Members.{member-here, member-there, member-cases, member-nil, member-not}
+use Rattle.lists.proofs.Members.{member-here, member-there, member-cases, member-nil}
 use Rattle.scheme.specs.Scheme.{Scheme}
 use Rattle.places.specs.Values.{Values}
 use Rattle.places.specs.Places.{Place}
 use Rattle.places.specs.Rows.{number_of, Exists}
 use Rattle.places.specs.Inner.Arcs.{insert, exists, numbers_for}
-use Rattle.builder.specs.Inner.Writing.{mask_of, rise}
+use Rattle.builder.specs.Inner.Writing.{rise}
 use Rattle.places.proofs.Rows.{number-unique}
 use Rattle.places.proofs.Sorted.{insert-before, insert-here, insert-after, insert-last, Way, below, here, above, way, member-insert}
 use Rattle.places.proofs.Split.{numbers-none, numbers-yes, numbers-no}

@@ -16,7 +16,7 @@ ghost use Rattle.builder.specs.Inner.Parts.{Begins, StartsOf};
 use crate::insertion::{NO_SPOT, insert, insert_spot};
 use crate::layout::{differs, equals, value_count};
 use crate::spans::{Span, Values, behind, behind_one, first_run, first_value, is_none, values_of};
-use crate::write::{Arcs, Heads, Label, series, transition, words};
+use crate::write::{Arcs, Heads, Label, series, transition};
 use lists::{store, word};
 use places::count::{Side, receive_at, side_of};
 use places::lookup::privates;
@@ -157,8 +157,8 @@ fn arcs_of(
     let mut c = insert_spot(ins, 0, t.channel);
     c = insert_spot(ins, c, t.heard);
     c = insert_spot(ins, c, t.sent);
-    let mut o = words(outs, 0, ins, c);
-    o = insert_spot(outs, o, t.bound);
+    outs.copy_from_slice(ins);
+    let mut o = insert_spot(outs, c, t.bound);
     o = insert(outs, o, p.onsend);
     o = insert(outs, o, p.onreceive);
     c = insert_spot(ins, c, t.free);
@@ -287,15 +287,14 @@ fn course_of(table: &[u16], index: &[u32], channel: usize, name: usize) -> Cours
     let publics = word(table, 0);
     let privates = privates(index);
     if name == channel {
-        let values = Values {
-            set: 1,
-            low: 0,
-            end: 0,
-        };
         return Course {
             channels: true,
             sents: true,
-            values,
+            values: Values {
+                set: 1,
+                low: 0,
+                end: 0,
+            },
         };
     }
     let reach = reach_of(index, name);
@@ -373,7 +372,7 @@ fn partners(
     let mut q = h;
     let mut left = s.set;
     while left != 0 {
-        let k = u64::trailing_zeros(left) as u16;
+        let k = left.trailing_zeros() as u16;
         let at = 2 * (k as usize);
         let other = Starts {
             channel: rows.at[at],
@@ -381,7 +380,7 @@ fn partners(
         };
         let p = pair_of(s.side, s.own, receive_at(pairs, k), other);
         q = pair_up(table, index, out, q, p, course);
-        left = left & (left - 1);
+        left &= left - 1;
     }
     q
 }

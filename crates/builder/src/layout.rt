@@ -32,9 +32,10 @@ pub(crate) fn value_count(publics: usize, privates: usize, values: Reach) -> usi
 {
     let count = rank(values.publics, publics);
     if has_privates(values) {
-        return count + privates;
+        count + privates
+    } else {
+        count
     }
-    count
 }
 
 // The number of [x=v], given where the row of x starts.

@@ -268,16 +268,12 @@ fn node(
     let kind = field3(table, 10, n, 0);
     let first = field3(table, 10, n, 1);
     let second = field3(table, 10, n, 2);
-    if kind == 0 {
-        return stop(table, index, out, h, n);
+    match kind {
+        0 => stop(table, index, out, h, n),
+        1 => silents(table, index, out, h, n, first, first + second),
+        2 => news(table, index, out, h, n, reads, read),
+        _ => call(table, index, out, h, n),
     }
-    if kind == 1 {
-        return silents(table, index, out, h, n, first, first + second);
-    }
-    if kind == 2 {
-        return news(table, index, out, h, n, reads, read);
-    }
-    call(table, index, out, h, n)
 }
 
 pub(crate) fn nodes(table: &[u16], index: &[u32], out: &mut [u32], h: Heads) -> Heads

@@ -26,18 +26,15 @@ pub(crate) fn values_of(publics: usize, privates: usize, reach: Reach) -> Values
     requires { Fits publics privates reach }
     ensures { ByReach publics privates reach result }
 {
-    let set = reach.publics;
-    if has_privates(reach) {
-        return Values {
-            set,
-            low: publics,
-            end: publics + privates,
-        };
-    }
+    let end = if has_privates(reach) {
+        publics + privates
+    } else {
+        publics
+    };
     Values {
-        set,
+        set: reach.publics,
         low: publics,
-        end: publics,
+        end,
     }
 }
 
@@ -55,7 +52,7 @@ pub(crate) fn first_value(x: Values) -> usize
     ensures { result ≡ word (values_in x) 0 }
 {
     if x.set != 0 {
-        return u64::trailing_zeros(x.set) as usize;
+        return x.set.trailing_zeros() as usize;
     }
     x.low
 }
@@ -68,14 +65,13 @@ pub(crate) fn behind_one(x: Values) -> Values
     if x.set != 0 {
         return Values {
             set: x.set & (x.set - 1),
-            low: x.low,
-            end: x.end,
+            ..x
         };
     }
     Values {
         set: 0,
         low: x.low + 1,
-        end: x.end,
+        ..x
     }
 }
 
@@ -86,10 +82,10 @@ pub(crate) fn first_run(x: Values) -> Span
 {
     let set = x.set;
     if set != 0 {
-        let low = u64::trailing_zeros(set) as usize;
+        let low = set.trailing_zeros() as usize;
         return Span {
             low,
-            count: u64::trailing_zeros((set >> low) + 1) as usize,
+            count: ((set >> low) + 1).trailing_zeros() as usize,
         };
     }
     Span {
@@ -107,13 +103,12 @@ pub(crate) fn behind(x: Values, s: Span) -> Values
         let to = s.low + s.count;
         return Values {
             set: (x.set >> to) << to,
-            low: x.low,
-            end: x.end,
+            ..x
         };
     }
     Values {
         set: 0,
         low: x.end,
-        end: x.end,
+        ..x
     }
 }

@@ -125,7 +125,11 @@ pub(crate) fn go(out: &mut [u32], h: Heads, kind: u32, a: usize, from: u32, to: 
 fn mask(x: u32, rise: &[u32; 5]) -> u32
     ensures { result ≡ mask_of rise.now x }
 {
-    if rise.contains(&x) { u32::MAX } else { 0 }
+    if rise.iter().any(|&r| r == x) {
+        u32::MAX
+    } else {
+        0
+    }
 }
 
 fn masks_of(list: &[u32; 16], rise: &[u32; 5]) -> [u32; 16]

@@ -1,13 +1,14 @@
 use mathlib.Core.List.{List, [], ◌∷◌}
 use Prim.Native.Nat.{ℕ}
+use mathlib.Core.Path.{sym, subst}
 use native.Mathlib.Omega.{arith}
 use Rattle.scheme.specs.Words.{next}
 use Rattle.scheme.specs.Owners.{home}
 use Rattle.places.specs.Places.{Place, equals, differs, control}
 use Rattle.builder.specs.declared.communications.Pair.{Pair}
-use Rattle.builder.proofs.Pairs.{Filled, fill_none, fill-copy, fill-rising, fill-spot, read_of, takes_of, gives_of}
+use Rattle.builder.proofs.Pairs.{Filled, fill_none, fill-rising, fill-spot, read_of, takes_of, gives_of}
 use Rattle.builder.proofs.Pairs.{move_at, home-inside, send-next, receive-next, tells}
-use Rattle.builder.proofs.communications.arcs_of.Goals.{After-insert_spot-c, After-insert_spot-c-2, After-insert_spot-c-3, After-words-o}
+use Rattle.builder.proofs.communications.arcs_of.Goals.{After-insert_spot-c, After-insert_spot-c-2, After-insert_spot-c-3, After-copy_from_slice}
 use Rattle.builder.proofs.communications.arcs_of.Goals.{After-insert_spot-o, After-insert-o, After-insert-o-2}
 use Rattle.builder.proofs.communications.arcs_of.Goals.{After-insert_spot-c-4, After-insert-c, After-insert-c-2}
 use Rattle.builder.proofs.communications.arcs_of.Goals as goal
@@ -53,16 +54,14 @@ filled3 c f =
     c.spots_of-t.ensures.sent_is c.insert_spot-c-3.ensures c.insert_spot-c-3.auto.list
 
 -- the outputs: what is read, the bound name, and the nodes where both go on
-copied : (c : After-words-o)
+copied : (c : After-copy_from_slice)
     → Filled c.args.table.now c.insert_spot-c-3.new.list c.insert_spot-c-3.result (read_of c.args.table.now c.args.p c.args.i c.args.j)
-    → Filled c.args.table.now c.words-o.new.out c.words-o.result (read_of c.args.table.now c.args.p c.args.i c.args.j)
+    → Filled c.args.table.now c.copy_from_slice.new.self c.insert_spot-c-3.result (read_of c.args.table.now c.args.p c.args.i c.args.j)
 copied c f =
-    let w = c.args.table.now in
-    let ok = c.requires.0.accepted in
-    let e = c.words-o.ensures in
-    fill-copy w _ _ _ f c.args.outs.now c.requires.4 _ _ e.0 e.1 (omega (arith, f.eight, (fill-rising w ok _ _ _ f (omega arith)).room))
+    subst (λ (outs : List ℕ). Filled c.args.table.now outs c.insert_spot-c-3.result (read_of c.args.table.now c.args.p c.args.i c.args.j))
+    (sym c.copy_from_slice.ensures.after) f
 
-gives4 : (c : After-insert_spot-o) → Filled c.args.table.now c.words-o.new.out c.words-o.result (read_of c.args.table.now c.args.p c.args.i c.args.j)
+gives4 : (c : After-insert_spot-o) → Filled c.args.table.now c.copy_from_slice.new.self c.insert_spot-c-3.result (read_of c.args.table.now c.args.p c.args.i c.args.j)
     → Filled c.args.table.now c.insert_spot-o.new.list c.insert_spot-o.result (places4 c.args.table.now c.args.p c.args.i c.args.j)
 gives4 c f =
     fill-spot c.args.table.now c.requires.0.accepted _ _ _ _ _ _ _ f
@@ -126,19 +125,19 @@ pub insert_spot-o-requires : goal.insert_spot-o-requires
 insert_spot-o-requires c =
     let g = goal.at.insert_spot-o-requires c in
     let f = filled3 g.After-insert_spot-c-3 (filled2 g.After-insert_spot-c-2 (filled1 g.After-insert_spot-c)) in
-    fill-rising c.args.table.now c.requires.0.accepted _ _ _ (copied g.After-words-o f) (omega arith)
+    fill-rising c.args.table.now c.requires.0.accepted _ _ _ (copied g.After-copy_from_slice f) (omega arith)
 
 pub insert-o-requires : goal.insert-o-requires
 insert-o-requires c =
     let g = goal.at.insert-o-requires c in
     let f = filled3 g.After-insert_spot-c-3 (filled2 g.After-insert_spot-c-2 (filled1 g.After-insert_spot-c)) in
-    fill-rising c.args.table.now c.requires.0.accepted _ _ _ (gives4 g.After-insert_spot-o (copied g.After-words-o f)) (omega arith)
+    fill-rising c.args.table.now c.requires.0.accepted _ _ _ (gives4 g.After-insert_spot-o (copied g.After-copy_from_slice f)) (omega arith)
 
 pub insert-o-requires-2 : goal.insert-o-requires-2
 insert-o-requires-2 c =
     let g = goal.at.insert-o-requires-2 c in
     let f = filled3 g.After-insert_spot-c-3 (filled2 g.After-insert_spot-c-2 (filled1 g.After-insert_spot-c)) in
-    fill-rising c.args.table.now c.requires.0.accepted _ _ _ (gives5 g.After-insert-o (gives4 g.After-insert_spot-o (copied g.After-words-o f))) (omega arith)
+    fill-rising c.args.table.now c.requires.0.accepted _ _ _ (gives5 g.After-insert-o (gives4 g.After-insert_spot-o (copied g.After-copy_from_slice f))) (omega arith)
 
 pub insert_spot-c-requires-4 : goal.insert_spot-c-requires-4
 insert_spot-c-requires-4 c =
@@ -164,5 +163,5 @@ returns c =
     let g = goal.at.returns c in
     let f = filled3 g.After-insert_spot-c-3 (filled2 g.After-insert_spot-c-2 (filled1 g.After-insert_spot-c)) in
     let takes = takes9 g.After-insert-c-2 (takes8 g.After-insert-c (takes7 g.After-insert_spot-c-4 f)) in
-    let gives = gives6 g.After-insert-o-2 (gives5 g.After-insert-o (gives4 g.After-insert_spot-o (copied g.After-words-o f))) in
+    let gives = gives6 g.After-insert-o-2 (gives5 g.After-insert-o (gives4 g.After-insert_spot-o (copied g.After-copy_from_slice f))) in
     (tells a.table.now c.requires.0.accepted a.p c.requires.1 a.i a.j _ _ _ _ takes gives, c.spots_of-t.ensures)

@@ -4,7 +4,7 @@ use Prim.Native.Nat.{ℕ, ◌+◌, ◌-◌, ◌<◌}
 use native.Mathlib.Omega.{arith}
 use lib.ListN.{length, get_or, take, set}
 use lib.Seq.{length-take-le}
-use Rattle.builder.proofs.Shifts.{shifted, shift_none, insert-found, insert-at, shift-more, shift-put, put-length}
+use Rattle.builder.proofs.Shifts.{shifted, insert-found, insert-at, shift-more, shift-put, put-length}
 use Rattle.builder.proofs.insertion.insert.Goals.{then-loop-at-test+else-x-list, else-loop-at-test}
 use Rattle.builder.proofs.insertion.insert.Goals.{else-at-gt0-via-then-at-gt0+else-list-at, else-at-gt0-via-else-at-gt0}
 use Rattle.builder.proofs.insertion.insert.Goals as goal
@@ -16,9 +16,6 @@ returns-then-list-at c =
     let l = c.loop-at in
     let e = insert-found a.list.now a.count a.x p.room p.rises l.at (omega arith) l.invariant.0 c.if-list-at.true in
     record { size = sym (ap (λ (xs : List ℕ). length xs) e ∙ length-take-le a.count a.list.now (omega arith)); first = sym e }
-
-pub loop-k-init : goal.loop-k-init
-loop-k-init c = (c.loop-at.invariant.0, shift_none c.args.list.now c.args.count c.requires.room)
 
 pub loop-k-preserved : goal.loop-k-preserved
 loop-k-preserved c =

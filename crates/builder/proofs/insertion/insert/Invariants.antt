@@ -1,6 +1,6 @@
 use mathlib.Core.Path.{◌≡◌}
 use Prim.Native.Nat.{◌≤◌, ◌<◌}
-use lib.ListN.{length, get_or}
+use lib.ListN.{get_or}
 use Rattle.builder.proofs.Shifts.{shifted}
 use Rattle.builder.proofs.insertion.insert.Given as goal
 

@@ -1,5 +1,4 @@
 use mathlib.Core.Path.{◌≡◌}
-use Prim.Native.Nat.{◌-◌}
 use Rattle.places.specs.Inner.Plan.{row_of}
 use Rattle.builder.proofs.Marked.{RowsTurn}
 use Rattle.builder.proofs.marking.initial_rows.Given as goal

@@ -1,4 +1,3 @@
-use Prim.Native.Nat.{◌-◌}
 use Rattle.builder.proofs.Marked.{SpotsTurn}
 use Rattle.builder.proofs.marking.initial_spots.Given as goal
 

@@ -1,7 +1,5 @@
 use mathlib.Core.Path.{◌≡◌}
-use Prim.Native.Nat.{◌-◌, ◌≤◌}
 use lib.ListN.{length}
-use Rattle.scheme.specs.Words.{publics}
 use Rattle.places.specs.Inner.Plan.{row_of}
 use Rattle.builder.specs.Inner.Parts.{Filled}
 use Rattle.builder.proofs.Making.{differs_below}

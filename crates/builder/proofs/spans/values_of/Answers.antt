@@ -6,6 +6,6 @@ pub returns-then-has_privates : goal.returns-then-has_privates
 returns-then-has_privates c =
     by_all c.args.publics c.args.privates c.args.reach c.requires (sym c.has_privates.ensures ∙ c.if-has_privates.true)
 
-pub returns : goal.returns
-returns c =
+pub returns-else-has_privates : goal.returns-else-has_privates
+returns-else-has_privates c =
     by-publics c.args.publics c.args.privates c.args.reach c.requires (sym c.has_privates.ensures ∙ c.if-has_privates.false)

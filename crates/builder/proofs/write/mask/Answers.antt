@@ -1,5 +1,8 @@
+use Rattle.std.proofs.Common.{rules, tests}
+use Rattle.std.proofs.lemmas.Iterator.{YieldsList-from_slice}
+use Rattle.std.proofs.lemmas.Iterator.Search.{any_from_yields_List}
 use mathlib.Core.Path.{◌≡◌, refl, sym, ap, ◌∙◌}
-use mathlib.Core.Bool.{Bool, ◌||◌}
+use mathlib.Core.Bool.{◌||◌}
 use mathlib.Core.List.{List, [], ◌∷◌}
 use Prim.Native.Nat.{ℕ}
 use Rattle.std.specs.List.{list_any}
@@ -7,6 +10,7 @@ use lib.Dec.{eqb}
 use Rattle.lists.specs.Lists.{same, member}
 use Rattle.lists.proofs.Tests.{same-sym}
 use Rattle.builder.specs.Inner.Writing.{mask_of}
+use Rattle.builder.proofs.write.mask.Goals.{After-any}
 use Rattle.builder.proofs.write.mask.Goals as goal
 
 -- a number that the search finds is a member
@@ -15,10 +19,15 @@ unfolding member same
 found x [] = refl
 found x (m ∷ ms) = ap (λ b. b || list_any (λ y. eqb y x) ms) (same-sym m x) ∙ ap (λ b. same x m || b) (found x ms)
 
-pub returns-then-contains : goal.returns-then-contains
-unfolding mask_of
-returns-then-contains c = rw (sym (found c.args.x c.args.rise.now) ∙ sym c.contains.ensures.value ∙ c.if-contains.true)
+search-is : (c : After-any) → c.any.result ≡ member c.args.x c.args.rise.now
+search-is c =
+    any_from_yields_List (λ y. eqb y c.args.x) _ _ c.any.result c.any.ensures.ran (YieldsList-from_slice c.args.rise.now cc) (λ x b q k. search (rules, tests))
+    ∙ found c.args.x c.args.rise.now
 
-pub returns-else-contains : goal.returns-else-contains
+pub returns-then-any : goal.returns-then-any
 unfolding mask_of
-returns-else-contains c = rw (sym (found c.args.x c.args.rise.now) ∙ sym c.contains.ensures.value ∙ c.if-contains.false)
+returns-then-any c = rw (sym (search-is (goal.at.returns-then-any c).After-any) ∙ c.if-any.true)
+
+pub returns-else-any : goal.returns-else-any
+unfolding mask_of
+returns-else-any c = rw (sym (search-is (goal.at.returns-else-any c).After-any) ∙ c.if-any.false)

@@ -1,6 +1,5 @@
 use mathlib.Core.Path.{◌≡◌}
-use mathlib.Core.List.{[], ◌∷◌, map}
-use Prim.Native.Nat.{◌-◌, ◌≤◌}
+use mathlib.Core.List.{map}
 use lib.ListN.{length, take}
 use Rattle.builder.specs.Inner.Writing.{mask_of}
 use Rattle.builder.proofs.write.masks_of.Given as goal
