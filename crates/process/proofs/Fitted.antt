@@ -1,5 +1,5 @@
 -- Branches gathered and labels fitted into a lent buffer, and the outcome of listing the open steps, refusal by refusal.
-use mathlib.Core.Path.{◌≡◌, refl, sym, ap, ◌∙◌}
+use mathlib.Core.Path.{◌≡◌, refl, ap, ◌∙◌}
 use mathlib.Core.Bool.{true, false}
 use mathlib.Core.List.{List, [], ◌++◌}
 use mathlib.Core.Option.{some}

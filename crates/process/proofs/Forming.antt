@@ -1,27 +1,22 @@
--- The tests of state words, one by one: what the code looks at decides what the definition asks.
-use mathlib.Core.Path.{◌≡◌, refl, sym, ◌∙◌}
-use mathlib.Core.Bool.{Bool, true, false, not, ◌||◌}
+-- A name in a list, and the names that a node holds, as they are read.
+use mathlib.Core.Path.{◌≡◌, refl, ◌∙◌}
+use mathlib.Core.Bool.{false}
 use mathlib.Core.List.{List, [], ◌∷◌}
 use Prim.Native.Nat.{ℕ, ◌+◌, ◌≤◌, ◌<◌}
-use native.Mathlib.Decide.{ℕ_discrete}
 use native.Mathlib.Omega.{arith}
-use lib.Dec.{ltb, eqb}
+use lib.Dec.{eqb}
 use lib.ListN.{length, take, replicate, length-replicate}
 use lib.Seq.{length-sets, take-append_seam}
-use borrow.Author.Tests.{le-leb, lt-leb}
 use Rattle.std.specs.List.{list_any}
-use Rattle.lists.specs.Lists.{same, from, every, member}
-use Rattle.lists.proofs.Tests.{same-yes, same-no, same-sym, and-true}
+use Rattle.lists.specs.Lists.{same, member}
+use Rattle.lists.proofs.Tests.{same-sym}
 use Rattle.lists.proofs.Counts.{distinct-below}
 use Rattle.scheme.specs.Words.{nodes}
 use Rattle.scheme.specs.Index.{held_at, HeldNames}
-use Rattle.scheme.specs.Scheme.{Scheme, scheme}
+use Rattle.scheme.specs.Scheme.{scheme}
 use Rattle.table.proofs.Accepted.{accepted}
 use Rattle.table.proofs.Lookup.{held-right}
-use Rattle.process.specs.States.{State, is_one_value}
-use Rattle.process.specs.StateWords.{holds_at, is_name_right, is_restricted_right, value_private}
 use Rattle.table.specs.Known.{Known}
-use Rattle.process.specs.Inner.Values.{value_at}
 use Rattle.process.proofs.Sets.{sets-whole}
 
 -- ---- a name in a list
@@ -60,35 +55,3 @@ module _ (w index : List ℕ) (K : Known w index) where
 
     pub held-listed : take r after ≡ (scheme w).held n
     held-listed = rw (H.count, H.written, sets-whole (replicate 64 0) (held_at w index n) names-fit) (take-append_seam (held_at w index n) _ ∙ held-here)
-
--- ---- a name's value against the node
-
-module _ (S : Scheme) (s : State) (x v : ℕ) (held : Bool) (e : s.value x ≡ value_at v) (h : held ≡ holds_at S s x) where
-  pub name-missing : v ≡ 65535 → not held ≡ is_name_right S s x
-  name-missing p = rw (e, same-yes v 65535 p, ← h, and-true (not held))
-
-  pub name-strange : (v ≡ 65535 → ⊥) → held ≡ false → false ≡ is_name_right S s x
-  name-strange d p = rw (e, same-no v 65535 d, ← h, p)
-
-  pub name-there : (v ≡ 65535 → ⊥) → held ≡ true → ltb v (S.publics + S.bounds) ≡ is_name_right S s x
-  name-there d p = rw (e, same-no v 65535 d, ← h, p)
-
--- ---- restricted names
-
-module _ (S : Scheme) (s : State) (x v : ℕ) (e : s.value x ≡ value_at v) (r : S.restricted x ≡ true) where
-  pub restricted-public : v < S.publics → S.publics ≤ 65535 → false ≡ is_restricted_right S s x
-  restricted-public l k = rw (r, e, same-no v 65535 (λ q. omega arith), lt-leb S.publics v l)
-
-  private-value : S.publics ≤ v → value_private S (value_at v) ≡ true
-  private-value l = go (ℕ_discrete v 65535)
-    where
-      go : Dec (v ≡ 65535) → value_private S (value_at v) ≡ true
-      go (yes p) = rw (same-yes v 65535 p)
-      go (no d) = rw (same-no v 65535 d, le-leb S.publics v l)
-
-  pub restricted-private : S.publics ≤ v
-      → every (λ y. not (S.restricted y) || (same x y || not (is_one_value (s.value x) (s.value y)))) (from S.publics S.bounds) ≡ is_restricted_right S s x
-  restricted-private l = rw (r, private-use l)
-    where
-      private-use : S.publics ≤ v → value_private S (s.value x) ≡ true
-      private-use l = rw e (private-value l)

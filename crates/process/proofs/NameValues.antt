@@ -1,26 +1,23 @@
 -- Values of names in state words, and the words of the starting state.
-use mathlib.Core.Path.{◌≡◌, refl, sym, ◌∙◌}
-use mathlib.Core.Bool.{true, false}
+use mathlib.Core.Path.{◌≡◌, refl, ◌∙◌}
 use mathlib.Core.Option.{some}
 use mathlib.Core.List.{List, [], ◌++◌, map}
 use Prim.Native.Nat.{ℕ, zero, suc, ◌+◌, ◌-◌, ◌≤◌, ◌<◌}
-use native.Mathlib.Decide.{ℕ_discrete}
 use native.Mathlib.Omega.{arith}
-use lib.Dec.{eqb}
 use lib.ListN.{length, replicate, length-append, length-map, length-replicate}
 use lib.Seq.{sets}
 use borrow.Author.Tests.{lt-ltb, le-ltb}
 use Rattle.lists.specs.Lists.{same, word, from, range}
-use Rattle.lists.proofs.Tests.{same-yes, same-no, same_self}
+use Rattle.lists.proofs.Tests.{same-no, same_self}
 use Rattle.lists.proofs.Ranges.{from-length}
 use Rattle.lists.proofs.Stores.{sets-append}
 use Rattle.scheme.specs.Words.{publics, bounds, threads, root, entry}
 use Rattle.table.specs.Causes.{cause}
 use Rattle.scheme.specs.Scheme.{scheme}
-use Rattle.process.specs.States.{is_one_value, start}
+use Rattle.process.specs.States.{start}
 use Rattle.process.specs.StateWords.{state_of, state_words, value_words}
 use Rattle.process.specs.Outcomes.{answered, start_outcome, refusal}
-use Rattle.process.specs.Inner.Values.{value_at, Valued}
+use Rattle.process.specs.Inner.Values.{Valued}
 use Rattle.process.proofs.Sets.{sets-whole}
 
 -- ---- values
@@ -38,20 +35,6 @@ module _ (w ws : List ℕ) (x : ℕ) where
   pub value-outside : publics w ≤ x → publics w + bounds w ≤ x → Valued ((state_of (scheme w) ws).value x) 65535
   unfolding state_of scheme same
   value-outside h k = record { is = rw (le-ltb x (publics w) h, le-ltb x (publics w + bounds w) k); small = omega arith }
-
-pub one-missing : (v u : ℕ) → v ≡ 65535 → false ≡ is_one_value (value_at v) (value_at u)
-one-missing v u h = rw (same-yes v 65535 h)
-
-tested : (v u : ℕ) → eqb v u ≡ same v u
-unfolding same
-tested v u = refl
-
-pub one-there : (v u : ℕ) → (v ≡ 65535 → ⊥) → eqb v u ≡ is_one_value (value_at v) (value_at u)
-one-there v u h = go (ℕ_discrete u 65535)
-  where
-    go : Dec (u ≡ 65535) → eqb v u ≡ is_one_value (value_at v) (value_at u)
-    go (yes p) = rw (same-no v 65535 h, same-yes u 65535 p) (tested v u ∙ same-no v u (λ e. h (e ∙ p)))
-    go (no d) = rw (same-no v 65535 h, same-no u 65535 d) (tested v u)
 
 -- ---- the starting state
 

@@ -1,6 +1,6 @@
 -- A table that is not accepted: every call answers with its cause.
 use Rattle.std.specs.Prelude.{◌≡◌, ℕ, List, Result, Ok, Err, IsErrAnd}
-use mathlib.Core.Path.{sym, ◌∙◌}
+use mathlib.Core.Path.{◌∙◌}
 use native.Mathlib.Omega.{arith}
 use Rattle.lists.proofs.Tests.{same-no}
 use Rattle.table.specs.Answer.{cause_number}

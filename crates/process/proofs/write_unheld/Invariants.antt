@@ -1,6 +1,6 @@
 use mathlib.Core.Path.{◌≡◌}
 use Prim.Native.Nat.{◌+◌, ◌-◌}
-use lib.ListN.{length, replicate}
+use lib.ListN.{replicate}
 use lib.Seq.{sets}
 use Rattle.scheme.specs.Words.{threads as thread_count, bounds as bound_count}
 use Rattle.process.proofs.write_unheld.Given as goal

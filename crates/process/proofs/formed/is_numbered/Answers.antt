@@ -2,7 +2,6 @@ use mathlib.Core.Path.{◌≡◌, sym, ◌∙◌}
 use Prim.Native.Nat.{◌+◌}
 use native.Mathlib.Omega.{arith}
 use Rattle.process.proofs.Numbering.{after_turn, numbered-start, numbered_from, numbered_more, numbered-end, seen-grows}
-use Rattle.process.specs.Inner.Values.{next_seen_of}
 use Rattle.process.proofs.formed.is_numbered.Goals.{After-next_seen}
 use Rattle.process.proofs.formed.is_numbered.Goals as goal
 

@@ -1,7 +1,6 @@
 use mathlib.Core.Path.{◌≡◌}
 use Prim.Native.Nat.{◌-◌}
 use mathlib.Core.List.{map}
-use lib.ListN.{length}
 use lib.Seq.{sets}
 use Rattle.lists.specs.Lists.{from, range}
 use Rattle.scheme.specs.Words.{threads as thread_count}
