@@ -5,7 +5,7 @@
 ghost use Rattle.std.specs.Prelude.{◌≡◌, ◌+◌, ◌-◌, ◌*◌, ◌/◌, ◌%◌, ◌^◌, ◌<◌, true, not, ◌&&◌, ◌||◌, length};
 ghost use Rattle.lists.specs.Lists.{pick, same, word, from, every, ascends};
 ghost use Rattle.net.specs.Image.{place_count_of, transition_count, record_right, inputs_at, outputs_at};
-ghost use Rattle.net.specs.Inner.Arcs.{Header, ArcsOf};
+ghost use Rattle.net.specs.Inner.Arcs.{Header, Offsets, ArcsOf};
 ghost use Rattle.net.specs.Firing.{is_marking, is_enabled, has_contact, put, moved};
 ghost use Rattle.summary.specs.declared.Refusal.TheVariants as refusals;
 ghost use Rattle.summary.specs.Sets.{is_in_set, lowest_in, number_in};
@@ -58,7 +58,34 @@ pub fn number(enabled: &[u64]) -> u64
     total
 }
 
-// The arcs of a transition whose record is right.
+// Where the inputs of a transition start, where its outputs start and where they end.
+#[derive(Clone, Copy)]
+struct Span {
+    inputs: usize,
+    outputs: usize,
+    end: usize,
+}
+
+// The offsets in a transition's record.
+#[inline(always)]
+fn span_of(image: &[u32], transition: usize) -> Span
+    requires { Header image.now × (transition < transition_count image.now) }
+    ensures { Offsets image.now transition result.inputs result.outputs result.end }
+{
+    let tokens = image[4] as usize;
+    let record = 8 + tokens + 6 * transition;
+    let inputs = image[record + 3] as usize;
+    let outputs = inputs + image[record + 4] as usize;
+    let end = outputs + image[record + 5] as usize;
+    Span {
+        inputs,
+        outputs,
+        end,
+    }
+}
+
+// The arcs of a transition whose record is right. It is as net's `arcs_at`, which asks nothing of its caller and looks
+// at each offset: with that a firing that keeps a summary takes a third longer.
 #[inline(always)]
 fn arcs_of(image: &[u32], transition: usize) -> Arcs
     requires { Header image.now
@@ -66,7 +93,14 @@ fn arcs_of(image: &[u32], transition: usize) -> Arcs
         × (record_right image.now transition ≡ true) }
     ensures { ArcsOf image.now transition result.inputs.now result.outputs.now }
 {
-    net::arcs_at(image, transition)
+    let span = span_of(image, transition);
+    let inputs = span.inputs;
+    let outputs = span.outputs;
+    let end = span.end;
+    Arcs {
+        inputs: &image[inputs..outputs],
+        outputs: &image[outputs..end],
+    }
 }
 
 // Writes a byte at every place of a list.
@@ -91,13 +125,26 @@ fn missing(places: &[u32], bytes: &[u8]) -> u32
         .count() as u32
 }
 
-// Whether one of the places is the firing's.
+// Whether one of the places is the firing's. Two are looked at in a turn: one in a turn is slower by a third.
 #[inline(always)]
 fn touched(places: &[u32], bytes: &[u8]) -> bool
     requires { ascends (length bytes.now) 0 places.now ≡ true }
     ensures { result ≡ is_touched bytes.now places.now }
 {
-    places.iter().any(|place| 2 <= bytes[*place as usize])
+    let mut i = 0;
+    while i + 1 < places.len() {
+        if 2 <= bytes[places[i] as usize] {
+            return true;
+        }
+        if 2 <= bytes[places[i + 1] as usize] {
+            return true;
+        }
+        i += 2;
+    }
+    if i < places.len() {
+        return 2 <= bytes[places[i] as usize];
+    }
+    false
 }
 
 // Whether one of the places has the byte of a token alone.
