@@ -177,7 +177,12 @@ pub(crate) fn all_marked(places: &[u32], marking: &[u8]) -> bool
     requires { ascends (length marking.now) 0 places.now ≡ true }
     ensures { result ≡ is_enabled marking.now places.now }
 {
-    places.iter().all(|place| marking[*place as usize] == 1)
+    for place in places {
+        if marking[*place as usize] != 1 {
+            return false;
+        }
+    }
+    true
 }
 
 // Whether an output has its token that is not also an input: the two ascending lists are merged.

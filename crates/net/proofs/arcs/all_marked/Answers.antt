@@ -1,18 +1,37 @@
-use Rattle.std.proofs.Common.{ℕ, ◌<◌, length, get_or, arith, rules, tests}
-use Rattle.std.proofs.iter.Serving.{serving}
-use Rattle.std.proofs.lemmas.Iterator.{YieldsList-from_slice}
-use Rattle.std.proofs.lemmas.Iterator.Search.{all_from_yields_List}
-use Rattle.lists.specs.Lists.{same}
-use Rattle.lists.proofs.Chains.{every_all}
+use Rattle.std.specs.Prelude.{◌≡◌, ◌<◌, ◌≤◌, ◌+◌, ◌&&◌, ℕ, List, false, true, length, drop, get_or}
+use Rattle.std.proofs.Common.{◌∙◌, sym}
+use Rattle.lists.specs.Lists.{word, same, every}
+use Rattle.lists.proofs.Tests.{same-yes, same-no}
+use Rattle.lists.proofs.Slices.{drop-step, drop-none}
+use Rattle.lists.proofs.Ascending.{element-below}
 use Rattle.net.specs.Firing.{is_enabled}
-use Rattle.net.proofs.Marks.{each_below}
 use Rattle.net.proofs.arcs.all_marked.Goals as goal
 
-pub all-requires-clause-callable : goal.all-requires-clause-callable
-all-requires-clause-callable c =
-    let below : (k d : ℕ) → k < length c.iter.result.rest.now → get_or c.iter.result.rest.now k d < length c.args.marking.now = each_below _ _ _ c.requires c.iter.ensures.rest in
-    grind (arith, serving, below)
+-- the place that comes next, and those after it
+next : (m p : List ℕ) (i : ℕ) → i < length p → is_enabled m (drop i p) ≡ (same (word m (get_or p i 0)) 1 && is_enabled m (drop (i + 1) p))
+unfolding is_enabled every
+next m p i h = rw (drop-step p i)
+
+none : (m p : List ℕ) (i : ℕ) → length p ≤ i → is_enabled m (drop i p) ≡ true
+unfolding is_enabled every
+none m p i h = rw (drop-none p i)
+
+pub bounds-marking-place : goal.bounds-marking-place
+bounds-marking-place c = element-below _ _ _ c.requires c.loop-place.place-index c.loop-place-test.true
+
+pub returns-then-marking-place-ne1 : goal.returns-then-marking-place-ne1
+returns-then-marking-place-ne1 c =
+    let m = c.args.marking.now in
+    let p = c.args.places.now in
+    let i = c.loop-place.place-index in
+    sym (c.loop-place.invariant ∙ next m p i c.loop-place-test.true ∙ rw (same-no (word m (get_or p i 0)) 1 c.if-marking-place-ne1.true))
+
+pub loop-place-preserved : goal.loop-place-preserved
+loop-place-preserved c =
+    let m = c.args.marking.now in
+    let p = c.args.places.now in
+    let i = c.loop-place.place-index in
+    c.loop-place.invariant ∙ next m p i c.loop-place-test.true ∙ rw (same-yes (word m (get_or p i 0)) 1 c.if-marking-place-ne1.false)
 
 pub returns : goal.returns
-unfolding is_enabled same
-returns c = rw every_all (all_from_yields_List _ _ _ _ c.all.ensures.ran (YieldsList-from_slice c.args.places.now cc) (λ x b q k. search (rules, tests)))
+returns c = sym (c.loop-place.invariant ∙ none c.args.marking.now c.args.places.now c.loop-place.place-index c.loop-place-test.false)
