@@ -331,6 +331,8 @@ fn ends_at(image: &[u32], settle: bool, transition: usize) -> bool
 // The transition that the rule finds, or none; 12 at a malformed record. A search that settles first keeps the lowest
 // enabled transition while it looks for bookkeeping. The records below `seen` were met in an earlier search and found
 // right, and are not looked over again.
+// It is compiled by itself: within a run's loop its own loop is slower by a third.
+#[inline(never)]
 fn search(
     image: &[u32],
     marking: &[u8],

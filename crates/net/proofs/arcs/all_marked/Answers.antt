@@ -1,4 +1,4 @@
-use Rattle.std.specs.Prelude.{◌≡◌, ◌<◌, ◌≤◌, ◌+◌, ◌&&◌, ℕ, List, false, true, length, drop, get_or}
+use Rattle.std.specs.Prelude.{◌≡◌, ◌<◌, ◌≤◌, ◌+◌, ◌&&◌, ℕ, List, true, length, drop, get_or}
 use Rattle.std.proofs.Common.{◌∙◌, sym}
 use Rattle.lists.specs.Lists.{word, same, every}
 use Rattle.lists.proofs.Tests.{same-yes, same-no}
