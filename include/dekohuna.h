@@ -2,7 +2,7 @@
  *
  * For x86-64 Linux. `scripts/archive` writes target/staticlib/libcapi.a; link that archive, and the C library for
  * these functions:
- *     C library: memcpy memmove memset
+ *     C library: memcpy memset
  * What each call returns and what it leaves in each buffer is proved in crates/capi.
  *
  * What a call returns. One word: DEKOHUNA_CODE(word) is how the call ended, an enum dekohuna_code;

@@ -231,6 +231,17 @@ pub fn fire(image: &[u32], marking: &mut [u8], transition: u32) -> Result<(), Ca
     fire_one(image, marking, transition as usize)
 }
 
+// Copies bytes over as many others. It is a loop, for std's `copy_from_slice` needs `memmove` of the C library, which the
+// C interface does without.
+fn copy(from: &[u8], to: &mut [u8])
+    requires { length from.now ≡ length to.old }
+    ensures { to.new ≡ from.now }
+{
+    for i in 0..from.len() {
+        to[i] = from[i];
+    }
+}
+
 // One look on an image whose header is right, at a marking of its length: 14, 12, 15 and 16 as of a firing, then 10.
 // It costs a copy of the marking and the arcs.
 fn look_one(image: &[u32], marking: &[u8], number: usize, next: &mut [u8]) -> Result<usize, Refusal>
@@ -244,7 +255,7 @@ fn look_one(image: &[u32], marking: &[u8], number: usize, next: &mut [u8]) -> Re
     if next.len() < places {
         return Err(Refusal::NoRoom);
     }
-    next[..places].copy_from_slice(marking);
+    copy(marking, &mut next[..places]);
     move_tokens(arcs, &mut next[..places]);
     Ok(places)
 }

@@ -17,11 +17,11 @@ returns-then-next-places c = look-short _ _ _ _ _ c.in_ok-arcs.ensures.1 (omega 
 
 pub move_tokens-requires : goal.move_tokens-requires
 move_tokens-requires c =
-    let front = take_at c.copy_from_slice.new.self (drop (length c.args.marking.now) c.args.next.now) (length c.args.marking.now) (ap length c.copy_from_slice.ensures.after) in
-    both_ascend _ _ _ _ _ c.in_ok-arcs.ensures.0 (ap length (front ∙ c.copy_from_slice.ensures.after) ∙ c.requires.1)
+    let front = take_at c.copy.new.to (drop (length c.args.marking.now) c.args.next.now) (length c.args.marking.now) (ap length c.copy.ensures) in
+    both_ascend _ _ _ _ _ c.in_ok-arcs.ensures.0 (ap length (front ∙ c.copy.ensures) ∙ c.requires.1)
 
 pub returns : goal.returns
 returns c =
     let behind = drop (length c.args.marking.now) c.args.next.now in
     look-moved _ _ _ _ _ _ _ _ c.in_ok-arcs.ensures.1 c.requires.1 c.if-next-places.false
-    (ap (λ (x : List ℕ). x ++ behind) c.copy_from_slice.ensures.after) c.move_tokens.ensures
+    (ap (λ (x : List ℕ). x ++ behind) c.copy.ensures) c.move_tokens.ensures
