@@ -1,11 +1,8 @@
 -- What a right header and a right record tell of an image.
-use mathlib.Core.Path.{◌≡◌, refl, ap, sym, ◌∙◌}
+use mathlib.Core.Path.{◌≡◌, refl, ap, ◌∙◌}
 use mathlib.Core.Bool.{Bool, true, false, ◌&&◌}
 use mathlib.Core.List.{List}
-use Prim.Native.Nat.{ℕ, ◌+◌, ◌-◌, ◌*◌, ◌≤◌, ◌<◌, min}
-use Rattle.std.proofs.Common.{inl, inr}
-use Rattle.std.proofs.lemmas.Bool.{cases_lt}
-use Rattle.std.proofs.lemmas.List.{get_or_past}
+use Prim.Native.Nat.{ℕ, ◌+◌, ◌-◌, ◌≤◌, ◌<◌}
 use native.Mathlib.Omega.{arith}
 use lib.Dec.{leb}
 use lib.ListN.{length, take, drop}
@@ -177,15 +174,3 @@ all-records w = every-start (record_right w) (transition_count w)
 pub record_of : (w : List ℕ) → are_records_right w ≡ true → (t : ℕ) → t < transition_count w → record_right w t ≡ true
 unfolding are_records_right
 record_of w h t l = every-below (record_right w) (transition_count w) h t l
-
--- a word past the largest number of 64 bits is past every list's end, as that number is
-pub word_capped : (w : List ℕ) (i j : ℕ) → length w < 18446744073709551616 → i ≡ min j 18446744073709551615 → word w i ≡ word w j
-word_capped w i j h e = elim (cases_lt j 18446744073709551615) [
-  | inl l ↦ ap (word w) (omega (arith, e, l))
-  | inr l ↦ get_or_past w i 0 (omega (arith, e, l)) ∙ sym (get_or_past w j 0 (omega (arith, l)))
-]
-
--- where an image's record tells that the inputs start, the outputs do and they end, by its words wherever they lie
-module _ (w : List ℕ) (t p : ℕ) (h : length w < 18446744073709551616) (at : p ≡ min (8 + word w 4 + min (t * 6) 18446744073709551615) 18446744073709551615) where
-  pub capped : (k i x : ℕ) → i ≡ min (p + k) 18446744073709551615 → x ≡ word w i → x ≡ word w (8 + word w 4 + 6 * t + k)
-  capped k i x e r = r ∙ word_capped w i _ h (omega (arith, e, at))

@@ -1,8 +1,7 @@
 // Records and arcs of an image, and the tokens of the places that a list of arcs has.
 ghost use Rattle.std.specs.Prelude.{true, false, ◌≡◌, ◌<◌, ◌≤◌, length, MatchOption};
 ghost use Rattle.lists.specs.Lists.{ascends};
-ghost use Rattle.net.specs.Image.{transition_count, given_length, record_right, inputs_at, outputs_at};
-ghost use Rattle.std.proofs.Math.Seq.{slice};
+ghost use Rattle.net.specs.Image.{transition_count, given_length, record_right};
 ghost use Rattle.net.specs.Firing.{is_enabled, has_contact, put, moved};
 ghost use Rattle.net.specs.Inner.Arcs.{Header, Start, Offsets, ArcsOf};
 
@@ -128,30 +127,6 @@ pub(crate) fn arcs_of(image: &[u32], transition: usize) -> Arcs
     Arcs {
         inputs: &image[inputs..outputs],
         outputs: &image[outputs..end],
-    }
-}
-
-// The words from `start` up to `end`, as far as there are any.
-fn part(words: &[u32], start: usize, end: usize) -> &[u32]
-    ensures { result.now ≡ slice start end words.now }
-{
-    let end = usize::min(end, words.len());
-    if start < end { &words[start..end] } else { &[] }
-}
-
-// The arcs that a transition's record gives, as far as the image has them. Of any image.
-pub fn arcs_at(image: &[u32], transition: usize) -> Arcs
-    ensures inputs { result.inputs.now ≡ inputs_at image.now transition }
-    ensures outputs { result.outputs.now ≡ outputs_at image.now transition }
-{
-    let records = 8 + lists::word(image, 4);
-    let record = records.saturating_add(transition.saturating_mul(6));
-    let inputs = lists::word(image, record.saturating_add(3));
-    let outputs = inputs + lists::word(image, record.saturating_add(4));
-    let end = outputs + lists::word(image, record.saturating_add(5));
-    Arcs {
-        inputs: part(image, inputs, outputs),
-        outputs: part(image, outputs, end),
     }
 }
 

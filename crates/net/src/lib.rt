@@ -17,7 +17,7 @@ ghost use Rattle.net.specs.Inner.Passes.{rule_of, is_end_at, Finds, Turned};
 
 mod arcs;
 
-pub use arcs::{Arcs, arcs_at};
+pub use arcs::Arcs;
 use arcs::{
     all_marked, arcs_of, arcs_start, contact, length_given, move_tokens, put_all, record_at,
     record_right, rising,
