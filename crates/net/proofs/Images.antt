@@ -165,6 +165,14 @@ pub both_ascend : (w : List ℕ) (t : ℕ) (ins outs : List ℕ) (k : ℕ) → A
 both_ascend w t ins outs k a e =
     (rw (e, a.inputs-are) (inputs_ascend w t a.right), rw (e, a.outputs-are) (outputs_ascend w t a.right))
 
+-- the arcs that the offsets of a right record give
+pub arcs-at : (w : List ℕ) (t f c e : ℕ) → (record_right w t ≡ true) × Offsets w t f c e → ArcsOf w t (slice f c w) (slice c e w)
+arcs-at w t f c e p = record { right = p.0; inputs-are = inputs_are w t f c e p.1; outputs-are = outputs-are w t f c e p.1 }
+
+-- its inputs lie within the image
+pub inputs-within : (w : List ℕ) (t f c e : ℕ) → (record_right w t ≡ true) × Offsets w t f c e → c ≤ length w
+inputs-within w t f c e p = omega (arith, arcs_within w t p.0, p.1.outputs-are)
+
 -- ---- all records
 
 pub all-records : (w : List ℕ) → are_records_right w ≡ every (record_right w) (from 0 (transition_count w - 0))

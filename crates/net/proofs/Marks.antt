@@ -8,13 +8,14 @@ use native.Mathlib.Omega.{arith}
 use native.Mathlib.Decide.{dec_lt}
 use lib.Dec.{leb, ltb}
 use lib.ListN.{length, get_or, set, drop, length-set}
+use lib.Seq.{slice}
 use borrow.Author.Tests.{le-leb, lt-leb, lt-ltb, le-ltb}
 use Rattle.std.proofs.lemmas.List.{get_or_default}
-use Rattle.lists.specs.Lists.{same, every, some, member, ascends}
+use Rattle.lists.specs.Lists.{word, same, every, some, member, ascends}
 use Rattle.lists.proofs.Tests.{false-true, and-true, and-false, or-none, same-yes, same_self, same-no, same-sym}
-use Rattle.lists.proofs.Slices.{drop-step, drop-none}
+use Rattle.lists.proofs.Slices.{drop-step, drop-none, slice-step, slice-none}
 use Rattle.lists.proofs.Ascending.{ascends-rest, ascends-below, ascends-cons, ascends-lower, not-below, element-below}
-use Rattle.net.specs.Firing.{is_place_marked, has_contact, put}
+use Rattle.net.specs.Firing.{is_place_marked, is_enabled, has_contact, put}
 
 -- ---- bytes of a marking
 
@@ -43,6 +44,42 @@ highest-more m i h highest next e =
 pub highest-last : (m : List ℕ) (i highest : ℕ) → length m ≤ i → low_from highest m i ≡ leb highest 1
 unfolding every
 highest-last m i highest h = rw (drop-none m i h) (and-true (leb highest 1))
+
+-- ---- inputs that have their tokens
+
+-- the place that comes next, and those after it
+pub enabled-next : (m p : List ℕ) (i : ℕ) → i < length p → is_enabled m (drop i p) ≡ (same (word m (get_or p i 0)) 1 && is_enabled m (drop (i + 1) p))
+unfolding is_enabled every
+enabled-next m p i h = rw (drop-step p i h)
+
+-- none is left
+pub enabled-none : (m p : List ℕ) (i : ℕ) → length p ≤ i → is_enabled m (drop i p) ≡ true
+unfolding is_enabled every
+enabled-none m p i h = rw (drop-none p i h)
+
+-- one without its token
+pub enabled-not : (m p : List ℕ) (i : ℕ) → i < length p → (word m (get_or p i 0) ≡ 1 → ⊥) → is_enabled m (drop i p) ≡ false
+enabled-not m p i h f = enabled-next m p i h ∙ rw (same-no (word m (get_or p i 0)) 1 f)
+
+-- one with its token
+pub enabled-more : (m p : List ℕ) (i : ℕ) → i < length p → word m (get_or p i 0) ≡ 1 → is_enabled m (drop i p) ≡ is_enabled m (drop (i + 1) p)
+enabled-more m p i h e = enabled-next m p i h ∙ rw (same-yes (word m (get_or p i 0)) 1 e)
+
+-- ---- the same of a part of a list, from i to e
+
+module _ (w : List ℕ) (i e : ℕ) where
+  pub part_none : e ≤ i → (m : List ℕ) → is_enabled m (slice i e w) ≡ true
+  unfolding is_enabled every
+  part_none h m = rw (slice-none w i e h)
+
+  module _ (h : i < e) (k : e ≤ length w) where
+    pub part-not : (m : List ℕ) → (word m (get_or w i 0) ≡ 1 → ⊥) → is_enabled m (slice i e w) ≡ false
+    unfolding is_enabled every
+    part-not m p = rw (slice-step w i e, same-no (word m (get_or w i 0)) 1)
+
+    pub part-more : (m : List ℕ) → word m (get_or w i 0) ≡ 1 → is_enabled m (slice i e w) ≡ is_enabled m (slice (i + 1) e w)
+    unfolding is_enabled every
+    part-more m p = rw (slice-step w i e, same-yes (word m (get_or w i 0)) 1)
 
 -- ---- neighbours
 

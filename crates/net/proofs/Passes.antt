@@ -125,8 +125,8 @@ module _ (w m : List ℕ) (settle : Bool) where
       passed-wrong a = P.finds ∙ pass-wrong w m settle t (kept_as kept) h a
 
       module _ (ins outs : List ℕ) (a : ArcsOf w t ins outs) where
-        all_right : (k : ℕ) → k < t + 1 → record_right w k ≡ true
-        all_right k l = go (dec_lt k t)
+        pub met_right : (k : ℕ) → k < t + 1 → record_right w k ≡ true
+        met_right k l = go (dec_lt k t)
           where
             go : Dec (k < t) → record_right w k ≡ true
             go (yes d) = P.right k d
@@ -136,7 +136,7 @@ module _ (w m : List ℕ) (settle : Bool) where
         passed-off p =
             record {
               finds = P.finds ∙ pass-off w m settle t (kept_as kept) h a.right (ap (is_enabled m) (sym a.inputs-are) ∙ p);
-              right = all_right;
+              right = met_right;
               keeps = P.keeps;
             }
 
@@ -149,7 +149,7 @@ module _ (w m : List ℕ) (settle : Bool) where
               record {
                 finds = P.finds ∙ pass_on w m settle t (kept_as kept) h a.right here.enabled q
                     ∙ ap (λ (s : Search). pass_from w m settle s (transition_count w - (t + 1)) (t + 1)) (or_kept kept t ∙ ap kept_as (sym e));
-                right = all_right;
+                right = met_right;
                 keeps = λ b f. go kept refl b (sym e ∙ f);
               }
             where
@@ -164,11 +164,10 @@ module _ (w m : List ℕ) (settle : Bool) where
           passed-stop q = (P.finds ∙ pass-stop w m settle t (kept_as kept) h a.right here.enabled q, here)
 
 -- the records met, and those met before, are right
-pub seen_more : (w : List ℕ) (t seen n : ℕ) → ((k : ℕ) → k < t → record_right w k ≡ true) → record_right w t ≡ true
-    → ((k : ℕ) → k < seen → record_right w k ≡ true) → n ≡ max seen (t + 1) → (k : ℕ) → k < n → record_right w k ≡ true
-seen_more w t seen n f r g e k h = go (dec_lt k seen) (dec_lt k t)
+pub seen_more : (w : List ℕ) (seen met n : ℕ) → ((k : ℕ) → k < seen → record_right w k ≡ true) → ((k : ℕ) → k < met → record_right w k ≡ true)
+    → n ≡ max seen met → (k : ℕ) → k < n → record_right w k ≡ true
+seen_more w seen met n f g e k h = go (dec_lt k seen)
   where
-    go : Dec (k < seen) → Dec (k < t) → record_right w k ≡ true
-    go (yes p) q = g k p
-    go (no p) (yes q) = f k q
-    go (no p) (no q) = let i : k ≡ t = omega (arith, e, h) in ap (record_right w) i ∙ r
+    go : Dec (k < seen) → record_right w k ≡ true
+    go (yes p) = f k p
+    go (no p) = g k (omega (arith, e, h))

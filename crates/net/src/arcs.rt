@@ -14,10 +14,10 @@ pub struct Arcs<'a> {
 
 // Where the inputs of a transition start, where its outputs start and where they end.
 #[derive(Clone, Copy)]
-struct Span {
-    inputs: usize,
-    outputs: usize,
-    end: usize,
+pub(crate) struct Span {
+    pub inputs: usize,
+    pub outputs: usize,
+    pub end: usize,
 }
 
 // Whether the words ascend strictly and lie below `places`: each pair of neighbours is looked at, and the last word.
@@ -94,6 +94,7 @@ fn span_of(image: &[u32], transition: usize) -> Span
 }
 
 // Whether a transition's record and its arcs are right.
+#[inline(always)]
 pub(crate) fn record_right(image: &[u32], transition: usize) -> bool
     requires { Header image.now × (transition < transition_count image.now) }
     ensures { result ≡ record_right image.now transition }
@@ -130,17 +131,43 @@ pub(crate) fn arcs_of(image: &[u32], transition: usize) -> Arcs
     }
 }
 
-// The arcs of a transition, if its record is right. One that is known to be right is not looked over again.
+// The arcs of a transition, if its record is right.
 #[inline(always)]
-pub(crate) fn record_at(image: &[u32], transition: usize, known: bool) -> Option<Arcs>
+pub(crate) fn arcs_at(image: &[u32], transition: usize) -> Option<Arcs>
+    requires { Header image.now × (transition < transition_count image.now) }
+    ensures { MatchOption result (record_right image.now transition ≡ false)
+        (λ arcs. ArcsOf image.now transition arcs.inputs.now arcs.outputs.now) }
+{
+    if record_right(image, transition) {
+        Some(arcs_of(image, transition))
+    } else {
+        None
+    }
+}
+
+// Whether a record that a search meets for the first time is right. It is compiled by itself: within the scan it takes
+// the registers that the scan's own loop needs.
+#[cold]
+#[inline(never)]
+fn met_right(image: &[u32], transition: usize) -> bool
+    requires { Header image.now × (transition < transition_count image.now) }
+    ensures { result ≡ record_right image.now transition }
+{
+    record_right(image, transition)
+}
+
+// Where the arcs of a transition are, if its record is right. One that is known to be right is not looked over again.
+#[inline(always)]
+pub(crate) fn record_at(image: &[u32], transition: usize, known: bool) -> Option<Span>
     requires { Header image.now
         × (transition < transition_count image.now)
         × (known ≡ true → record_right image.now transition ≡ true) }
     ensures { MatchOption result (record_right image.now transition ≡ false)
-        (λ arcs. ArcsOf image.now transition arcs.inputs.now arcs.outputs.now) }
+        (λ span. (record_right image.now transition ≡ true)
+        × Offsets image.now transition span.inputs span.outputs span.end) }
 {
-    if known || record_right(image, transition) {
-        Some(arcs_of(image, transition))
+    if known || met_right(image, transition) {
+        Some(span_of(image, transition))
     } else {
         None
     }

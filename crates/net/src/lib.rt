@@ -19,8 +19,8 @@ mod arcs;
 
 pub use arcs::Arcs;
 use arcs::{
-    all_marked, arcs_of, arcs_start, contact, length_given, move_tokens, put_all, record_at,
-    record_right, rising,
+    all_marked, arcs_at, arcs_of, arcs_start, contact, length_given, move_tokens, put_all,
+    record_at, record_right, rising,
 };
 
 // Why a call refuses: causes 11, 12, 13, 14, 15 and 16.
@@ -179,7 +179,7 @@ fn fireable<'a>(image: &'a [u32], marking: &[u8], transition: usize) -> Result<A
     if count <= transition {
         return Err(Cause::NoTransition);
     }
-    let Some(arcs) = record_at(image, transition, false) else {
+    let Some(arcs) = arcs_at(image, transition) else {
         return Err(Cause::RecordWrong);
     };
     if !all_marked(arcs.inputs, marking) {
@@ -342,8 +342,7 @@ fn ends_at(image: &[u32], settle: bool, transition: usize) -> bool
 // The transition that the rule finds, or none; 12 at a malformed record. A search that settles first keeps the lowest
 // enabled transition while it looks for bookkeeping. The records below `seen` were met in an earlier search and found
 // right, and are not looked over again.
-// It is compiled by itself: within a run's loop its own loop is slower by a third.
-#[inline(never)]
+#[inline(always)]
 fn search(
     image: &[u32],
     marking: &[u8],
@@ -358,23 +357,29 @@ fn search(
 {
     let count = image[1] as usize;
     let mut kept = None;
-    for transition in 0..count {
-        let Some(arcs) = record_at(image, transition, transition < *seen) else {
+    let mut met = count;
+    'scan: for transition in 0..count {
+        let Some(span) = record_at(image, transition, transition < *seen) else {
             return Err(Cause::RecordWrong);
         };
-        if all_marked(arcs.inputs, marking) {
-            if ends_at(image, settle, transition) {
-                *seen = usize::max(*seen, transition + 1);
-                return Ok(Some(transition));
+        for i in span.inputs..span.outputs {
+            if marking[image[i] as usize] != 1 {
+                continue 'scan;
             }
-            kept = kept.or(Some(transition));
         }
+        if ends_at(image, settle, transition) {
+            kept = Some(transition);
+            met = transition + 1;
+            break 'scan;
+        }
+        kept = kept.or(Some(transition));
     }
-    *seen = count;
+    *seen = usize::max(*seen, met);
     Ok(kept)
 }
 
 // One turn of a run: fires what the rule finds and answers its number, or why the run ends.
+#[inline(always)]
 fn turn(image: &[u32], marking: &mut [u8], settle: bool, seen: &mut usize) -> Result<u32, Reason>
     requires { Header image.now
         × (length marking.old ≡ place_count_of image.now)

@@ -1,46 +1,65 @@
--- Each way out, and the turn of the loop, is a law of a pass.
-use Rattle.std.proofs.Common.{refl, sym, ◌∙◌, ltb-true, arith}
-use Rattle.net.proofs.Images.{both_ascend}
-use Rattle.net.proofs.Passes.{passed_start, passed-wrong, passed-off, passed_on, passed-stop, passed-end, seen_more}
+-- Each way out, and the turn of the scan, is a law of a pass.
+use Rattle.std.proofs.Common.{◌≡◌, ℕ, ◌<◌, true, refl, sym, ◌∙◌, arith}
+use Rattle.lists.proofs.Ascending.{slice-below}
+use Rattle.net.specs.Image.{record_right}
+use Rattle.net.proofs.Images.{arcs-at, inputs-within, both_ascend}
+use Rattle.net.proofs.Marks.{part-not, part-more, part_none}
+use Rattle.net.proofs.Passes.{passed_start, passed-wrong, passed-off, passed_on, passed-stop, passed-end, met_right, seen_more}
 use Rattle.net.proofs.search.Goals as goal
-use Rattle.net.proofs.search.Goals.{then-all_marked+else-ends_at, else-all_marked}
+use Rattle.net.proofs.search.Goals.{else-scan-test, then-scan-test+in-Some+else-loop-i-test+then-ends_at}
 
-pub loop-transition-init : goal.loop-transition-init
-loop-transition-init c = (passed_start _ _ _, c.requires.2)
-
-pub record_at-requires : goal.record_at-requires
-record_at-requires c = (c.requires.0, c.loop-transition-test.true, λ e. c.loop-transition.invariant.1 _ (ltb-true _ _ e))
+pub scan-init : goal.scan-init
+scan-init c = (passed_start _ _ _, refl)
 
 pub returns-in_default-clause-found : goal.returns-in_default-clause-found
-returns-in_default-clause-found c = (passed-wrong _ _ _ _ _ c.loop-transition.invariant.0 c.loop-transition-test.true c.in_default.ensures, refl)
+returns-in_default-clause-found c = (passed-wrong _ _ _ _ _ c.scan.invariant.0 c.scan-test.true c.in_default.ensures, refl)
 
-pub all_marked-requires : goal.all_marked-requires
-all_marked-requires c = (both_ascend _ _ _ _ _ c.in-Some.ensures c.requires.1).0
+pub loop-i-init : goal.loop-i-init
+loop-i-init c = refl
 
-pub returns-then-ends_at-clause-found : goal.returns-then-ends_at-clause-found
-returns-then-ends_at-clause-found c =
-    passed-stop _ _ _ _ _ c.loop-transition.invariant.0 c.loop-transition-test.true _ _ c.in-Some.ensures (sym c.all_marked.ensures ∙ c.if-all_marked.true)
-    (sym c.ends_at.ensures ∙ c.if-ends_at.true)
+pub bounds-image-i : goal.bounds-image-i
+bounds-image-i c = omega (arith, c.loop-i-test.true, inputs-within _ _ _ _ _ c.in-Some.ensures)
 
-pub returns-then-ends_at-clause-seen : goal.returns-then-ends_at-clause-seen
-returns-then-ends_at-clause-seen c =
-    seen_more _ _ _ _ c.loop-transition.invariant.0.right c.in-Some.ensures.right c.loop-transition.invariant.1 c.max.ensures
+pub bounds-marking-image : goal.bounds-marking-image
+bounds-marking-image c =
+    slice-below _ _ _ _ _ (inputs-within _ _ _ _ _ c.in-Some.ensures)
+    (both_ascend _ _ _ _ _ (arcs-at _ _ _ _ _ c.in-Some.ensures) c.requires.1).0 c.loop-i.i c.loop-i.auto.i c.loop-i-test.true
 
-pub loop-transition-preserved : goal.loop-transition-preserved
-loop-transition-preserved c =
-    let P = c.loop-transition.invariant.0 in
-    let h = c.loop-transition-test.true in (
-      elim c.if-all_marked.branch [
-        | then-all_marked+else-ends_at w ↦
-            passed_on _ _ _ _ _ P h _ _ c.in-Some.ensures (sym c.all_marked.ensures ∙ w.if-all_marked.true) (sym w.ends_at.ensures ∙ w.if-ends_at.false) _
-            (w.kept-is ∙ w.or-kept.ensures)
-        | else-all_marked w ↦ rw w.kept-is (passed-off _ _ _ _ _ P h _ _ c.in-Some.ensures (sym c.all_marked.ensures ∙ w.if-all_marked.false))
-      ],
-      c.loop-transition.invariant.1,
-    )
+pub scan-preserved-then-marking-image-ne1 : goal.scan-preserved-then-marking-image-ne1
+scan-preserved-then-marking-image-ne1 c = (
+  passed-off _ _ _ _ _ c.scan.invariant.0 c.scan-test.true _ _ (arcs-at _ _ _ _ _ c.in-Some.ensures)
+      (c.loop-i.invariant ∙ part-not _ _ _ c.loop-i-test.true (inputs-within _ _ _ _ _ c.in-Some.ensures) _ c.if-marking-image-ne1.true),
+  c.scan.invariant.1,
+)
+
+pub loop-i-preserved : goal.loop-i-preserved
+loop-i-preserved c =
+    c.loop-i.invariant ∙ part-more _ _ _ c.loop-i-test.true (inputs-within _ _ _ _ _ c.in-Some.ensures) _ c.if-marking-image-ne1.false
+
+pub scan-preserved : goal.scan-preserved
+scan-preserved c = (
+  passed_on _ _ _ _ _ c.scan.invariant.0 c.scan-test.true _ _ (arcs-at _ _ _ _ _ c.in-Some.ensures)
+      (c.loop-i.invariant ∙ part_none _ _ _ c.loop-i-test.false _) (sym c.ends_at.ensures ∙ c.if-ends_at.false) _ c.or-kept.ensures,
+  c.scan.invariant.1,
+)
 
 pub returns-clause-found : goal.returns-clause-found
-returns-clause-found c = passed-end _ _ _ _ _ c.loop-transition.invariant.0 c.loop-transition-test.false
+returns-clause-found c =
+    elim c.scan-test.branch [
+      | else-scan-test w ↦ rw w.kept-is (passed-end _ _ _ _ _ c.scan.invariant.0 w.scan-test.false)
+      | then-scan-test+in-Some+else-loop-i-test+then-ends_at w ↦
+          rw w.kept-is
+          (passed-stop _ _ _ _ _ c.scan.invariant.0 w.scan-test.true _ _ (arcs-at _ _ _ _ _ w.in-Some.ensures)
+          (w.loop-i.invariant ∙ part_none _ _ _ w.loop-i-test.false _) (sym w.ends_at.ensures ∙ w.if-ends_at.true))
+    ]
 
 pub returns-clause-seen : goal.returns-clause-seen
-returns-clause-seen c = λ k h. c.loop-transition.invariant.0.right k (omega (arith, h, c.loop-transition-test.false))
+returns-clause-seen c = seen_more _ _ _ _ c.requires.2 met c.max.ensures
+  where
+    met : (k : ℕ) → k < c.scan-test.met → record_right c.args.image.now k ≡ true
+    met k h =
+        elim c.scan-test.branch [
+          | else-scan-test w ↦ c.scan.invariant.0.right k (omega (arith, h, w.met-is, c.scan.invariant.1, w.scan-test.false))
+          | then-scan-test+in-Some+else-loop-i-test+then-ends_at w ↦
+              met_right _ _ _ _ _ c.scan.invariant.0 w.scan-test.true _ _ (arcs-at _ _ _ _ _ w.in-Some.ensures) k (omega (arith, h, w.met-is))
+        ]

@@ -1,9 +1,12 @@
--- Loop: what the pass over the transitions has come to, and the records below `seen` are right.
-use Rattle.std.proofs.Common.{◌≡◌, ℕ, ◌<◌, true}
-use Rattle.net.specs.Image.{record_right}
+-- Scan: what the pass over the transitions has come to. Inner loop: what is left of the inputs tells what all of them do.
+use Rattle.std.proofs.Common.{◌≡◌}
+use lib.Seq.{slice}
+use Rattle.net.specs.Firing.{is_enabled}
 use Rattle.net.proofs.Passes.{Passed}
 use Rattle.net.proofs.search.Given as goal
 
-abbrev pub invariant-loop-transition : goal.invariant-loop-transition
-invariant-loop-transition l =
-    Passed l.image l.marking l.settle l.kept l.transition × ((k : ℕ) → k < l.seen → record_right l.image k ≡ true)
+abbrev pub invariant-scan : goal.invariant-scan
+invariant-scan l = Passed l.image l.marking l.settle l.kept l.transition × (l.met ≡ l.count)
+
+abbrev pub invariant-loop-i : goal.invariant-loop-i
+invariant-loop-i l = is_enabled l.marking (slice l.initial.i l.i-end l.image) ≡ is_enabled l.marking (slice l.i l.i-end l.image)
