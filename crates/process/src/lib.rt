@@ -27,7 +27,7 @@ use lists::{store, word};
 use scheme::fields::{field1, field4};
 use scheme::index::SIZE;
 use table::Cause;
-use table::known::Known;
+use table::known::{Index, Known};
 
 // What a call refuses: the table, the state words, a step that is not open, a lent output that is too short.
 #[derive(Clone, Copy, Debug, PartialEq, Eq)]
@@ -102,8 +102,10 @@ pub fn open_steps(table: &[u16], state: &[u16], labels: &mut [u32]) -> Result<us
     ensures { outcome_of result labels.new
         ≡ open_outcome table.now state.now labels.old }
 {
-    let mut index = [0u32; SIZE];
-    let known = Known::of(table, &mut index)?;
+    let mut index = Index {
+        words: [0u32; SIZE],
+    };
+    let known = Known::of(&mut index, table)?;
     if !well_formed(&known, state) {
         return Err(Refusal::Malformed);
     }
@@ -126,8 +128,10 @@ pub fn step(
     ensures { outcome_of result next.new
         ≡ step_outcome table.now state.now kind a b next.old }
 {
-    let mut index = [0u32; SIZE];
-    let known = Known::of(table, &mut index)?;
+    let mut index = Index {
+        words: [0u32; SIZE],
+    };
+    let known = Known::of(&mut index, table)?;
     if !well_formed(&known, state) {
         return Err(Refusal::Malformed);
     }

@@ -8,22 +8,22 @@ use Rattle.process.proofs.step.Goals as goal
 
 pub returns-in_err-known : goal.returns-in_err-known
 unfolding step_outcome
-returns-in_err-known c = refused _ _ _ _ c.in_err-known.ensures _ c.from_residual.ensures.1
+returns-in_err-known c = refused _ _ _ _ c.in_err-known.ensures.told _ c.from_residual.ensures.1
 
 pub returns-then-not-well_formed : goal.returns-then-not-well_formed
 returns-then-not-well_formed c =
-    let k = c.in_ok-known.ensures in
+    let k = c.in_ok-known.ensures.told in
     step-malformed _ _ _ _ _ _ k.0 (rw k.1 at (sym c.well_formed-2.ensures ∙ c.if-not-well_formed.true))
 
 pub returns-in_default : goal.returns-in_default
 returns-in_default c =
-    let k = c.in_ok-known.ensures in
+    let k = c.in_ok-known.ensures.told in
     step-shut _ _ _ _ _ _ k.0 (rw k.1 at (sym c.well_formed-2.ensures ∙ c.if-not-well_formed.false))
     (rw k.1 at (sym (ap opened c.in_default.is) ∙ c.open_step.ensures))
 
 pub returns-then-next-size : goal.returns-then-next-size
 returns-then-next-size c =
-    let k = c.in_ok-known.ensures in
+    let k = c.in_ok-known.ensures.told in
     step-short _ _ _ _ _ _ k.0 (rw k.1 at (sym c.well_formed-2.ensures ∙ c.if-not-well_formed.false))
     c.in-Some.taken (rw k.1 at (sym (ap opened c.in-Some.is) ∙ c.open_step.ensures))
     (omega (arith, c.word.ensures.is, c.word-2.ensures.is, c.if-next-size.true))
@@ -36,7 +36,7 @@ write_state-requires c =
 
 pub returns : goal.returns
 returns c =
-    let k = c.in_ok-known.ensures in
+    let k = c.in_ok-known.ensures.told in
     step-written _ _ _ _ _ _ k.0 (rw k.1 at (sym c.well_formed-2.ensures ∙ c.if-not-well_formed.false))
     c.in-Some.taken (rw k.1 at (sym (ap opened c.in-Some.is) ∙ c.open_step.ensures))
     _ _ (omega (arith, c.word.ensures.is, c.word-2.ensures.is, c.if-next-size.false))
