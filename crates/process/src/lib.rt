@@ -105,7 +105,7 @@ pub fn open_steps(table: &[u16], state: &[u16], labels: &mut [u32]) -> Result<us
     let mut index = Index {
         words: [0u32; SIZE],
     };
-    let known = Known::of(&mut index, table)?;
+    let known = Known::with_index(&mut index, table)?;
     if !well_formed(&known, state) {
         return Err(Refusal::Malformed);
     }
@@ -131,7 +131,7 @@ pub fn step(
     let mut index = Index {
         words: [0u32; SIZE],
     };
-    let known = Known::of(&mut index, table)?;
+    let known = Known::with_index(&mut index, table)?;
     if !well_formed(&known, state) {
         return Err(Refusal::Malformed);
     }

@@ -42,7 +42,18 @@ impl<'a> Known<'a> {
     ghost use Rattle.table.specs.contracts.known.Index.{the_row};
 
     // The table with its index, which fills the words lent; else the first cause that applies to the table.
-    pub fn of(index: &'a mut Index, table: &'a [u16]) -> Result<Known<'a>, Cause>
+    pub fn of(table: &'a [u16], index: &'a mut [u32; SIZE]) -> Result<Known<'a>, Cause>
+        ensures { MatchResult result
+            (λ known. (cause table.now ≡ 0) × (known.table.now ≡ table.now) × Filled table.now index.old true known.index.now)
+            (λ refused. cause_number refused ≡ cause table.now) }
+    {
+        crate::check(table)?;
+        fill(table, index);
+        Ok(Known { table, index })
+    }
+
+    // The same with the words in an `Index`, of which it tells how they end, on refusal too.
+    pub fn with_index(index: &'a mut Index, table: &'a [u16]) -> Result<Known<'a>, Cause>
         ensures told { MatchResult result
             (λ known. (cause table.now ≡ 0) × (known.table.now ≡ table.now)
             × Filled table.now index.old.words true known.index.now)
