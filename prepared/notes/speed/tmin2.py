@@ -1,10 +1,10 @@
 import sys,subprocess,resource,os,random
 reps={0:6000,1:1200,2:400,3:100,4:100}
 names=sys.argv[1:]; ts=[int(c) for c in os.environ.get('T','01234')]; R=int(os.environ.get('R','100'))
-tabs={t:open(f'/tmp/sp/t{t}','rb').read() for t in ts}
+tabs={t:open(f'$SCRATCH/sp/t{t}','rb').read() for t in ts}
 def run(n,t,k):
     b=resource.getrusage(resource.RUSAGE_CHILDREN).ru_utime
-    subprocess.run([f'/tmp/sp/speed-{n}'],input=k.to_bytes(3,'little')+bytes([int(os.environ.get('M','0'))])+tabs[t],stdout=subprocess.DEVNULL)
+    subprocess.run([f'$SCRATCH/sp/speed-{n}'],input=k.to_bytes(3,'little')+bytes([int(os.environ.get('M','0'))])+tabs[t],stdout=subprocess.DEVNULL)
     return resource.getrusage(resource.RUSAGE_CHILDREN).ru_utime-b
 vals={}
 for r in range(R):

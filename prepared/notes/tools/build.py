@@ -1,5 +1,5 @@
 import glob, re, os
-G='/tmp/lang-gen1/Rattle·language·proofs/proofs/'
+G='$SCRATCH/lang-gen1/Rattle·language·proofs/proofs/'
 C='$WORK/clones/language/crates/language/proofs/'
 def parse(file):
     L=open(file).read().split('\n')

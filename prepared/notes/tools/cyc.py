@@ -1,4 +1,4 @@
-import sys; sys.path.insert(0,'/tmp/lang-tools')
+import sys; sys.path.insert(0,'$SCRATCH/lang-tools')
 from build import *
 CY='walk/+feed_branches+feed_choice+feed_process'
 M=['feed_branches','feed_choice','feed_process']

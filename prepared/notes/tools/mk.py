@@ -1,6 +1,6 @@
 """mk(crate, path, comment, uses, bodies, inv): writes a proof file from bodies with @field references, short paths through lets."""
 import re, os, sys
-sys.path.insert(0,'/tmp/lang-tools')
+sys.path.insert(0,'$SCRATCH/lang-tools')
 def parse(file):
     L=open(file).read().split('\n')
     rec,cur,needs={},None,{}
@@ -42,7 +42,7 @@ def expand(body,chain):
     return '\n'+lets+'\n'.join('    '+l.strip() if not l.startswith('      ') else l for l in b.strip('\n').split('\n'))
 def mk(crate,path,comment,uses,bodies,inv=None,unf={}):
     fn=path.split('/')[-1]
-    order,chains=parse('/tmp/lang-gen-%s/Rattle·%s·proofs/proofs/%s/Lts.antt'%(crate,crate,path))
+    order,chains=parse('$SCRATCH/lang-gen-%s/Rattle·%s·proofs/proofs/%s/Lts.antt'%(crate,crate,path))
     mod='Rattle·%s·proofs.proofs.'%crate+path.replace('/','.')
     out=comment.rstrip()+'\n'+uses.strip()+f'\nuse borrow.Author.Needs.{{needs}}\nuse {mod}.Statement.{{statement}}\nuse {mod}.Tie as tie\n\n'
     arg=''

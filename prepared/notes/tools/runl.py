@@ -3,7 +3,7 @@ D='$WORK/main/prepared/notes/speed/'
 def words(f): b=open(D+f,'rb').read(); return list(struct.unpack('<%dH'%(len(b)//2),b))
 def inp(t,names,mode=0,times=1,size=65535,text=b''):
     return times.to_bytes(2,'little')+b'\0'+bytes([mode])+len(t).to_bytes(2,'little')+len(names).to_bytes(2,'little')+size.to_bytes(2,'little')+struct.pack('<%dH'%len(t),*t)+names+text
-def run(*a,**k): return subprocess.run(['/tmp/lspo/speed'],input=inp(*a,**k),capture_output=True).stdout
+def run(*a,**k): return subprocess.run(['$SCRATCH/lspo/speed'],input=inp(*a,**k),capture_output=True).stdout
 def names(t,long=False):
     n=[]
     for i in range(t[3]): n.append('T%d'%i)
@@ -15,8 +15,8 @@ def names(t,long=False):
 def instr(t,nm,mode,text=b''):
     r=[]
     for k in (1,11):
-        f='/tmp/lspo/cg%d'%k
-        subprocess.run(['valgrind','--tool=callgrind','--callgrind-out-file='+f,'/tmp/lspo/speed'],input=inp(t,nm,mode,k,text=text),stdout=subprocess.DEVNULL,stderr=subprocess.DEVNULL)
+        f='$SCRATCH/lspo/cg%d'%k
+        subprocess.run(['valgrind','--tool=callgrind','--callgrind-out-file='+f,'$SCRATCH/lspo/speed'],input=inp(t,nm,mode,k,text=text),stdout=subprocess.DEVNULL,stderr=subprocess.DEVNULL)
         o=subprocess.run(['callgrind_annotate','--threshold=100',f],capture_output=True,text=True).stdout
         d=collections.Counter()
         for l in o.splitlines():

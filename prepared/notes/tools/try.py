@@ -9,7 +9,7 @@ try:
     r=subprocess.run(['$WORK/bin/rtq','dev',crate],cwd='$WORK/clones/language',capture_output=True,text=True)
 finally: open(b+f,'w').write(s)
 L=(r.stdout+r.stderr).split('\n')
-open('/tmp/try-%s'%name,'w').write('\n'.join(L))
+open('$SCRATCH/try-%s'%name,'w').write('\n'.join(L))
 e=[l for l in L if ': error:' in l]
 print('==',name,'errors',len(e))
 for l in e[:3]: print('  ',l[:700])
