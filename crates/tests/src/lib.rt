@@ -1,4 +1,4 @@
-// Tests of public functions that another crate can call and none here does.
+// Tests of public functions that no other crate here calls.
 #![tactic(auto)]
 
 #[cfg(test)]
